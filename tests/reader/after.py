@@ -5,12 +5,11 @@ from reader.addresses import Address, FilePath, has
 from reader.crew import Addresses, Listeners, posts_of
 from reader.crews import Crew, Posts
 from reader.numbers import first_from
-from reader.path import Report
 from reader.record import Record
 from reader.settings import Settings
 from reader.table import Table, live_master
 from reader.target import Attended, Reload, Stop, Target, Upgrade, Workers, generation_wanted
-from reader.vocabulary import AnyOutcome, Degraded, Generation, Listener, Outcome, Side
+from reader.vocabulary import AnyOutcome, Degraded, Generation, Listener, Outcome, Report, Side
 
 # Listeners that open and close
 
@@ -122,17 +121,6 @@ def next_config(g: Generation) -> Generation | None:
 def next_image(g: Generation) -> Generation | None:
     """The generation of an upgrade."""
     return numbered(next_number(g.image), next_number(g.config))
-
-
-def lacks_generation(r: Record, target: Target) -> bool:
-    """A reload or an upgrade that has no generation, since a number would pass its limit."""
-    match target:
-        case Reload():
-            return next_config(r.generation) is None
-        case Upgrade() | Attended():
-            return next_image(r.generation) is None
-        case _:
-            return False
 
 
 def renewed(s: Settings, posts: Posts, ls: Listeners | None, g: Generation | None) -> Setup | None:

@@ -4,12 +4,11 @@ from collections.abc import Callable, Iterator
 from typing import NamedTuple
 
 from reader.claims import common, is_ready_with, leasts_of
-from reader.path import Entry
 from reader.run import Progress, faults_since
 from reader.service import service
 from reader.table import File, Master, Process, Table, Worker, is_ready, with_rows
 from reader.target import Mend, Reopen, Stop, Workers, want
-from reader.vocabulary import Answer, Degraded, Generation, Kill, Outcome, PidNote
+from reader.vocabulary import Answer, Degraded, Entry, Generation, Kill, Outcome, PidNote
 from reader.words import Run
 
 

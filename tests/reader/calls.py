@@ -4,9 +4,8 @@ from typing import NamedTuple
 
 from reader.addresses import Address, FilePath
 from reader.exits import change
-from reader.handover import Handover
+from reader.groups import Groups
 from reader.numbers import Numbers, is_in
-from reader.reading import reading
 from reader.table import (
     Caller, File, Foreign, Hold, Holds, Master, Process, Rows, Table, Worker, has_worker, is_active, is_any, is_at,
     is_draining, is_exited, is_held, is_own, is_ready, is_starting, is_worker, live_master, owner_at, with_rows,
@@ -247,18 +246,35 @@ def terminated(image: int, t: Table) -> Stepped:
 # Adopt
 
 
+class Handover(NamedTuple):
+    """What an old master tells a new one: its process number, the generation that is to run, its listeners in ascending
+    descriptors, the addresses that are wanted, the groups of workers, each of which takes its number of these
+    addresses, the next ones, and the pid file."""
+
+    old_pid: int
+    generation: Generation
+    listeners: tuple[Listener, ...]
+    want: tuple[Address, ...]
+    groups: Groups
+    pid_file: FilePath | None
+
+
+# What a new master is handed: a handover, or nothing that is one.
+Handed = Handover | None
+
+
 def are_listeners(ls: tuple[Listener, ...], hs: Holds) -> bool:
     """The descriptors and addresses of these holds, and no other."""
     return len(ls) == len(hs) and all(l.descriptor == h.fd and l.address == h.address for l, h in zip(ls, hs))
 
 
-def suits(h: Handover | None, image: int, holds: Holds) -> bool:
-    return h is not None and h.generation.image == image and are_listeners(h.listeners, holds)
+def suits(handed: Handed, image: int, holds: Holds) -> bool:
+    return handed is not None and handed.generation.image == image and are_listeners(handed.listeners, holds)
 
 
-def adopted(text: str, image: int, c: Caller, t: Table) -> Stepped:
-    """The text reads as a handover to the caller's image, with exactly the caller's descriptors and addresses."""
-    return Stepped(Answer.Adopted if suits(reading(text), image, c.holds) else Answer.Refused, t)
+def adopted(handed: Handed, image: int, c: Caller, t: Table) -> Stepped:
+    """What is handed is a handover to the caller's image, with exactly the caller's descriptors and addresses."""
+    return Stepped(Answer.Adopted if suits(handed, image, c.holds) else Answer.Refused, t)
 
 
 # Files
@@ -317,8 +333,8 @@ def departed(c: Caller, t: Table) -> Stepped:
 # The order in a call
 
 
-def own_step(text: str, image: int, c: Caller, call: Call, t: Table) -> Stepped:
-    """The call's own answer, to a caller that lives, of that image, which is handed that text."""
+def own_step(handed: Handed, image: int, c: Caller, call: Call, t: Table) -> Stepped:
+    """The call's own answer, to a caller that lives, of that image, which is handed that."""
     match call:
         case OpenAt(a):
             return opened(c, a, t)
@@ -341,16 +357,16 @@ def own_step(text: str, image: int, c: Caller, call: Call, t: Table) -> Stepped:
         case Ask():
             return Stepped(Answer.Go, t)
         case _:
-            return own_step_of_masters(text, image, c, call, t)
+            return own_step_of_masters(handed, image, c, call, t)
 
 
-def own_step_of_masters(text: str, image: int, c: Caller, call: Call, t: Table) -> Stepped:
+def own_step_of_masters(handed: Handed, image: int, c: Caller, call: Call, t: Table) -> Stepped:
     """The same of the calls about masters and files."""
     match call:
         case SpawnMaster(i):
             return spawned(c, i, t)
         case Adopt():
-            return adopted(text, image, c, t)
+            return adopted(handed, image, c, t)
         case WritePid(path):
             return written(c, path, t)
         case MovePid(source, to):
@@ -395,11 +411,11 @@ def fault_of(c: Caller, call: Call, f: Fate, t: Table) -> Answer | None:
             return None
 
 
-def step_with(text: str, image: int, call: Call, f: Fate | None, t: Table) -> Stepped:
-    """A call by the master of an image, which is handed a text: master-gone where it is not live, without effect; then
+def step_with(handed: Handed, image: int, call: Call, f: Fate | None, t: Table) -> Stepped:
+    """A call by the master of an image, which is handed that: master-gone where it is not live, without effect; then
     the fate, without effect; then the call's own answer."""
     c = live_master(image, t.rows)
     if c is None:
         return Stepped(Answer.MasterGone, t)
     fault = None if f is None else fault_of(c, call, f, t)
-    return own_step(text, image, c, call, t) if fault is None else Stepped(fault, t)
+    return own_step(handed, image, c, call, t) if fault is None else Stepped(fault, t)

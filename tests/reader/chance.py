@@ -6,11 +6,11 @@ from reader import names as name
 from reader.groups import Group
 from reader.names import Name
 from reader.numbers import numbers_below
-from reader.parts import Turns
-from reader.record import Record, started
+from reader.plans import Turns
+from reader.record import Record
 from reader.run import Moment
 from reader.settings import Settings
-from reader.start import booted
+from reader.start import booted, started
 from reader.table import Foreign, Hold, Table
 from reader.texts import Moments
 from reader.vocabulary import Fate, Generation, Limits, Turn

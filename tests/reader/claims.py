@@ -8,23 +8,22 @@ from reader import names as name
 from reader.addresses import Address, FilePath, has
 from reader.after import next_config, next_image, next_record
 from reader.crew import Layout, short_at
-from reader.formed import IsFormed
 from reader.manner import Manner, is_leave_call
 from reader.names import Name
 from reader.numbers import IsRising, Numbers, RisesFrom, is_in
-from reader.parts import Turns
-from reader.path import Entries, Report
-from reader.plans import plan_length, plan_tree
+from reader.plans import Turns, plan_length, plan_tree
 from reader.record import Agrees, IsRecord, Record, layout_of, oldbin
 from reader.run import Pattern, Progress, Ran, faults_since, report_of, run_with, start_at
 from reader.service import Counts, IsSame, Service, is_live_with, service
 from reader.settings import IsInRange
-from reader.table import Holds, Process, Table, Worker, has_address, is_own, is_ready, owner_at
+from reader.table import Holds, IsFormed, Process, Table, Worker, has_address, is_own, is_ready, owner_at
 from reader.target import (
-    Attended, Mend, Reload, Stop, Target, Upgrade, Workers, addresses_wanted, layout_wanted, numbers_wanted, sides_of,
-    text_handed, upgrade_generation, want, wanted_at,
+    Attended, Mend, Reload, Stop, Target, Upgrade, Workers, addresses_wanted, handover_for, layout_wanted,
+    numbers_wanted, sides_of, upgrade_generation, want, wanted_at,
 )
-from reader.vocabulary import Answer, AnyAnswer, AnyOutcome, Call, Degraded, Outcome, PidNote, RemovePid, Side
+from reader.vocabulary import (
+    Answer, AnyAnswer, AnyOutcome, Call, Degraded, Entries, Outcome, PidNote, RemovePid, Report, Side,
+)
 
 # Where a run starts
 
@@ -69,7 +68,7 @@ def heirs_of(r: Record, target: Target) -> Numbers:
 
 def run_of(r: Record, target: Target, turns: Turns, pattern: Pattern, t: Table) -> Ran:
     """The run of a target's plan under the turns."""
-    return run_with(text_handed(r, target), plan_tree(r, target, turns), pattern, start_at(t, r.note))
+    return run_with(handover_for(r, target), plan_tree(r, target, turns), pattern, start_at(t, r.note))
 
 
 def refusal_of(r: Record, target: Target, pattern: Pattern, ran: Ran) -> int | None:
@@ -169,10 +168,10 @@ def StopNote(note: PidNote, path: FilePath | None, ran: Ran) -> bool:
 def IsSucceeded(r: Record, target: Target, report: Report, ran: Ran) -> bool:
     """What a run leaves: after a stop there is no record, and no master and no worker."""
     last = ran.last.table
-    if not isinstance(target, Stop):
-        return AgreesAfter(r, target, report, last)
-    is_gone = next_record(r, target, report, last) is None and not any(map(is_own, last.rows))
-    return is_gone and StopNote(ran.last.note, r.pid_path, ran)
+    if isinstance(target, Stop):
+        is_gone = next_record(r, target, report, last) is None and not any(map(is_own, last.rows))
+        return is_gone and StopNote(ran.last.note, r.pid_path, ran)
+    return AgreesAfter(r, target, report, last)
 
 
 # What is kept throughout

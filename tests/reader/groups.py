@@ -40,13 +40,3 @@ def AreGroups(gs: Groups) -> bool:
         and addresses_in(gs) <= 64
         and workers_in(gs) <= 1024
     )
-
-
-def group_refused(gs: Groups, g: Group) -> bool:
-    """Whether a group would break a rule after the others. (Which one is no matter here.)"""
-    return (
-        len(gs) == 16
-        or g.addresses == 0
-        or 64 < addresses_in(gs) + g.addresses
-        or 1024 < workers_in(gs) + g.workers
-    )

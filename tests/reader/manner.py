@@ -3,13 +3,13 @@
 from collections.abc import Callable
 
 from reader.numbers import is_in
-from reader.path import Entries, Entry
 from reader.record import Record
 from reader.run import Progress, Ran
 from reader.table import Process, Table, Worker, bears, is_active, is_ready, number_of
 from reader.target import Attended, Mend, Reload, Reopen, Stop, Target, Upgrade, Workers
 from reader.vocabulary import (
-    Answer, AnyAnswer, AnyOutcome, AwaitGone, Call, Degraded, Generation, Kill, Leave, Outcome, Quit, Side, Usr1,
+    Answer, AnyAnswer, AnyOutcome, AwaitGone, Call, Degraded, Entries, Entry, Generation, Kill, Leave, Outcome, Quit,
+    Side, Usr1,
 )
 
 # Processes

@@ -1,38 +1,12 @@
-"""What a report says of the calls that were made (Path.antt), and the paths of a plan's tree (plan_walk/specs/Path.antt;
-`follow` is in rollback_plan/specs/Following.antt)."""
+"""The paths of a plan's tree, and the report of one (plan_walk/specs/Path.antt; `follow` is in
+rollback_plan/specs/Following.antt)."""
 from typing import NamedTuple
 
-from reader.crews import shortfalls_of
-from reader.numbers import Numbers, lacks
+from reader.numbers import Numbers
+from reader.run import first_cause, lacked_after, lacked_by, lacking_after, outcome_at, ready_after, went_wrong
 from reader.target import Sides
-from reader.tree import Branch, Does, Ends, Tree, branch, call_of, plain_reply, reply_of, same_reply, shown
-from reader.vocabulary import Answer, AnyAnswer, AnyOutcome, Call, Counted, Degraded, End, Outcome, PidNote, Reply, Side
-
-
-class Entry(NamedTuple):
-    by: int
-    call: Call
-    answer: AnyAnswer
-
-
-Entries = tuple[Entry, ...]
-
-
-class Report(NamedTuple):
-    outcome: AnyOutcome
-    cause: int | None
-    note: PidNote
-    ready: Numbers
-
-
-class Lack(NamedTuple):
-    """What the last count of a master lacked."""
-
-    by: int
-    numbers: Numbers
-
-
-Lacks = tuple[Lack, ...]
+from reader.tree import Branch, Does, Ends, Tree, branch, call_of, reply_of, shown
+from reader.vocabulary import Answer, AnyAnswer, AnyOutcome, Entries, Entry, Lacks, Outcome, PidNote, Report
 
 
 class Trail(NamedTuple):
@@ -51,39 +25,6 @@ class Trail(NamedTuple):
 
 def begin(tree: Tree, note: PidNote) -> Trail:
     return Trail(tree, (), (), (), note, None, 0)
-
-
-def ready_after(a: AnyAnswer, ready: Numbers) -> Numbers:
-    return a.numbers if isinstance(a, Counted) else ready
-
-
-def lacking_after(numbers: Numbers, a: AnyAnswer, lacking: Numbers) -> Numbers:
-    return lacks(numbers, a.numbers) if isinstance(a, Counted) else lacking
-
-
-def lacked_by(by: int, lacked: Lacks) -> Numbers:
-    """What the last count of a master lacked."""
-    return next((lack.numbers for lack in lacked if lack.by == by), ())
-
-
-def beside(by: int, lacked: Lacks) -> Lacks:
-    """The newest of another master."""
-    return tuple(lack for lack in lacked if lack.by != by)[:1]
-
-
-def lacked_after(by: int, numbers: Numbers, a: AnyAnswer, lacked: Lacks) -> Lacks:
-    """What the last counts lack, after an answer to a master. A plan has two masters at most: their last counts are
-    kept, the newest first."""
-    return (Lack(by, lacks(numbers, a.numbers)), *beside(by, lacked)) if isinstance(a, Counted) else lacked
-
-
-def went_wrong(call: Call, r: Reply) -> bool:
-    """A call that is not answered plainly, or a census that lacks a number of its set."""
-    return not same_reply(r, plain_reply(call))
-
-
-def first_cause(cause: int | None, wrong: bool, n: int) -> int | None:
-    return cause if cause is not None else n if wrong else None
 
 
 # One entry
@@ -129,20 +70,6 @@ def Asks(rest: Tree | None, lacked: Lacks, e: Entry) -> bool:
 
 
 # Reports
-
-
-def outcome_at(sides: Sides, end: End, lacking: Numbers) -> AnyOutcome:
-    """What an end says, by the groups of its side and what the last census lacked."""
-    match end:
-        case End.RolledBack:
-            return Outcome.RolledBack
-        case End.ShortOld:
-            return Degraded(Side.Old, shortfalls_of(sides.old, lacking))
-        case End.ShortTarget:
-            return Degraded(Side.Target, shortfalls_of(sides.target, lacking))
-        case _:
-            # (no run ends at a mark)
-            return Outcome.Done
 
 
 def IsOutcome(sides: Sides, rest: Tree | None, lacking: Numbers, o: AnyOutcome) -> bool:

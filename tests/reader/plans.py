@@ -7,17 +7,18 @@ from reader.after import crew_wanted
 from reader.crew import Addresses, fork_of
 from reader.crews import Crew
 from reader.numbers import Numbers, is_in, numbers_below
-from reader.parts import Turns, joined, weave
 from reader.record import Record, addresses_of, crew_of, oldbin
 from reader.target import Attended, Mend, Reload, Reopen, Stop, Target, Upgrade, Workers, only_in
 from reader.tree import (
     AwaitLacking, Branch, Branches, Does, Ends, ForkLacking, KillLacking, Later, Make, Tree, height, plain_reply,
-    replies_to,
+    replies_to, shown,
 )
 from reader.vocabulary import (
     Adopt, Alive, Ask, AwaitGone, AwaitReady, Call, Census, CloseAt, End, Generation, Kill, Leave, MovePid, OpenAt,
-    PidNote, Quit, RemovePid, Reply, Side, SpawnMaster, TermMaster, Usr1, WritePid,
+    PidNote, Quit, RemovePid, Reply, Side, SpawnMaster, TermMaster, Turn, Usr1, WritePid,
 )
+
+Turns = tuple[Turn, ...]
 
 # Edges
 
@@ -294,6 +295,60 @@ def stop_tree(by: int, g: Generation, ready: Numbers, path: FilePath | None, not
     if quick:
         return kills(by, g, ready, removed)
     return quits(by, g, ready[::-1], awaits_gone(by, g, ready[::-1], removed))
+
+
+# Two parts of a plan that two masters carry out side by side: under a list of turns they are an ordinary tree
+
+
+def graft(then: Callable[[End], Tree], tree: Tree) -> Tree:
+    """The ends of a part are marks: each gives way to what follows it."""
+    at = shown(tree)
+    if isinstance(at, Ends):
+        return then(at.end)
+    return Does(at.by, at.order, at.set, graft_all(then, at.branches))
+
+
+def graft_all(then: Callable[[End], Tree], branches: Branches) -> Branches:
+    return tuple(Branch(b.replies, b.said, Later(lambda b=b: graft(then, b.rest))) for b in branches)
+
+
+def beside(goes: Callable[[Turns, Tree], Tree], turns: Turns, old: Tree) -> Tree:
+    """The old part beside a step of the new one, of which `goes` says what follows where it is the new part's turn.
+    Where the old part has ended no turn is used."""
+    at = shown(old)
+    if isinstance(at, Ends) or not turns:
+        return goes(turns, at)
+    if turns[0] is Turn.New:
+        return goes(turns[1:], at)
+    return Does(at.by, at.order, at.set, beside_all(goes, turns[1:], at.branches))
+
+
+def beside_all(goes: Callable[[Turns, Tree], Tree], turns: Turns, branches: Branches) -> Branches:
+    return tuple(Branch(b.replies, b.said, Later(lambda b=b: beside(goes, turns, b.rest))) for b in branches)
+
+
+def weave(join: Callable[[End], Tree], new: Tree, turns: Turns, old: Tree) -> Tree:
+    """Both parts, the new one first, under the turns, New after their end. Where the new part has ended the old one
+    goes on alone; where both have, the new part's end says what follows."""
+    at = shown(new)
+    if isinstance(at, Ends):
+        end = at.end
+        return graft(lambda _: join(end), old)
+    step = at
+
+    def goes(later: Turns, still: Tree) -> Tree:
+        return Does(step.by, step.order, step.set, weave_all(join, step.branches, later, still))
+
+    return beside(goes, turns, old)
+
+
+def weave_all(join: Callable[[End], Tree], branches: Branches, turns: Turns, old: Tree) -> Branches:
+    return tuple(Branch(b.replies, b.said, Later(lambda b=b: weave(join, b.rest, turns, old))) for b in branches)
+
+
+def joined(ready: Tree, back: Tree, end: End) -> Tree:
+    """The new part ends ready, or leads back."""
+    return ready if end is End.JoinReady else back
 
 
 # Upgrade

@@ -3,10 +3,10 @@ from typing import NamedTuple
 
 from reader.addresses import FilePath
 from reader.crew import Addresses, Layout, Listeners, layout_at, share
-from reader.crews import Crew, Posts, first_posts
+from reader.crews import Crew, Posts
 from reader.groups import AreGroups
 from reader.numbers import Numbers, is_in
-from reader.settings import HasSuffixRoom, Settings
+from reader.settings import HasSuffixRoom
 from reader.table import (
     File, Hold, Holds, Process, Table, Worker, has_worker, is_master, is_ready, live_master, owner_at,
 )
@@ -51,35 +51,6 @@ def crew_of(r: Record) -> Crew:
 
 def layout_of(r: Record) -> Layout:
     return layout_at(r.posts, r.listeners)
-
-
-def listeners_from(fd: int, addresses: Addresses) -> Listeners:
-    """Addresses in order, from a descriptor on."""
-    return tuple(Listener(fd + place, a) for place, a in enumerate(addresses))
-
-
-def first_note(path: FilePath | None) -> PidNote:
-    return PidNote.NoFile if path is None else PidNote.InPlace
-
-
-first_generation = Generation(1, 1)
-
-
-def started(s: Settings, wanted: int, ready: Numbers, pid: int) -> Record:
-    """The record of a master that starts with these settings: generation 1.1, descriptors from 3 on, of which each
-    group takes its number, the next ones."""
-    return Record(
-        listeners=listeners_from(3, s.listeners),
-        posts=first_posts(s.groups),
-        generation=first_generation,
-        ready=ready,
-        wanted=wanted,
-        retries=s.retries,
-        timeout=s.timeout,
-        pid_path=s.pid,
-        note=first_note(s.pid),
-        pid=pid,
-    )
 
 
 # When a record agrees with a table

@@ -2,17 +2,18 @@
 from collections.abc import Callable
 from typing import NamedTuple
 
-from reader.calls import Stepped, step_with
+from reader.calls import Handed, Stepped, step_with
+from reader.crews import shortfalls_of
 from reader.exits import after_exits, losses_of
 from reader.names import Name
-from reader.numbers import Numbers
-from reader.path import (
-    Entry, Lacks, Report, first_cause, lacked_after, lacked_by, lacking_after, outcome_at, ready_after, went_wrong,
-)
+from reader.numbers import Numbers, lacks
 from reader.table import Table
 from reader.target import Sides
 from reader.tree import Does, Order, Tree, branch, call_of, plain_reply, reply_of, same_reply, shown
-from reader.vocabulary import Answer, AnyAnswer, AnyOutcome, Ask, Call, Counted, End, Fate, Outcome, PidNote
+from reader.vocabulary import (
+    Answer, AnyAnswer, AnyOutcome, Ask, Call, Counted, Degraded, End, Entries, Entry, Fate, Lack, Lacks, Outcome,
+    PidNote, Reply, Report, Side,
+)
 
 
 class Moment(NamedTuple):
@@ -26,6 +27,41 @@ quiet = Moment((), None)
 
 # A pattern gives each call, counted from 1, its moment.
 Pattern = Callable[[int], Moment]
+
+# What the answers tell
+
+
+def ready_after(a: AnyAnswer, ready: Numbers) -> Numbers:
+    return a.numbers if isinstance(a, Counted) else ready
+
+
+def lacking_after(numbers: Numbers, a: AnyAnswer, lacking: Numbers) -> Numbers:
+    return lacks(numbers, a.numbers) if isinstance(a, Counted) else lacking
+
+
+def lacked_by(by: int, lacked: Lacks) -> Numbers:
+    """What the last count of a master lacked."""
+    return next((lack.numbers for lack in lacked if lack.by == by), ())
+
+
+def beside(by: int, lacked: Lacks) -> Lacks:
+    """The newest of another master."""
+    return tuple(lack for lack in lacked if lack.by != by)[:1]
+
+
+def lacked_after(by: int, numbers: Numbers, a: AnyAnswer, lacked: Lacks) -> Lacks:
+    """What the last counts lack, after an answer to a master. A plan has two masters at most: their last counts are
+    kept, the newest first."""
+    return (Lack(by, lacks(numbers, a.numbers)), *beside(by, lacked)) if isinstance(a, Counted) else lacked
+
+
+def went_wrong(call: Call, r: Reply) -> bool:
+    """A call that is not answered plainly, or a census that lacks a number of its set."""
+    return not same_reply(r, plain_reply(call))
+
+
+def first_cause(cause: int | None, wrong: bool, n: int) -> int | None:
+    return cause if cause is not None else n if wrong else None
 
 
 def is_plain(call: Call, a: AnyAnswer) -> bool:
@@ -109,30 +145,30 @@ def noted(said: PidNote | None, p: Progress) -> Progress:
     return p if said is None else p._replace(note=said)
 
 
-def answered(text: str, by: int, order: Order, f: Fate | None, p: Progress) -> Stepped:
-    """What a step's call, which is handed a text, is answered after the exits of its moment."""
-    return step_with(text, by, call_of(order, lacked_by(by, p.lacked)), f, p.table)
+def answered(handed: Handed, by: int, order: Order, f: Fate | None, p: Progress) -> Stepped:
+    """What a step's call, which is handed that, is answered after the exits of its moment."""
+    return step_with(handed, by, call_of(order, lacked_by(by, p.lacked)), f, p.table)
 
 
 class Ran(NamedTuple):
     """A whole run: its entries, each table that it passes with the counts up to it, middle tables too, and how it
     ends: at an end of the plan, or Lost (None) where a step has no edge for the answer."""
 
-    entries: tuple[Entry, ...]
+    entries: Entries
     passed: tuple[Progress, ...]
     ending: End | None
     last: Progress
 
 
-def run_with(text: str, tree: Tree, pattern: Pattern, p: Progress) -> Ran:
-    """The run of a tree, each call of which is handed a text."""
+def run_with(handed: Handed, tree: Tree, pattern: Pattern, p: Progress) -> Ran:
+    """The run of a tree, each call of which is handed that."""
     entries: list[Entry] = []
     passed: list[Progress] = []
     at = shown(tree)
     while isinstance(at, Does):
         moment = pattern(p.calls + 1)
         middle = after_moment(moment.exits, p)
-        s = answered(text, at.by, at.order, moment.fate, middle)
+        s = answered(handed, at.by, at.order, moment.fate, middle)
         entries.append(Entry(at.by, call_of(at.order, lacked_by(at.by, middle.lacked)), s.answer))
         passed += [p, middle]
         p = after_call(at.by, at.order, at.set, s, middle)
@@ -142,6 +178,23 @@ def run_with(text: str, tree: Tree, pattern: Pattern, p: Progress) -> Ran:
         p = noted(edge.said, p)
         at = shown(edge.rest)
     return Ran(tuple(entries), (*passed, p), at.end, p)
+
+
+# What is reported: what the calls and their answers tell, and nothing else
+
+
+def outcome_at(sides: Sides, end: End, lacking: Numbers) -> AnyOutcome:
+    """What an end says, by the groups of its side and what the last census lacked."""
+    match end:
+        case End.RolledBack:
+            return Outcome.RolledBack
+        case End.ShortOld:
+            return Degraded(Side.Old, shortfalls_of(sides.old, lacking))
+        case End.ShortTarget:
+            return Degraded(Side.Target, shortfalls_of(sides.target, lacking))
+        case _:
+            # (no run ends at a mark)
+            return Outcome.Done
 
 
 def outcome_of(sides: Sides, ending: End | None, lacking: Numbers) -> AnyOutcome:

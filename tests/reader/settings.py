@@ -3,6 +3,7 @@ from typing import NamedTuple
 
 from reader.addresses import Address, FilePath
 from reader.groups import AreGroups, Group, Groups, addresses_in, workers_in
+from reader.vocabulary import Listener
 
 
 class Settings(NamedTuple):
@@ -32,3 +33,8 @@ def IsInRange(s: Settings) -> bool:
 
 
 plain_settings = Settings(("0.0.0.0:8080",), 1, (Group(1, 1),), 60, 3, None)
+
+
+def listeners_from(fd: int, addresses: tuple[Address, ...]) -> tuple[Listener, ...]:
+    """Addresses in order, from a descriptor on."""
+    return tuple(Listener(fd + place, a) for place, a in enumerate(addresses))

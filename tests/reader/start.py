@@ -3,11 +3,35 @@ from reader.addresses import FilePath
 from reader.crew import Addresses, share
 from reader.crews import Posts, first_posts
 from reader.groups import Groups
-from reader.numbers import numbers_below
-from reader.record import Agrees, first_generation, started
-from reader.settings import Settings
+from reader.numbers import Numbers, numbers_below
+from reader.record import Agrees, Record
+from reader.settings import Settings, listeners_from
 from reader.table import File, Hold, Holds, Master, Process, Rows, Table, Worker
-from reader.vocabulary import Limits, Stance
+from reader.vocabulary import Generation, Limits, PidNote, Stance
+
+
+def first_note(path: FilePath | None) -> PidNote:
+    return PidNote.NoFile if path is None else PidNote.InPlace
+
+
+first_generation = Generation(1, 1)
+
+
+def started(s: Settings, wanted: int, ready: Numbers, pid: int) -> Record:
+    """The record of a master that starts with these settings: generation 1.1, descriptors from 3 on, of which each
+    group takes its number, the next ones."""
+    return Record(
+        listeners=listeners_from(3, s.listeners),
+        posts=first_posts(s.groups),
+        generation=first_generation,
+        ready=ready,
+        wanted=wanted,
+        retries=s.retries,
+        timeout=s.timeout,
+        pid_path=s.pid,
+        note=first_note(s.pid),
+        pid=pid,
+    )
 
 
 def holds_from(fd: int, socket: int, addresses: Addresses) -> Holds:

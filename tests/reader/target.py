@@ -3,9 +3,9 @@ from dataclasses import dataclass
 from typing import NamedTuple
 
 from reader.addresses import Address
+from reader.calls import Handed, Handover
 from reader.crew import Addresses, Layout, layout_in, served
 from reader.groups import Groups
-from reader.handover import Handover, spelling
 from reader.numbers import Numbers, numbers_below
 from reader.record import Record, addresses_of, layout_of
 from reader.service import Service, serving
@@ -150,10 +150,10 @@ def handover_of(r: Record, s: Settings) -> Handover:
     )
 
 
-def text_handed(r: Record, target: Target) -> str:
-    """The text that goes with each call of a plan."""
+def handover_for(r: Record, target: Target) -> Handed:
+    """What goes with each call of a plan."""
     match target:
         case Upgrade(s) | Attended(s):
-            return spelling(handover_of(r, s))
+            return handover_of(r, s)
         case _:
-            return ""
+            return None

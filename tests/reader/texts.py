@@ -4,15 +4,15 @@ import json
 from reader import names as name
 from reader.names import Name
 from reader.numbers import Numbers
-from reader.parts import Turns
-from reader.path import Entry, Report
+from reader.plans import Turns
 from reader.run import Moment
 from reader.service import service
 from reader.settings import Settings
 from reader.table import Foreign, Holds, Master, Process, Table, holds_of
 from reader.vocabulary import (
-    Adopt, Alive, AnyAnswer, AnyOutcome, Ask, AwaitGone, AwaitReady, Call, Census, CloseAt, Counted, Degraded, Fork,
-    Generation, Kill, Leave, MovePid, OpenAt, Opened, Quit, RemovePid, SpawnMaster, TermMaster, Usr1, WritePid,
+    Adopt, Alive, AnyAnswer, AnyOutcome, Ask, AwaitGone, AwaitReady, Call, Census, CloseAt, Counted, Degraded, Entries,
+    Entry, Fork, Generation, Kill, Leave, MovePid, OpenAt, Opened, Quit, RemovePid, Report, SpawnMaster, TermMaster,
+    Usr1, WritePid,
 )
 
 Moments = dict[int, Moment]
@@ -130,7 +130,7 @@ def report_line(report: Report) -> str:
     return f"{outcome_text(report.outcome)} cause {cause} pid {report.note.value}\n"
 
 
-def block_text(entries: tuple[Entry, ...], report: Report) -> str:
+def block_text(entries: Entries, report: Report) -> str:
     return "".join(entry_line(n, e) for n, e in enumerate(entries, 1)) + report_line(report)
 
 

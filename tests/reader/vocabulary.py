@@ -1,5 +1,5 @@
 """The plain types that the definitions speak of (listener_set, vocabulary): generations, stances, calls, answers,
-fates, replies, ends, notes, outcomes, turns. What is written of one is its value."""
+fates, replies, ends, notes, outcomes, entries, reports, lacks, turns. What is written of one is its value."""
 from dataclasses import dataclass
 from enum import Enum
 from typing import NamedTuple
@@ -245,6 +245,32 @@ class Degraded(NamedTuple):
 
 
 AnyOutcome = Outcome | Degraded
+
+
+class Entry(NamedTuple):
+    by: int
+    call: Call
+    answer: AnyAnswer
+
+
+Entries = tuple[Entry, ...]
+
+
+class Report(NamedTuple):
+    outcome: AnyOutcome
+    cause: int | None
+    note: PidNote
+    ready: Numbers
+
+
+class Lack(NamedTuple):
+    """What the last count of a master lacked."""
+
+    by: int
+    numbers: Numbers
+
+
+Lacks = tuple[Lack, ...]
 
 
 class Turn(Enum):

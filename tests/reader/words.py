@@ -1,20 +1,20 @@
 """Words on a modelled kernel: what each asks for, and what comes of it (control_words/specs/Words.antt,
-worker_table/specs/Beats.antt, word_runner/specs, plan_executor/specs/Refusals.antt)."""
+worker_table/specs/Beats.antt, word_runner/specs, plan_executor/specs/Refusals.antt, and lacks_generation of
+service_state/specs/Targets.antt)."""
 from collections.abc import Callable
 from typing import NamedTuple
 
-from reader.after import lacks_generation, next_record
+from reader.after import next_config, next_image, next_record
 from reader.claims import refusal_of, run_of
 from reader.numbers import Numbers, is_in
-from reader.parts import Turns
-from reader.path import Report
+from reader.plans import Turns
 from reader.record import Agrees, Record
 from reader.run import Moment, Pattern, Ran, quiet, report_of
 from reader.settings import Settings
 from reader.table import Table, same_generation
 from reader.target import Attended, Mend, Reload, Reopen, Stop, Target, Upgrade, Workers, sides_of
 from reader.texts import Moments, block_text
-from reader.vocabulary import Answer, AnyOutcome, Degraded, Fork, Outcome
+from reader.vocabulary import Answer, AnyOutcome, Degraded, Fork, Outcome, Report
 
 # each worker's number, and the moment of its last beat if it has beaten
 Beats = dict[int, int | None]
@@ -113,6 +113,17 @@ def started(r: Record | None, ran: Ran) -> Numbers:
 def followed(beats: Beats, ready: Numbers, anew: Numbers) -> Beats:
     """The workers after a plan that left the ready ones, and started some of them anew."""
     return {k: None if is_in(anew, k) else beats.get(k) for k in ready}
+
+
+def lacks_generation(r: Record, target: Target) -> bool:
+    """A reload or an upgrade that has no generation, since a number would pass its limit."""
+    match target:
+        case Reload():
+            return next_config(r.generation) is None
+        case Upgrade() | Attended():
+            return next_image(r.generation) is None
+        case _:
+            return False
 
 
 def acted(old: Standing, r: Record, target: Target, turns: Turns, moments: Moments) -> Heard:

@@ -35,7 +35,7 @@ ELSEWHERE: dict[str, str] = {
                     "packages and programs of the system"),
     **dict.fromkeys(("ContainerStopSignals", "stopSignal", "linux", "startupProbe", "kubectl", "rollout"),
                     "Kubernetes"),
-    **dict.fromkeys(("rt", "doc", "ci", "check", "must-fail", "try", "run", "lib", "version", "rattle-kit-13b", "logic",
+    **dict.fromkeys(("rt", "doc", "ci", "check", "must-fail", "try", "run", "lib", "version", "rattle-kit-13f", "logic",
                      "dac8208d650f15bf", "PhantomData", "inline", "never", "Read", "Write"), "the toolchain"),
     **dict.fromkeys(("0.0.0.0", "127.0.0.1"), "addresses"),
     "config.toml": "a file of a running service",

@@ -12,7 +12,7 @@ use Rattle.definitions.specs.Table.{Hold, Generation, Process, Master, Worker, F
 use Rattle.definitions.specs.Table.{is_worker, is_active, is_starting, is_exited, is_any}
 use Rattle.definitions.specs.Exits.{change}
 use Rattle.definitions.specs.Calls.{Stepped, is_of, is_row, with_holds, put_hold, lacks_address, lowest_free, shared}
-use Rattle.definitions.specs.Calls.{drop_where, made_ready, made_draining, is_exited_of, step_by}
+use Rattle.definitions.specs.Calls.{drop_where, made_ready, made_draining, is_exited_of, step_by, Handed}
 use Rattle.call_laws.specs.Aside.{is_own_call, aside_of, LeavesAlone, CallsLeaveAlone}
 use Rattle.call_laws.proofs.Choices.{and-left, and-right}
 use Rattle.call_laws.proofs.Cases.{fork-cases, await-cases, open-cases, adopt-cases, unfailing}
@@ -92,40 +92,40 @@ abbrev Leaves : Caller → Table → Stepped → Type 0
 Leaves c t st = (aside_of c.number st.table.rows ≡ aside_of c.number t.rows) × (st.table.files ≡ t.files)
 
 calls-leave :
-    (text : List ℕ) (image : ℕ) (c : Caller) (call : Call) (fate : Option Fate) (t : Table) → is_own_call call ≡ true →
-    Leaves c t (step_by text image (Some c) call fate t)
-calls-leave text image c (OpenAt a) fate t own =
-    open-cases text image c a fate t (Leaves c t) (refl, refl) (refl, refl) (refl, refl) (refl, refl)
+    (handed : Handed) (image : ℕ) (c : Caller) (call : Call) (fate : Option Fate) (t : Table) → is_own_call call ≡ true →
+    Leaves c t (step_by handed image (Some c) call fate t)
+calls-leave handed image c (OpenAt a) fate t own =
+    open-cases handed image c a fate t (Leaves c t) (refl, refl) (refl, refl) (refl, refl) (refl, refl)
     (λ off room. (changed-aside c.number (is_row c.number) (with_holds (put_hold (record { fd = lowest_free c.holds; socket = t.next_socket; address = a }))) (own-row c.number) (same-holds c.number _) t.rows, refl))
-calls-leave text image c (CloseAt a) fate t own =
-    subst (Leaves c t) (sym (unfailing text image c (CloseAt a) fate t tt))
+calls-leave handed image c (CloseAt a) fate t own =
+    subst (Leaves c t) (sym (unfailing handed image c (CloseAt a) fate t tt))
     (changed-aside c.number (is_of c.number) (with_holds (lacks_address a)) (λ p e. e) (same-holds c.number (lacks_address a)) t.rows, refl)
-calls-leave text image c (Fork g k fds) fate t own =
-    fork-cases text image c g k fds fate t (Leaves c t) (refl, refl) (refl, refl)
+calls-leave handed image c (Fork g k fds) fate t own =
+    fork-cases handed image c g k fds fate t (Leaves c t) (refl, refl) (refl, refl)
     (λ off. (grown-aside c.number (Worker t.next_process c.number g k Starting (shared fds c.holds)) (own-new c.number) t.rows, refl))
-calls-leave text image c (AwaitReady g k) fate t own =
-    await-cases text image c g k fate t (Leaves c t) (refl, refl)
+calls-leave handed image c (AwaitReady g k) fate t own =
+    await-cases handed image c g k fate t (Leaves c t) (refl, refl)
     (λ live. (changed-aside c.number (is_worker is_starting c.number g k) made_ready (own-worker is_starting c.number g k) (same-ready c.number) t.rows, refl))
     (λ gone. (dropped-aside c.number (is_worker is_exited c.number g k) (own-worker is_exited c.number g k) t.rows, refl))
-calls-leave text image c (Quit g k) fate t own =
-    subst (Leaves c t) (sym (unfailing text image c (Quit g k) fate t tt))
+calls-leave handed image c (Quit g k) fate t own =
+    subst (Leaves c t) (sym (unfailing handed image c (Quit g k) fate t tt))
     (changed-aside c.number (is_worker is_active c.number g k) made_draining (own-worker is_active c.number g k) (same-draining c.number) t.rows, refl)
-calls-leave text image c (Kill g k) fate t own =
-    subst (Leaves c t) (sym (unfailing text image c (Kill g k) fate t tt))
+calls-leave handed image c (Kill g k) fate t own =
+    subst (Leaves c t) (sym (unfailing handed image c (Kill g k) fate t tt))
     (dropped-aside c.number (is_worker is_any c.number g k) (own-worker is_any c.number g k) t.rows, refl)
-calls-leave text image c (Census g) fate t own =
-    subst (Leaves c t) (sym (unfailing text image c (Census g) fate t tt)) (dropped-aside c.number (is_exited_of c.number) (own-exited c.number) t.rows, refl)
-calls-leave text image c Adopt fate t own = adopt-cases text image c fate t (Leaves c t) (refl, refl) (refl, refl)
-calls-leave text image c _ fate t own = absurd (cc own)
+calls-leave handed image c (Census g) fate t own =
+    subst (Leaves c t) (sym (unfailing handed image c (Census g) fate t tt)) (dropped-aside c.number (is_exited_of c.number) (own-exited c.number) t.rows, refl)
+calls-leave handed image c Adopt fate t own = adopt-cases handed image c fate t (Leaves c t) (refl, refl) (refl, refl)
+calls-leave handed image c _ fate t own = absurd (cc own)
 
 some-is : (c d : Caller) → Some c ≡ Some d → c ≡ d
 some-is c d e = cc e
 
 pub calls-leave-alone : CallsLeaveAlone
-calls-leave-alone text image call fate t own = go (live_master image t.rows)
+calls-leave-alone handed image call fate t own = go (live_master image t.rows)
   where
-    go : (o : Option Caller) → LeavesAlone image o t (step_by text image o call fate t).table
+    go : (o : Option Caller) → LeavesAlone image o t (step_by handed image o call fate t).table
     go None = record { rows = λ c e. absurd (cc e); gone = λ e. refl; files = refl }
     go (Some c) =
-        let l = calls-leave text image c call fate t own in
-        record { rows = λ d e. subst (λ (x : Caller). aside_of x.number (step_by text image (Some c) call fate t).table.rows ≡ aside_of x.number t.rows) (some-is c d e) l.0; gone = λ e. absurd (cc e); files = l.1 }
+        let l = calls-leave handed image c call fate t own in
+        record { rows = λ d e. subst (λ (x : Caller). aside_of x.number (step_by handed image (Some c) call fate t).table.rows ≡ aside_of x.number t.rows) (some-is c d e) l.0; gone = λ e. absurd (cc e); files = l.1 }

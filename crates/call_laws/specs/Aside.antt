@@ -2,7 +2,7 @@
 use Rattle.std.specs.Prelude.{ℕ, ◌≡◌, Bool, true, false, not, List, Option, Some, None, filter}
 use Rattle.definitions.specs.Table.{Process, Table, Caller, live_master}
 use Rattle.definitions.specs.Calls.{Call, OpenAt, CloseAt, Fork, AwaitReady, Quit, Kill, Census, Adopt, Fate, is_of}
-use Rattle.definitions.specs.Calls.{step_with}
+use Rattle.definitions.specs.Calls.{step_with, Handed}
 
 -- the calls that concern a master and its workers alone
 abbrev pub is_own_call : Call → Bool
@@ -29,5 +29,5 @@ pub record LeavesAlone (image : ℕ) (o : Option Caller) (before after : Table) 
 
 abbrev pub CallsLeaveAlone : Type 0
 CallsLeaveAlone =
-    (text : List ℕ) (image : ℕ) (call : Call) (fate : Option Fate) (t : Table) → is_own_call call ≡ true →
-    LeavesAlone image (live_master image t.rows) t (step_with text image call fate t).table
+    (handed : Handed) (image : ℕ) (call : Call) (fate : Option Fate) (t : Table) → is_own_call call ≡ true →
+    LeavesAlone image (live_master image t.rows) t (step_with handed image call fate t).table

@@ -3,14 +3,39 @@
 -- Our own choice of first numbers: master 100 with parent 1, its workers from 101 on, descriptors from 3 on, as POSIX
 -- gives them after the standard three.
 
-use Rattle.std.specs.Prelude.{◌≡◌, refl}
-use Rattle.std.specs.Prelude.{ℕ, ◌+◌, true, List, [], ◌∷◌, length, map, Option, Some, None}
+use Rattle.std.specs.Prelude.{◌≡◌, refl, ℕ, ◌+◌, true, List, [], ◌∷◌, length, map, Option, Some, None}
 use Rattle.listener_set.specs.Numbers.{numbers_below}
-use Rattle.vocabulary.specs.Settings.{Settings}
-use Rattle.definitions.specs.Table.{Address, FilePath, Hold, Ready, Limits, Process, Master, Worker, File, Table}
+use Rattle.vocabulary.specs.Settings.{Settings, listeners_from}
+use Rattle.vocabulary.specs.declared.plans.PidNote.{PidNote}
+use Rattle.vocabulary.specs.declared.plans.PidNote.TheVariants.{InPlace, NoFile}
+use Rattle.definitions.specs.Table.{Address, FilePath, Generation, Hold, Ready, Limits, Process, Master, Worker, File}
+use Rattle.definitions.specs.Table.{Table}
 use Rattle.worker_groups.specs.Crews.{first_posts}
 use Rattle.definitions.specs.Crew.{Posts, Group, share}
-use Rattle.definitions.specs.Record.{first_generation, started, Agrees}
+use Rattle.definitions.specs.Record.{Record, Agrees}
+
+abbrev pub first_note : Option FilePath → PidNote
+first_note None = NoFile
+first_note (Some path) = InPlace
+
+abbrev pub first_generation : Generation
+first_generation = record { image = 1; config = 1 }
+
+-- The record of a master that starts with these settings: generation 1.1, descriptors from 3 on, of which each group
+-- takes the next so many.
+abbrev pub started : Settings → ℕ → List ℕ → ℕ → Record
+started s wanted ready pid = record {
+  listeners = listeners_from 3 s.listeners;
+  posts = first_posts s.groups;
+  generation = first_generation;
+  ready = ready;
+  wanted = wanted;
+  retries = s.retries;
+  timeout = s.timeout;
+  pid_path = s.pid;
+  note = first_note s.pid;
+  pid = pid;
+}
 
 -- a socket for each address in order, from a descriptor and a socket number on
 abbrev pub holds_from : ℕ → ℕ → List Address → List Hold

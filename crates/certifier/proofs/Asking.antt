@@ -6,7 +6,7 @@ use Rattle.vocabulary.specs.declared.reports.Outcome.TheVariants as outcome
 use Rattle.vocabulary.specs.declared.plans.End.TheVariants.{Done, RolledBack, ShortOld, ShortTarget, Split, JoinReady, JoinBack, Join}
 use Rattle.vocabulary.specs.declared.plans.PidNote.{PidNote}
 use Rattle.definitions.specs.Tree.{Tree, Ends, Does}
-use Rattle.definitions.specs.Path.{Entry, Report, Sides, Lack}
+use Rattle.definitions.specs.Run.{Entry, Report, Sides, Lack}
 use Rattle.plan_walk.specs.Path.{Trail, Asks, rest_after, IsOver, IsOutcome, Reports}
 
 -- an entry that is asked for as another is, is the same call by the same master

@@ -4,9 +4,9 @@ use Rattle.std.specs.Prelude.{IfOk}
 use Rattle.definitions.specs.Table.{Table}
 use Rattle.definitions.specs.Record.{Record}
 use Rattle.vocabulary.specs.declared.targets.Target.{Target}
-use Rattle.definitions.specs.Target.{text_handed, sides_of}
+use Rattle.definitions.specs.Target.{handover_for, sides_of}
 use Rattle.definitions.specs.Plans.{plan_length}
-use Rattle.definitions.specs.Path.{Entry, Report}
+use Rattle.definitions.specs.Run.{Entry, Report}
 use Rattle.definitions.specs.Claims.{heirs_of}
 use Rattle.kernel_model.specs.State.{State}
 use Rattle.kernel_model.specs.Pattern.{moment_at}
@@ -22,8 +22,8 @@ use Rattle.certifier.proofs.Complete.{IsDue}
 use Rattle.certifier.proofs.Matching.{whole, spares, certified}
 
 pub has-enacted : (first : State) (r : Record) (target : Target) (es : List Entry) (report : Report) → IsReady first.table r target → IsDue first.table r target → (result : Result Certificate Mismatch) →
-    IfOk result (λ it. Holds (text_handed r target) (heirs_of r target) (sides_of r target) (starts first.table r target) es report it.section) →
-    IfOk result (λ it. IsLed (text_handed r target) (heirs_of r target) (plan_length r target) (begins first.table r target it.section.turns) es it.kernel) →
+    IfOk result (λ it. Holds (handover_for r target) (heirs_of r target) (sides_of r target) (starts first.table r target) es report it.section) →
+    IfOk result (λ it. IsLed (handover_for r target) (heirs_of r target) (plan_length r target) (begins first.table r target it.section.turns) es it.kernel) →
     IfOk result (HasEnacted first r target es report)
 has-enacted first r target es report ready due (Err why) holds led = tt
 has-enacted first r target es report ready due (Ok it) holds led =

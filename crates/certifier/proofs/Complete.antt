@@ -7,13 +7,12 @@ use Rattle.vocabulary.specs.declared.targets.Target.{Target}
 use Rattle.vocabulary.specs.declared.plans.PidNote.{PidNote}
 use Rattle.vocabulary.specs.declared.plans.Order.{Order}
 use Rattle.vocabulary.specs.declared.calls.Reply.{Reply}
-use Rattle.definitions.specs.Calls.{Fate, Stepped, step_with}
+use Rattle.definitions.specs.Calls.{Fate, Stepped, step_with, Handed}
 use Rattle.definitions.specs.Exits.{after_exits}
-use Rattle.definitions.specs.Target.{text_handed, sides_of}
-use Rattle.definitions.specs.Parts.{Turn}
-use Rattle.definitions.specs.Plans.{plan_tree}
+use Rattle.definitions.specs.Target.{handover_for, sides_of}
+use Rattle.definitions.specs.Plans.{Turn, plan_tree}
 use Rattle.definitions.specs.Tree.{Tree, Ends, Does, Branches, Nothing, Branch, among, branch, call_of, reply_of}
-use Rattle.definitions.specs.Path.{Entry, Report, Sides, lacked_by}
+use Rattle.definitions.specs.Run.{Entry, Report, Sides, lacked_by}
 use Rattle.plan_walk.specs.Path.{Trail, advance, trail_after, IsOver, IsOutcome, Reports}
 use Rattle.definitions.specs.Run.{Progress, Ending, Lost, Ran, start_at, run_with, goes_with, noted, after_moment, after_call, answered, outcome_of}
 use Rattle.definitions.specs.Claims.{IsStart, HasDescriptors, Says, names_any, executing_at, executing_after, refused_among, heirs_of, run_of}
@@ -35,31 +34,31 @@ use Rattle.certifier.proofs.Explaining.{begins, is-explained}
 use Rattle.certifier.proofs.Matching.{IsExact, all-explained}
 
 -- The entries of a run are next one after another from a trail and a table on, and lead to its end.
-pub record Walks (text heirs executing : List ℕ) (start : Trail) (t : Table) (ran : Ran) : Type 0 where
-  pub next : AreNext text heirs (record { trail = start; table = t; executing = executing }) ran.entries
+pub record Walks (handed : Handed) (heirs executing : List ℕ) (start : Trail) (t : Table) (ran : Ran) : Type 0 where
+  pub next : AreNext handed heirs (record { trail = start; table = t; executing = executing }) ran.entries
   pub rest : Option Tree
   pub trail : trail_after start ran.entries ≡ trail_at rest ran.last
   pub over : IsOver rest
   pub ending : ending_of rest ≡ ran.ending
 
-module _ (text heirs : List ℕ) (fates : ℕ → Option Fate) where
+module _ (handed : Handed) (heirs : List ℕ) (fates : ℕ → Option Fate) where
   -- one step, and the walk behind it
   step-walks : (by : ℕ) (order : Order) (set : List ℕ) (branches : Branches) (p : Progress) (executing : List ℕ) →
-      let s = answered text by order (fates (p.calls + 1)) (after_moment [] p) in
+      let s = answered handed by order (fates (p.calls + 1)) (after_moment [] p) in
       let q = after_call by order set s (after_moment [] p) in
       is_some (branch branches (reply_of set s.answer)) ≡ true →
-      Walks text heirs (executing_after (call_of order (lacked_by by p.lacked)) executing heirs) (behind (branch branches (reply_of set s.answer)) q) q.table (goes_with text branches (reply_of set s.answer) (faults_alone fates) q) →
-      Walks text heirs executing (trail_at (Some (Does by order set branches)) p) p.table (run_with text (Does by order set branches) (faults_alone fates) p)
+      Walks handed heirs (executing_after (call_of order (lacked_by by p.lacked)) executing heirs) (behind (branch branches (reply_of set s.answer)) q) q.table (goes_with handed branches (reply_of set s.answer) (faults_alone fates) q) →
+      Walks handed heirs executing (trail_at (Some (Does by order set branches)) p) p.table (run_with handed (Does by order set branches) (faults_alone fates) p)
   step-walks by order set branches p executing edge walks =
       let call = call_of order (lacked_by by p.lacked) in
-      let s = step_with text by call (fates (p.calls + 1)) p.table in
+      let s = step_with handed by call (fates (p.calls + 1)) p.table in
       let e : Entry = record { by = by; call = call; answer = s.answer } in
       let start = trail_at (Some (Does by order set branches)) p in
-      let given = answered text by order (fates (p.calls + 1)) (after_moment [] p) in
-      let behind_it = goes_with text branches (reply_of set given.answer) (faults_alone fates) (after_call by order set given (after_moment [] p)) in
-      let m = moment_shown text p.table e in
-      let shown = shown-again text by call (fates (p.calls + 1)) p.table in
-      let stepped : stepped_at text p.table m e ≡ s = (λ i. step_with text by call m.fate (after_exits (shown.nobody i) p.table)) ∙ shown.again in
+      let given = answered handed by order (fates (p.calls + 1)) (after_moment [] p) in
+      let behind_it = goes_with handed branches (reply_of set given.answer) (faults_alone fates) (after_call by order set given (after_moment [] p)) in
+      let m = moment_shown handed p.table e in
+      let shown = shown-again handed by call (fates (p.calls + 1)) p.table in
+      let stepped : stepped_at handed p.table m e ≡ s = (λ i. step_with handed by call m.fate (after_exits (shown.nobody i) p.table)) ∙ shown.again in
       record {
         next = (
           record {
@@ -68,7 +67,7 @@ module _ (text heirs : List ℕ) (fates : ℕ → Option Fate) where
             gives = ap (λ (x : Stepped). x.answer) stepped;
             spares = ap (names_any (executing_at call executing heirs)) shown.nobody;
           },
-          subst (λ (t : Table). AreNext text heirs (record { trail = advance start e; table = t; executing = executing_after call executing heirs }) behind_it.entries) (sym (ap (λ (x : Stepped). x.table) stepped)) walks.next,
+          subst (λ (t : Table). AreNext handed heirs (record { trail = advance start e; table = t; executing = executing_after call executing heirs }) behind_it.entries) (sym (ap (λ (x : Stepped). x.table) stepped)) walks.next,
         );
         rest = walks.rest;
         trail = walks.trail;
@@ -77,31 +76,31 @@ module _ (text heirs : List ℕ) (fates : ℕ → Option Fate) where
       }
 
   -- a note changes nothing of the walk
-  noted-walks : (said : Option PidNote) (rest : Tree) (q : Progress) (executing : List ℕ) → Walks text heirs executing (trail_at (Some rest) (noted said q)) (noted said q).table (run_with text rest (faults_alone fates) (noted said q)) →
-      Walks text heirs executing (behind (Some (said, rest)) q) q.table (run_with text rest (faults_alone fates) (noted said q))
+  noted-walks : (said : Option PidNote) (rest : Tree) (q : Progress) (executing : List ℕ) → Walks handed heirs executing (trail_at (Some rest) (noted said q)) (noted said q).table (run_with handed rest (faults_alone fates) (noted said q)) →
+      Walks handed heirs executing (behind (Some (said, rest)) q) q.table (run_with handed rest (faults_alone fates) (noted said q))
   noted-walks None rest q executing walks = walks
   noted-walks (Some n) rest q executing walks = walks
 
   mutual
-    tree-walks : (tree : Tree) (p : Progress) (executing : List ℕ) → ((run_with text tree (faults_alone fates) p).ending ≡ Lost → ⊥) → Walks text heirs executing (trail_at (Some tree) p) p.table (run_with text tree (faults_alone fates) p)
+    tree-walks : (tree : Tree) (p : Progress) (executing : List ℕ) → ((run_with handed tree (faults_alone fates) p).ending ≡ Lost → ⊥) → Walks handed heirs executing (trail_at (Some tree) p) p.table (run_with handed tree (faults_alone fates) p)
     tree-walks (Ends end) p executing not_lost = record { next = tt; rest = Some (Ends end); trail = refl; over = tt; ending = refl }
     tree-walks (Does by order set branches) p executing not_lost =
-        let s = answered text by order (fates (p.calls + 1)) (after_moment [] p) in
+        let s = answered handed by order (fates (p.calls + 1)) (after_moment [] p) in
         let q = after_call by order set s (after_moment [] p) in
         let behind-it = edges-walk branches (reply_of set s.answer) q (executing_after (call_of order (lacked_by by p.lacked)) executing heirs) not_lost in
         step-walks by order set branches p executing behind-it.0 behind-it.1
 
-    edges-walk : (bs : Branches) (r : Reply) (q : Progress) (executing : List ℕ) → ((goes_with text bs r (faults_alone fates) q).ending ≡ Lost → ⊥) →
-        (is_some (branch bs r) ≡ true) × Walks text heirs executing (behind (branch bs r) q) q.table (goes_with text bs r (faults_alone fates) q)
+    edges-walk : (bs : Branches) (r : Reply) (q : Progress) (executing : List ℕ) → ((goes_with handed bs r (faults_alone fates) q).ending ≡ Lost → ⊥) →
+        (is_some (branch bs r) ≡ true) × Walks handed heirs executing (behind (branch bs r) q) q.table (goes_with handed bs r (faults_alone fates) q)
     edges-walk Nothing r q executing not_lost = absurd (not_lost refl)
     edges-walk (Branch replies said rest more) r q executing not_lost =
-        let here : ((run_with text rest (faults_alone fates) (noted said q)).ending ≡ Lost → ⊥) → Walks text heirs executing (behind (Some (said, rest)) q) q.table (run_with text rest (faults_alone fates) (noted said q)) =
+        let here : ((run_with handed rest (faults_alone fates) (noted said q)).ending ≡ Lost → ⊥) → Walks handed heirs executing (behind (Some (said, rest)) q) q.table (run_with handed rest (faults_alone fates) (noted said q)) =
         λ none. noted-walks said rest q executing (tree-walks rest (noted said q) executing none) in
         let there = edges-walk more r q executing in
         elim (among replies r) as (λ b.
-        let ran : Ran = elim b as (λ c. Ran) [ true ↦ run_with text rest (faults_alone fates) (noted said q) | false ↦ goes_with text more r (faults_alone fates) q ] in
+        let ran : Ran = elim b as (λ c. Ran) [ true ↦ run_with handed rest (faults_alone fates) (noted said q) | false ↦ goes_with handed more r (faults_alone fates) q ] in
         let found : Option (Option PidNote × Tree) = elim b as (λ c. Option (Option PidNote × Tree)) [ true ↦ Some (said, rest) | false ↦ branch more r ] in
-        (ran.ending ≡ Lost → ⊥) → (is_some found ≡ true) × Walks text heirs executing (behind found q) q.table ran) [
+        (ran.ending ≡ Lost → ⊥) → (is_some found ≡ true) × Walks handed heirs executing (behind found q) q.table ran) [
           | true ↦ λ none. (refl, here none)
           | false ↦ there
         ] not_lost
@@ -142,15 +141,15 @@ pub record IsGood (t : Table) (r : Record) (target : Target) (entries : List Ent
 
 is-good : (t : Table) (r : Record) (target : Target) (entries : List Entry) (report : Report) → IsDue t r target → IsFaultyRun t r target entries report → IsGood t r target entries report
 is-good t r target entries report due h =
-    let text = text_handed r target in
+    let handed = handover_for r target in
     let heirs = heirs_of r target in
     let sides = sides_of r target in
     let ran = run_of r target h.turns (faults_alone h.fates) t in
-    let w = tree-walks text heirs h.fates (plan_tree r target h.turns) (start_at t r.note) (r.generation.image ∷ []) (never-lost t r target due h.turns h.fates) in
+    let w = tree-walks handed heirs h.fates (plan_tree r target h.turns) (start_at t r.note) (r.generation.image ∷ []) (never-lost t r target due h.turns h.fates) in
     let trail : trail_by r target h.turns entries ≡ trail_at w.rest ran.last = ap (trail_by r target h.turns) (sym h.is_run.entries_are) ∙ w.trail in
     record {
       turns = h.turns;
-      explained = is-explained t r target h.turns entries (subst (AreNext text heirs (begins t r target h.turns)) h.is_run.entries_are w.next);
+      explained = is-explained t r target h.turns entries (subst (AreNext handed heirs (begins t r target h.turns)) h.is_run.entries_are w.next);
       over = subst (λ (x : Trail). IsOver x.rest) (sym trail) w.over;
       reports =
           subst (λ (x : Trail). Reports sides x report) (sym trail)

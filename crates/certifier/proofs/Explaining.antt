@@ -6,15 +6,13 @@ use Rattle.definitions.specs.Table.{Table}
 use Rattle.definitions.specs.Record.{Record}
 use Rattle.vocabulary.specs.declared.targets.Target.{Target}
 use Rattle.vocabulary.specs.declared.plans.PidNote.{PidNote}
-use Rattle.definitions.specs.Target.{text_handed}
-use Rattle.definitions.specs.Calls.{Stepped}
+use Rattle.definitions.specs.Target.{handover_for}
+use Rattle.definitions.specs.Calls.{Stepped, Handed}
 use Rattle.definitions.specs.Tree.{Tree}
-use Rattle.definitions.specs.Parts.{Turn}
-use Rattle.definitions.specs.Plans.{plan_tree}
-use Rattle.definitions.specs.Path.{Entry}
+use Rattle.definitions.specs.Plans.{Turn, plan_tree}
+use Rattle.definitions.specs.Run.{Entry, Moment, quiet, Pattern}
 use Rattle.plan_walk.specs.Path.{Trail, begin, advance, rest_after, trail_after, Follows}
 use Rattle.rollback_plan.specs.Following.{follow}
-use Rattle.definitions.specs.Run.{Moment, quiet, Pattern}
 use Rattle.plan_executor.specs.Replays.{Replays}
 use Rattle.definitions.specs.Claims.{names_any, executing_at, executing_after, refused_among, heirs_of}
 use Rattle.certifier.specs.Shown.{moment_shown, moments_shown, pattern_of, stepped_at}
@@ -46,25 +44,25 @@ edge-back : (found : Option (Option PidNote × Tree)) → is_some (rest_after fo
 edge-back None some = some
 edge-back (Some edge) some = refl
 
-pub next-follows : (text heirs : List ℕ) (p : Place) (es : List Entry) → AreNext text heirs p es → Follows p.trail es
-next-follows text heirs p [] all = tt
-next-follows text heirs p (e ∷ es) all = (all.0.asks, next-follows text heirs (place_after text heirs p e) es all.1)
+pub next-follows : (handed : Handed) (heirs : List ℕ) (p : Place) (es : List Entry) → AreNext handed heirs p es → Follows p.trail es
+next-follows handed heirs p [] all = tt
+next-follows handed heirs p (e ∷ es) all = (all.0.asks, next-follows handed heirs (place_after handed heirs p e) es all.1)
 
-pub next-edges : (text heirs : List ℕ) (p : Place) (es : List Entry) → is_some p.trail.rest ≡ true → AreNext text heirs p es → is_some (trail_after p.trail es).rest ≡ true
-next-edges text heirs p [] some all = some
-next-edges text heirs p (e ∷ es) some all = next-edges text heirs (place_after text heirs p e) es (edge-on (follow p.trail.rest e.answer) all.0.edge) all.1
+pub next-edges : (handed : Handed) (heirs : List ℕ) (p : Place) (es : List Entry) → is_some p.trail.rest ≡ true → AreNext handed heirs p es → is_some (trail_after p.trail es).rest ≡ true
+next-edges handed heirs p [] some all = some
+next-edges handed heirs p (e ∷ es) some all = next-edges handed heirs (place_after handed heirs p e) es (edge-on (follow p.trail.rest e.answer) all.0.edge) all.1
 
-pub next-trail : (text heirs : List ℕ) (p : Place) (es : List Entry) → (place_after_all text heirs p es).trail ≡ trail_after p.trail es
-next-trail text heirs p [] = refl
-next-trail text heirs p (e ∷ es) = next-trail text heirs (place_after text heirs p e) es
+pub next-trail : (handed : Handed) (heirs : List ℕ) (p : Place) (es : List Entry) → (place_after_all handed heirs p es).trail ≡ trail_after p.trail es
+next-trail handed heirs p [] = refl
+next-trail handed heirs p (e ∷ es) = next-trail handed heirs (place_after handed heirs p e) es
 
-pub next-replays : (text heirs : List ℕ) (pattern : Pattern) (n : ℕ) (p : Place) (es : List Entry) → GoesThrough pattern n (moments_shown text p.table es) → AreNext text heirs p es → Replays text pattern n p.table es (place_after_all text heirs p es).table
-next-replays text heirs pattern n p [] goes all = refl
-next-replays text heirs pattern n p (e ∷ es) goes all =
-    let stepped : stepped_at text p.table (moment_shown text p.table e) e ≡ stepped_at text p.table (pattern (n + 1)) e = ap (λ (m : Moment). stepped_at text p.table m e) (sym goes.0) in (
+pub next-replays : (handed : Handed) (heirs : List ℕ) (pattern : Pattern) (n : ℕ) (p : Place) (es : List Entry) → GoesThrough pattern n (moments_shown handed p.table es) → AreNext handed heirs p es → Replays handed pattern n p.table es (place_after_all handed heirs p es).table
+next-replays handed heirs pattern n p [] goes all = refl
+next-replays handed heirs pattern n p (e ∷ es) goes all =
+    let stepped : stepped_at handed p.table (moment_shown handed p.table e) e ≡ stepped_at handed p.table (pattern (n + 1)) e = ap (λ (m : Moment). stepped_at handed p.table m e) (sym goes.0) in (
       ap (λ (s : Stepped). s.answer) (sym stepped) ∙ all.0.gives,
-      subst (λ (s : Stepped). Replays text pattern (n + 1) s.table es (place_after_all text heirs (place_after text heirs p e) es).table) stepped
-          (next-replays text heirs pattern (n + 1) (place_after text heirs p e) es goes.1 all.1),
+      subst (λ (s : Stepped). Replays handed pattern (n + 1) s.table es (place_after_all handed heirs (place_after handed heirs p e) es).table) stepped
+          (next-replays handed heirs pattern (n + 1) (place_after handed heirs p e) es goes.1 all.1),
     )
 
 -- nobody executing is named first where nobody is at the first of the calls
@@ -74,11 +72,11 @@ passed-over executing heirs pattern n e es m is none =
     ap (λ b. if b then Some (n + 1) else refused_among (executing_after e.call executing heirs) heirs pattern (n + 1) es)
     (ap (λ (x : Moment). names_any (executing_at e.call executing heirs) x.exits) is ∙ none)
 
-pub next-spares : (text heirs : List ℕ) (pattern : Pattern) (n : ℕ) (p : Place) (es : List Entry) → GoesThrough pattern n (moments_shown text p.table es) → AreNext text heirs p es → refused_among p.executing heirs pattern n es ≡ None
-next-spares text heirs pattern n p [] goes all = refl
-next-spares text heirs pattern n p (e ∷ es) goes all =
-    passed-over p.executing heirs pattern n e es (moment_shown text p.table e) goes.0 all.0.spares
-    ∙ next-spares text heirs pattern (n + 1) (place_after text heirs p e) es goes.1 all.1
+pub next-spares : (handed : Handed) (heirs : List ℕ) (pattern : Pattern) (n : ℕ) (p : Place) (es : List Entry) → GoesThrough pattern n (moments_shown handed p.table es) → AreNext handed heirs p es → refused_among p.executing heirs pattern n es ≡ None
+next-spares handed heirs pattern n p [] goes all = refl
+next-spares handed heirs pattern n p (e ∷ es) goes all =
+    passed-over p.executing heirs pattern n e es (moment_shown handed p.table e) goes.0 all.0.spares
+    ∙ next-spares handed heirs pattern (n + 1) (place_after handed heirs p e) es goes.1 all.1
 
 ---- What is explained is next
 
@@ -94,10 +92,10 @@ unnamed : (b : Bool) (k : ℕ) (rest : Option ℕ) → (if b then Some k else re
 unnamed true k rest none = absurd (none-some k (sym none))
 unnamed false k rest none = (refl, none)
 
-pub explained-next : (text heirs : List ℕ) (pattern : Pattern) (n : ℕ) (p : Place) (es : List Entry) (last : Table) → GoesThrough pattern n (moments_shown text p.table es) → Follows p.trail es → is_some (trail_after p.trail es).rest ≡ true → Replays text pattern n p.table es last → refused_among p.executing heirs pattern n es ≡ None → AreNext text heirs p es
-explained-next text heirs pattern n p [] last goes follows edges replays spares = tt
-explained-next text heirs pattern n p (e ∷ es) last goes follows edges replays spares =
-    let stepped : stepped_at text p.table (pattern (n + 1)) e ≡ stepped_at text p.table (moment_shown text p.table e) e = ap (λ (m : Moment). stepped_at text p.table m e) goes.0 in
+pub explained-next : (handed : Handed) (heirs : List ℕ) (pattern : Pattern) (n : ℕ) (p : Place) (es : List Entry) (last : Table) → GoesThrough pattern n (moments_shown handed p.table es) → Follows p.trail es → is_some (trail_after p.trail es).rest ≡ true → Replays handed pattern n p.table es last → refused_among p.executing heirs pattern n es ≡ None → AreNext handed heirs p es
+explained-next handed heirs pattern n p [] last goes follows edges replays spares = tt
+explained-next handed heirs pattern n p (e ∷ es) last goes follows edges replays spares =
+    let stepped : stepped_at handed p.table (pattern (n + 1)) e ≡ stepped_at handed p.table (moment_shown handed p.table e) e = ap (λ (m : Moment). stepped_at handed p.table m e) goes.0 in
     let none = unnamed (names_any (executing_at e.call p.executing heirs) (pattern (n + 1)).exits) (n + 1) (refused_among (executing_after e.call p.executing heirs) heirs pattern (n + 1) es) spares in (
       record {
         asks = follows.0;
@@ -105,8 +103,8 @@ explained-next text heirs pattern n p (e ∷ es) last goes follows edges replays
         gives = ap (λ (s : Stepped). s.answer) (sym stepped) ∙ replays.0;
         spares = ap (λ (m : Moment). names_any (executing_at e.call p.executing heirs) m.exits) (sym goes.0) ∙ none.0;
       },
-      explained-next text heirs pattern (n + 1) (place_after text heirs p e) es last goes.1 follows.1 edges
-          (subst (λ (s : Stepped). Replays text pattern (n + 1) s.table es last) stepped replays.1) none.1,
+      explained-next handed heirs pattern (n + 1) (place_after handed heirs p e) es last goes.1 follows.1 edges
+          (subst (λ (s : Stepped). Replays handed pattern (n + 1) s.table es last) stepped replays.1) none.1,
     )
 
 ---- Of a target
@@ -120,21 +118,21 @@ abbrev pub begins : Table → Record → Target → List Turn → Place
 begins t r target turns = place_at (starts t r target) turns
 
 module _ (t : Table) (r : Record) (target : Target) (turns : List Turn) (es : List Entry) where
-  pub is-explained : AreNext (text_handed r target) (heirs_of r target) (begins t r target turns) es → IsExplainedBy t r target turns es
+  pub is-explained : AreNext (handover_for r target) (heirs_of r target) (begins t r target turns) es → IsExplainedBy t r target turns es
   is-explained all =
-      let text = text_handed r target in
+      let handed = handover_for r target in
       let heirs = heirs_of r target in
       let p = begins t r target turns in
-      let goes = goes-through (pattern_shown t r target es) (moments_shown text t es) (λ n. refl) in
+      let goes = goes-through (pattern_shown t r target es) (moments_shown handed t es) (λ n. refl) in
       record {
-        path = next-follows text heirs p es all;
-        edges = next-edges text heirs p es refl all;
-        last = (place_after_all text heirs p es).table;
-        replays = next-replays text heirs (pattern_shown t r target es) 0 p es goes all;
-        spares = next-spares text heirs (pattern_shown t r target es) 0 p es goes all;
+        path = next-follows handed heirs p es all;
+        edges = next-edges handed heirs p es refl all;
+        last = (place_after_all handed heirs p es).table;
+        replays = next-replays handed heirs (pattern_shown t r target es) 0 p es goes all;
+        spares = next-spares handed heirs (pattern_shown t r target es) 0 p es goes all;
       }
 
-  pub is-next : IsExplainedBy t r target turns es → AreNext (text_handed r target) (heirs_of r target) (begins t r target turns) es
+  pub is-next : IsExplainedBy t r target turns es → AreNext (handover_for r target) (heirs_of r target) (begins t r target turns) es
   is-next h =
-      let goes = goes-through (pattern_shown t r target es) (moments_shown (text_handed r target) t es) (λ n. refl) in
-      explained-next (text_handed r target) (heirs_of r target) (pattern_shown t r target es) 0 (begins t r target turns) es h.last goes h.path h.edges h.replays h.spares
+      let goes = goes-through (pattern_shown t r target es) (moments_shown (handover_for r target) t es) (λ n. refl) in
+      explained-next (handover_for r target) (heirs_of r target) (pattern_shown t r target es) 0 (begins t r target turns) es h.last goes h.path h.edges h.replays h.spares

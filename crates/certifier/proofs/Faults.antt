@@ -18,9 +18,9 @@ use Rattle.vocabulary.specs.declared.calls.Fate.TheVariants as fate
 use Rattle.vocabulary.specs.declared.calls.Reply.{Reply}
 use Rattle.definitions.specs.Table.{Table, Address, Generation, Starting, Master, Worker, Caller, FilePath, live_master, is_worker, is_active, is_starting, is_draining, is_held, owner_at}
 use Rattle.definitions.specs.Calls.{Stepped, gives, opened, forked, spawned, awaited, awaited_gone, lowest_free, with_new_socket, with_new_row, shared, step_with, step_by, own_step, fault_of, fault_if, fault_or_own, has_process_room, is_image, moved_if, suits}
-use Rattle.definitions.specs.Reading.{reading}
 use Rattle.definitions.specs.Tree.{reply_of, same_reply}
 use Rattle.definitions.specs.Run.{Moment}
+use Rattle.definitions.specs.Calls.{Handed}
 use Rattle.certifier.specs.Shown.{fate_of, found_gone, is_count, uncounted, workers_named, moment_by}
 use Rattle.certifier.proofs.Shows.{uncounted-none}
 
@@ -59,16 +59,16 @@ either true t a x y h k = h
 either false t a x y h k = k
 
 -- What a fault is that a fate gives: the fate's, which finds nobody gone, counts nobody, and by itself changes nothing either.
-pub record IsFault (text : List ℕ) (image : ℕ) (c : Caller) (call : Call) (f : Fate) (t : Table) (a : Answer) : Type 0 where
+pub record IsFault (handed : Handed) (image : ℕ) (c : Caller) (call : Call) (f : Fate) (t : Table) (a : Answer) : Type 0 where
   pub named : fate_of a ≡ Some f
   pub nobody : (by : ℕ) → found_gone by call a ≡ []
   pub no_count : is_count a ≡ false
-  pub itself : IsFaultOf t a (own_step text image c call t)
+  pub itself : IsFaultOf t a (own_step handed image c call t)
 
 -- a fault with the name of its fate
-module _ (text : List ℕ) (image : ℕ) (c : Caller) (t : Table) where
-  is-it : (call : Call) (f : Fate) (own a : Answer) → Some own ≡ Some a → IsFault text image c call f t own → IsFault text image c call f t a
-  is-it call f own a same fault = subst (IsFault text image c call f t) (same_Some own a same) fault
+module _ (handed : Handed) (image : ℕ) (c : Caller) (t : Table) where
+  is-it : (call : Call) (f : Fate) (own a : Answer) → Some own ≡ Some a → IsFault handed image c call f t own → IsFault handed image c call f t a
+  is-it call f own a same fault = subst (IsFault handed image c call f t) (same_Some own a same) fault
 
   itself : (a : Answer) → IsFaultOf t a (gives a t)
   itself a same = refl
@@ -129,7 +129,7 @@ module _ (text : List ℕ) (image : ℕ) (c : Caller) (t : Table) where
   moving None from to = itself answer.IoFault
   moving (Some n) from to = other answer.IoFault answer.Fine _ refl
 
-  pub is-fault : (call : Call) (f : Fate) (a : Answer) → fault_of c call f t ≡ Some a → IsFault text image c call f t a
+  pub is-fault : (call : Call) (f : Fate) (a : Answer) → fault_of c call f t ≡ Some a → IsFault handed image c call f t a
   is-fault (OpenAt ad) fate.InUse a h = is-it (OpenAt ad) fate.InUse answer.InUse a h (record { named = refl; nobody = λ by. refl; no_count = refl; itself = open-is ad answer.InUse (itself answer.InUse) (other answer.InUse (answer.Opened (lowest_free c.holds)) _ refl) (other answer.InUse answer.TooMany t refl) })
   is-fault (OpenAt ad) fate.TooMany a h = is-it (OpenAt ad) fate.TooMany answer.TooMany a h (record { named = refl; nobody = λ by. refl; no_count = refl; itself = open-is ad answer.TooMany (other answer.TooMany answer.InUse t refl) (other answer.TooMany (answer.Opened (lowest_free c.holds)) _ refl) (itself answer.TooMany) })
   is-fault (OpenAt ad) fate.Denied a h = is-it (OpenAt ad) fate.Denied answer.Denied a h (record { named = refl; nobody = λ by. refl; no_count = refl; itself = open-is ad answer.Denied (other answer.Denied answer.InUse t refl) (other answer.Denied (answer.Opened (lowest_free c.holds)) _ refl) (other answer.Denied answer.TooMany t refl) })
@@ -141,7 +141,7 @@ module _ (text : List ℕ) (image : ℕ) (c : Caller) (t : Table) where
   is-fault (SpawnMaster i) fate.Again a h = is-it (SpawnMaster i) fate.Again answer.Again a h (record { named = refl; nobody = λ by. refl; no_count = refl; itself = spawn-is i answer.Again (itself answer.Again) (other answer.Again answer.Spawned _ refl) (itself answer.Again) })
   is-fault (SpawnMaster i) fate.NoMemory a h = is-it (SpawnMaster i) fate.NoMemory answer.NoMemory a h (record { named = refl; nobody = λ by. refl; no_count = refl; itself = spawn-is i answer.NoMemory (other answer.NoMemory answer.Again t refl) (other answer.NoMemory answer.Spawned _ refl) (other answer.NoMemory answer.Again t refl) })
   is-fault (SpawnMaster i) fate.NoImage a h = is-it (SpawnMaster i) fate.NoImage answer.NoImage a h (record { named = refl; nobody = λ by. refl; no_count = refl; itself = spawn-is i answer.NoImage (other answer.NoImage answer.Again t refl) (other answer.NoImage answer.Spawned _ refl) (other answer.NoImage answer.Again t refl) })
-  is-fault Adopt fate.Refused a h = is-it Adopt fate.Refused answer.Refused a h (record { named = refl; nobody = λ by. refl; no_count = refl; itself = adopting (suits (reading text) image c.holds) })
+  is-fault Adopt fate.Refused a h = is-it Adopt fate.Refused answer.Refused a h (record { named = refl; nobody = λ by. refl; no_count = refl; itself = adopting (suits handed image c.holds) })
   is-fault (WritePid path) fate.IoFault a h = is-it (WritePid path) fate.IoFault answer.IoFault a h (record { named = refl; nobody = λ by. refl; no_count = refl; itself = other answer.IoFault answer.Fine _ refl })
   is-fault (MovePid from to) fate.IoFault a h = is-it (MovePid from to) fate.IoFault answer.IoFault a h (record { named = refl; nobody = λ by. refl; no_count = refl; itself = moving (owner_at from t.files) from to })
   is-fault (RemovePid path) fate.IoFault a h = is-it (RemovePid path) fate.IoFault answer.IoFault a h (record { named = refl; nobody = λ by. refl; no_count = refl; itself = other answer.IoFault answer.Fine _ refl })
@@ -151,51 +151,51 @@ module _ (text : List ℕ) (image : ℕ) (c : Caller) (t : Table) where
 ---- What is shown of a step under a fate
 
 -- the moment that its entry shows has no exits, and gives the step again
-pub record IsShown (text : List ℕ) (by : ℕ) (c : Option Caller) (call : Call) (t : Table) (s : Stepped) : Type 0 where
-  pub nobody : (moment_by (step_by text by c call None t).answer (record { by = by; call = call; answer = s.answer })).exits ≡ []
-  pub again : step_by text by c call (moment_by (step_by text by c call None t).answer (record { by = by; call = call; answer = s.answer })).fate t ≡ s
+pub record IsShown (handed : Handed) (by : ℕ) (c : Option Caller) (call : Call) (t : Table) (s : Stepped) : Type 0 where
+  pub nobody : (moment_by (step_by handed by c call None t).answer (record { by = by; call = call; answer = s.answer })).exits ≡ []
+  pub again : step_by handed by c call (moment_by (step_by handed by c call None t).answer (record { by = by; call = call; answer = s.answer })).fate t ≡ s
 
 abbrev pub shows_by : Bool → ℕ → Call → Answer → Answer → Moment
 shows_by b by call own a = if b then record { exits = uncounted call a own; fate = None } else record { exits = found_gone by call a; fate = fate_of a }
 
-own-shown : (text : List ℕ) (by : ℕ) (c : Option Caller) (call : Call) (t : Table) → IsShown text by c call t (step_by text by c call None t)
-own-shown text by c call t =
-    let s = step_by text by c call None t in
+own-shown : (handed : Handed) (by : ℕ) (c : Option Caller) (call : Call) (t : Table) → IsShown handed by c call t (step_by handed by c call None t)
+own-shown handed by c call t =
+    let s = step_by handed by c call None t in
     let is : same_reply (reply_of [] s.answer) (reply_of [] s.answer) ≡ true = same-kind (reply_of [] s.answer) in
     record {
       nobody = ap (λ b. (shows_by b by call s.answer s.answer).exits) is ∙ uncounted-same call s.answer;
-      again = ap (λ b. step_by text by c call (shows_by b by call s.answer s.answer).fate t) is;
+      again = ap (λ b. step_by handed by c call (shows_by b by call s.answer s.answer).fate t) is;
     }
 
-fault-shown : (text : List ℕ) (by : ℕ) (c : Caller) (call : Call) (f : Fate) (t : Table) (a : Answer) → fault_of c call f t ≡ Some a → IsShown text by (Some c) call t (gives a t)
-fault-shown text by c call f t a is = go (same_reply (reply_of [] own.answer) (reply_of [] a)) refl
+fault-shown : (handed : Handed) (by : ℕ) (c : Caller) (call : Call) (f : Fate) (t : Table) (a : Answer) → fault_of c call f t ≡ Some a → IsShown handed by (Some c) call t (gives a t)
+fault-shown handed by c call f t a is = go (same_reply (reply_of [] own.answer) (reply_of [] a)) refl
   where
     own : Stepped
-    own = own_step text by c call t
+    own = own_step handed by c call t
 
-    fault : IsFault text by c call f t a
-    fault = is-fault text by c t call f a is
+    fault : IsFault handed by c call f t a
+    fault = is-fault handed by c t call f a is
 
-    go : (b : Bool) → same_reply (reply_of [] (own_step text by c call t).answer) (reply_of [] a) ≡ b → IsShown text by (Some c) call t (gives a t)
+    go : (b : Bool) → same_reply (reply_of [] (own_step handed by c call t).answer) (reply_of [] a) ≡ b → IsShown handed by (Some c) call t (gives a t)
     go true same = record {
-      nobody = ap (λ b. (shows_by b by call (own_step text by c call t).answer a).exits) same ∙ uncounted-none call a (own_step text by c call t).answer fault.no_count;
-      again = ap (λ b. step_by text by (Some c) call (shows_by b by call (own_step text by c call t).answer a).fate t) same ∙ fault.itself same;
+      nobody = ap (λ b. (shows_by b by call (own_step handed by c call t).answer a).exits) same ∙ uncounted-none call a (own_step handed by c call t).answer fault.no_count;
+      again = ap (λ b. step_by handed by (Some c) call (shows_by b by call (own_step handed by c call t).answer a).fate t) same ∙ fault.itself same;
     }
     go false other = record {
-      nobody = ap (λ b. (shows_by b by call (own_step text by c call t).answer a).exits) other ∙ fault.nobody by;
+      nobody = ap (λ b. (shows_by b by call (own_step handed by c call t).answer a).exits) other ∙ fault.nobody by;
       again =
-          ap (λ b. step_by text by (Some c) call (shows_by b by call (own_step text by c call t).answer a).fate t) other
-          ∙ (ap (λ x. step_by text by (Some c) call x t) fault.named ∙ ap (λ o. fault_or_own o text by c call t) is);
+          ap (λ b. step_by handed by (Some c) call (shows_by b by call (own_step handed by c call t).answer a).fate t) other
+          ∙ (ap (λ x. step_by handed by (Some c) call x t) fault.named ∙ ap (λ o. fault_or_own o handed by c call t) is);
     }
 
-step-shown : (text : List ℕ) (by : ℕ) (c : Option Caller) (call : Call) (f : Option Fate) (t : Table) → IsShown text by c call t (step_by text by c call f t)
-step-shown text by None call f t = own-shown text by None call t
-step-shown text by (Some c) call None t = own-shown text by (Some c) call t
-step-shown text by (Some c) call (Some f) t = go (fault_of c call f t) refl
+step-shown : (handed : Handed) (by : ℕ) (c : Option Caller) (call : Call) (f : Option Fate) (t : Table) → IsShown handed by c call t (step_by handed by c call f t)
+step-shown handed by None call f t = own-shown handed by None call t
+step-shown handed by (Some c) call None t = own-shown handed by (Some c) call t
+step-shown handed by (Some c) call (Some f) t = go (fault_of c call f t) refl
   where
-    go : (o : Option Answer) → fault_of c call f t ≡ o → IsShown text by (Some c) call t (fault_or_own o text by c call t)
-    go None is = own-shown text by (Some c) call t
-    go (Some a) is = fault-shown text by c call f t a is
+    go : (o : Option Answer) → fault_of c call f t ≡ o → IsShown handed by (Some c) call t (fault_or_own o handed by c call t)
+    go None is = own-shown handed by (Some c) call t
+    go (Some a) is = fault-shown handed by c call f t a is
 
-pub shown-again : (text : List ℕ) (by : ℕ) (call : Call) (f : Option Fate) (t : Table) → IsShown text by (live_master by t.rows) call t (step_with text by call f t)
-shown-again text by call f t = step-shown text by (live_master by t.rows) call f t
+pub shown-again : (handed : Handed) (by : ℕ) (call : Call) (f : Option Fate) (t : Table) → IsShown handed by (live_master by t.rows) call t (step_with handed by call f t)
+shown-again handed by call f t = step-shown handed by (live_master by t.rows) call f t

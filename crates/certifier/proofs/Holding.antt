@@ -1,9 +1,10 @@
 -- What the end of a replay says of all its entries.
 use Rattle.std.proofs.Common.{◌≡◌, ℕ, ◌+◌, length, List, [], ◌∷◌, ◌++◌, replicate, Result, Ok, Err, sym, ◌∙◌, ap, subst}
 use Rattle.std.specs.Prelude.{IfOk, IfErr}
-use Rattle.definitions.specs.Parts.{Turn, New}
+use Rattle.definitions.specs.Plans.{Turn, New}
 use Rattle.theorems.specs.Apart.{Plays}
-use Rattle.definitions.specs.Path.{Entry, Report, Sides}
+use Rattle.definitions.specs.Run.{Entry, Report, Sides}
+use Rattle.definitions.specs.Calls.{Handed}
 use Rattle.plan_walk.specs.Path.{Trail, IsOver, Reports, trail_after}
 use Rattle.plan_walk.specs.Walk.{trail_under, sides_in}
 use Rattle.kernel_model.specs.Pattern.{moment_at}
@@ -18,7 +19,7 @@ use Rattle.certifier.specs.Places.{Place, Start, place_at, place_under, place_af
 use Rattle.certifier.proofs.Explaining.{next-trail}
 use Rattle.certifier.proofs.Turns.{append-none, plays-first, steady-news, goes-on}
 
-module _ (text heirs : List ℕ) (sides : Sides) (from : Start) (entries : List Entry) (x : Replay) (taken : HasTaken text heirs sides from entries x) where
+module _ (handed : Handed) (heirs : List ℕ) (sides : Sides) (from : Start) (entries : List Entry) (x : Replay) (taken : HasTaken handed heirs sides from entries x) where
   -- the turns that are told lead to what the turns that were used do
   same-told : from.trail x.turns.told ≡ from.trail (used_in x.turns ++ [])
   same-told = sym (ap from.trail (append-none (used_in x.turns)) ∙ steady-news from.trail taken.steady x.turns.told x.turns.late)
@@ -29,9 +30,9 @@ module _ (text heirs : List ℕ) (sides : Sides) (from : Start) (entries : List 
   ---- What it has shown
 
   module _ (section : Section) (pattern : section.pattern ≡ x.pattern) (told : section.turns ≡ x.turns.told) where
-    pub shows-all : Shows text heirs from entries section
+    pub shows-all : Shows handed heirs from entries section
     shows-all = record {
-      next = subst (λ (turns : List Turn). AreNextUnder text heirs from turns entries) (sym told) (subst (λ (p : Place). AreNext text heirs p entries) (sym same-start) (taken.next []));
+      next = subst (λ (turns : List Turn). AreNextUnder handed heirs from turns entries) (sym told) (subst (λ (p : Place). AreNext handed heirs p entries) (sym same-start) (taken.next []));
       turns = record {
         used = λ turns path. subst (Plays turns) (sym told) (plays-first turns x.turns.told (replicate x.turns.late New) (taken.only turns path));
         trimmed = subst IsTrimmed (sym told) taken.trimmed;
@@ -43,8 +44,8 @@ module _ (text heirs : List ℕ) (sides : Sides) (from : Start) (entries : List 
     trail-told : trail_to from section.turns entries ≡ trail_under x.walk []
     trail-told =
         ap (λ (turns : List Turn). trail_to from turns entries) told
-        ∙ (sym (next-trail text heirs (place_at from x.turns.told) entries)
-        ∙ (ap (λ (p : Place). (place_after_all text heirs p entries).trail) same-start ∙ sym (ap (λ (p : Place). p.trail) (taken.place []))))
+        ∙ (sym (next-trail handed heirs (place_at from x.turns.told) entries)
+        ∙ (ap (λ (p : Place). (place_after_all handed heirs p entries).trail) same-start ∙ sym (ap (λ (p : Place). p.trail) (taken.place []))))
 
   ---- How it ends
 
@@ -55,13 +56,13 @@ module _ (text heirs : List ℕ) (sides : Sides) (from : Start) (entries : List 
       let rest = more.one ∷ more.rest in (
         rest,
         ap (λ (t : Trail). trail_after t entries) more.same
-            ∙ (sym (next-trail text heirs (place_at from (used_in x.turns ++ rest)) entries) ∙ sym (ap (λ (p : Place). p.trail) (taken.place rest))),
+            ∙ (sym (next-trail handed heirs (place_at from (used_in x.turns ++ rest)) entries) ∙ sym (ap (λ (p : Place). p.trail) (taken.place rest))),
       )
 
   told-so : (report : Report) (turns : List Turn) → Reports (sides_in x.walk) (trail_under x.walk turns) report ≡ Reports sides (trail_under x.walk turns) report
   told-so report turns = ap (λ (s : Sides). Reports s (trail_under x.walk turns) report) taken.sides_are
 
-  pub ends-well : (report : Report) (result : Result Certificate Mismatch) → IfOk result (λ it. EndsWell x report it.section) → IfOk result (λ it. Holds text heirs sides from entries report it.section)
+  pub ends-well : (report : Report) (result : Result Certificate Mismatch) → IfOk result (λ it. EndsWell x report it.section) → IfOk result (λ it. Holds handed heirs sides from entries report it.section)
   ends-well report (Ok it) h =
       let trail = trail-told it.section h.pattern h.turns in
       record {
@@ -73,17 +74,17 @@ module _ (text heirs : List ℕ) (sides : Sides) (from : Start) (entries : List 
 
   -- the kernel of the replay is led by its entries
   pub ends-led : (calls : ℕ) → x.kernel.room + length entries ≡ calls → (report : Report) (result : Result Certificate Mismatch) → IfOk result (λ it. EndsWell x report it.section) → IfOk result (λ it. it.kernel ≡ x.kernel) →
-      IfOk result (λ it. IsLed text heirs calls (place_at from it.section.turns) entries it.kernel)
+      IfOk result (λ it. IsLed handed heirs calls (place_at from it.section.turns) entries it.kernel)
   ends-led calls room report (Ok it) h same = record {
     table =
         ap (λ (k : State). k.table) same
         ∙ (ap (λ (p : Place). p.table) (taken.place [])
-        ∙ (ap (λ (p : Place). (place_after_all text heirs p entries).table) (sym same-start) ∙ ap (λ (turns : List Turn). (place_under text heirs from turns entries).table) (sym h.turns)));
+        ∙ (ap (λ (p : Place). (place_after_all handed heirs p entries).table) (sym same-start) ∙ ap (λ (turns : List Turn). (place_under handed heirs from turns entries).table) (sym h.turns)));
     room = ap (λ (k : State). k.room + length entries) same ∙ room;
   }
   ends-led calls room report (Err why) h same = tt
 
-  pub ends-badly : (report : Report) (result : Result Certificate Mismatch) → IfErr result (EndsBadly x report) → IfErr result (FailsBy text heirs sides from entries report)
+  pub ends-badly : (report : Report) (result : Result Certificate Mismatch) → IfErr result (EndsBadly x report) → IfErr result (FailsBy handed heirs sides from entries report)
   ends-badly report (Ok it) h = tt
   ends-badly report (Err mismatch.Refused) h = absurd h
   ends-badly report (Err (mismatch.Step n)) h = absurd h
@@ -101,9 +102,9 @@ module _ (text heirs : List ℕ) (sides : Sides) (from : Start) (entries : List 
   }
 
 -- a replay that stops
-pub stops-so : (text heirs : List ℕ) (sides : Sides) (from : Start) (entries : List Entry) (report : Report) (why : Mismatch) → StopsBy text heirs from entries why → FailsBy text heirs sides from entries report why
-stops-so text heirs sides from entries report mismatch.Refused h = h
-stops-so text heirs sides from entries report (mismatch.Step n) h = h
-stops-so text heirs sides from entries report mismatch.Short h = absurd h
-stops-so text heirs sides from entries report mismatch.Report h = absurd h
-stops-so text heirs sides from entries report mismatch.Memory h = h
+pub stops-so : (handed : Handed) (heirs : List ℕ) (sides : Sides) (from : Start) (entries : List Entry) (report : Report) (why : Mismatch) → StopsBy handed heirs from entries why → FailsBy handed heirs sides from entries report why
+stops-so handed heirs sides from entries report mismatch.Refused h = h
+stops-so handed heirs sides from entries report (mismatch.Step n) h = h
+stops-so handed heirs sides from entries report mismatch.Short h = absurd h
+stops-so handed heirs sides from entries report mismatch.Report h = absurd h
+stops-so handed heirs sides from entries report mismatch.Memory h = h

@@ -8,16 +8,15 @@ use Rattle.std.proofs.Math.Seq.{take-add}
 use Rattle.definitions.specs.Table.{Table}
 use Rattle.definitions.specs.Record.{Record}
 use Rattle.vocabulary.specs.declared.targets.Target.{Target}
-use Rattle.definitions.specs.Target.{text_handed, sides_of}
-use Rattle.definitions.specs.Parts.{Turn}
-use Rattle.definitions.specs.Plans.{plan_tree, plan_length}
-use Rattle.definitions.specs.Path.{Entry, Report}
+use Rattle.definitions.specs.Target.{handover_for, sides_of}
+use Rattle.definitions.specs.Plans.{Turn, plan_tree, plan_length}
+use Rattle.definitions.specs.Run.{Entry, Report}
 use Rattle.plan_walk.specs.Path.{KeepsPathLaw}
 use Rattle.definitions.specs.Claims.{refused_among, refusal_of, heirs_of}
 use Rattle.kernel_model.specs.Pattern.{moment_at}
 use Rattle.kernel_pattern.specs.declared.section.Section.{Section}
 use Rattle.kernel_model.specs.Room.{LacksNumbers}
-use Rattle.definitions.specs.After.{lacks_generation}
+use Rattle.service_state.specs.Targets.{lacks_generation}
 use Rattle.reload_planner.specs.declared.refusal.PlanRefusal.{PlanRefusal}
 use Rattle.reload_planner.specs.declared.refusal.PlanRefusal.TheVariants as planner
 use Rattle.plan_executor.specs.declared.enactment.EnactRefusal.{EnactRefusal}
@@ -53,10 +52,10 @@ turns-of t r target entries turns shown = record {
 ---- Entries that are to begin a run
 
 module _ (t : Table) (r : Record) (target : Target) (entries : List Entry) (ready : IsReady t r target) where
-  pub begun : (section : Section) → Shows (text_handed r target) (heirs_of r target) (starts t r target) entries section → IsBeginning t r target entries section
+  pub begun : (section : Section) → Shows (handover_for r target) (heirs_of r target) (starts t r target) entries section → IsBeginning t r target entries section
   begun section h = record { ready = ready; explained = is-explained t r target section.turns entries h.next; turns = turns-of t r target entries section.turns h.turns; shown = h.shown }
 
-  pub unbegun : (why : Mismatch) → StopsBy (text_handed r target) (heirs_of r target) (starts t r target) entries why → (why ≡ mismatch.Memory) ⊎ IsNoBeginning t r target entries why
+  pub unbegun : (why : Mismatch) → StopsBy (handover_for r target) (heirs_of r target) (starts t r target) entries why → (why ≡ mismatch.Memory) ⊎ IsNoBeginning t r target entries why
   unbegun mismatch.Refused h = absurd h
   unbegun (mismatch.Step n) h = inr (record {
     ready = ready;
@@ -75,40 +74,40 @@ module _ (t : Table) (r : Record) (target : Target) (entries : List Entry) (read
 module _ (t : Table) (r : Record) (target : Target) (entries : List Entry) (report : Report) (ready : IsReady t r target) where
   ---- A transcript that holds
 
-  pub whole : (section : Section) → Holds (text_handed r target) (heirs_of r target) (sides_of r target) (starts t r target) entries report section →
-      IsWholeRun r target section.turns (moment_at section.pattern) t entries (place_under (text_handed r target) (heirs_of r target) (starts t r target) section.turns entries).table report
+  pub whole : (section : Section) → Holds (handover_for r target) (heirs_of r target) (sides_of r target) (starts t r target) entries report section →
+      IsWholeRun r target section.turns (moment_at section.pattern) t entries (place_under (handover_for r target) (heirs_of r target) (starts t r target) section.turns entries).table report
   whole section h =
-      let text = text_handed r target in
+      let handed = handover_for r target in
       let heirs = heirs_of r target in
       let sides = sides_of r target in
       let turns = section.turns in
       let pattern = section.pattern in
       let p = begins t r target turns in
       let next = h.shows.next in
-      let goes = goes-through (moment_at pattern) (moments_shown text t entries) h.shows.shown in
+      let goes = goes-through (moment_at pattern) (moments_shown handed t entries) h.shows.shown in
       let trail = trail_by r target turns entries in
       let law : KeepsPathLaw (plan_tree r target turns) r.note sides entries report = record {
-        path = next-follows text heirs p entries next;
+        path = next-follows handed heirs p entries next;
         report_is = h.reports;
-        lost = λ lost. absurd (not-lost sides trail.rest trail.lacking report.outcome (next-edges text heirs p entries refl next) h.reports.outcome lost);
+        lost = λ lost. absurd (not-lost sides trail.rest trail.lacking report.outcome (next-edges handed heirs p entries refl next) h.reports.outcome lost);
       } in
-      whole-run r target turns (moment_at pattern) t (place_after_all text heirs p entries).table entries report law (next-replays text heirs (moment_at pattern) 0 p entries goes next)
+      whole-run r target turns (moment_at pattern) t (place_after_all handed heirs p entries).table entries report law (next-replays handed heirs (moment_at pattern) 0 p entries goes next)
 
   -- no executing master exits in its run
-  pub spares : (section : Section) → Holds (text_handed r target) (heirs_of r target) (sides_of r target) (starts t r target) entries report section → refusal_of r target section.turns (moment_at section.pattern) t ≡ None
+  pub spares : (section : Section) → Holds (handover_for r target) (heirs_of r target) (sides_of r target) (starts t r target) entries report section → refusal_of r target section.turns (moment_at section.pattern) t ≡ None
   spares section h =
-      let text = text_handed r target in
+      let handed = handover_for r target in
       let heirs = heirs_of r target in
       let p = begins t r target section.turns in
-      let goes = goes-through (moment_at section.pattern) (moments_shown text t entries) h.shows.shown in
-      ap (refused_among (r.generation.image ∷ []) heirs (moment_at section.pattern) 0) (whole section h).entries_are ∙ next-spares text heirs (moment_at section.pattern) 0 p entries goes h.shows.next
+      let goes = goes-through (moment_at section.pattern) (moments_shown handed t entries) h.shows.shown in
+      ap (refused_among (r.generation.image ∷ []) heirs (moment_at section.pattern) 0) (whole section h).entries_are ∙ next-spares handed heirs (moment_at section.pattern) 0 p entries goes h.shows.next
 
-  pub certified : (section : Section) → Holds (text_handed r target) (heirs_of r target) (sides_of r target) (starts t r target) entries report section → ActsApart r target section.turns entries → IsCertified t r target entries report section
+  pub certified : (section : Section) → Holds (handover_for r target) (heirs_of r target) (sides_of r target) (starts t r target) entries report section → ActsApart r target section.turns entries → IsCertified t r target entries report section
   certified section h apart = record {
     ready = ready;
     shown = h.shows.shown;
     turns = turns-of t r target entries section.turns h.shows.turns;
-    last = (place_under (text_handed r target) (heirs_of r target) (starts t r target) section.turns entries).table;
+    last = (place_under (handover_for r target) (heirs_of r target) (starts t r target) section.turns entries).table;
     is_run = whole section h;
     spared = spares section h;
     apart = apart;
@@ -116,7 +115,7 @@ module _ (t : Table) (r : Record) (target : Target) (entries : List Entry) (repo
 
   ---- One that does not
 
-  pub mismatched : (why : Mismatch) → FailsBy (text_handed r target) (heirs_of r target) (sides_of r target) (starts t r target) entries report why → (why ≡ mismatch.Memory) ⊎ IsMismatch t r target entries report why
+  pub mismatched : (why : Mismatch) → FailsBy (handover_for r target) (heirs_of r target) (sides_of r target) (starts t r target) entries report why → (why ≡ mismatch.Memory) ⊎ IsMismatch t r target entries report why
   mismatched mismatch.Refused h = unbegun t r target entries ready mismatch.Refused h
   mismatched (mismatch.Step n) h = unbegun t r target entries ready (mismatch.Step n) h
   mismatched mismatch.Short h = inr (record {
@@ -142,10 +141,10 @@ not-both t r target (inr (inr lacks)) ready = ready.numbers lacks
 -- the first of explained entries are explained
 front-explained : (t : Table) (r : Record) (target : Target) (es more whole : List Entry) → whole ≡ es ++ more → IsExplained t r target whole → IsExplained t r target es
 front-explained t r target es more whole split all =
-    let text = text_handed r target in
+    let handed = handover_for r target in
     let heirs = heirs_of r target in
     let p = begins t r target all.0 in
-    (all.0, is-explained t r target all.0 es (next-front text heirs p es more (subst (AreNext text heirs p) split (is-next t r target all.0 whole all.1))))
+    (all.0, is-explained t r target all.0 es (next-front handed heirs p es more (subst (AreNext handed heirs p) split (is-next t r target all.0 whole all.1))))
 
 pub all-explained : (t : Table) (r : Record) (target : Target) (es : List Entry) (k : ℕ) → IsExplained t r target es → IsExplained t r target (take k es)
 all-explained t r target es k = front-explained t r target (take k es) (drop k es) es (sym (take-append-drop k es))
@@ -212,7 +211,7 @@ none-unbegun t r target es ready all mismatch.Report h = h
 none-unbegun t r target es ready all mismatch.Memory h = h
 
 -- none where the transcript holds
-none-fits : (t : Table) (r : Record) (target : Target) (es : List Entry) (report : Report) → IsReady t r target → (section : Section) → Holds (text_handed r target) (heirs_of r target) (sides_of r target) (starts t r target) es report section → (why : Mismatch) → IsMismatch t r target es report why → ⊥
+none-fits : (t : Table) (r : Record) (target : Target) (es : List Entry) (report : Report) → IsReady t r target → (section : Section) → Holds (handover_for r target) (heirs_of r target) (sides_of r target) (starts t r target) es report section → (why : Mismatch) → IsMismatch t r target es report why → ⊥
 none-fits t r target es report ready section holds why h = fits why h
   where
     all : IsExplainedBy t r target section.turns es
@@ -297,8 +296,8 @@ module _ (t : Table) (r : Record) (target : Target) (fits : Mismatch → Type 0)
 
 -- what entries come to that are to begin a run
 pub answered-beginning : (t : Table) (r : Record) (target : Target) (es : List Entry) → IsReady t r target → (result : Result Section Mismatch) →
-    IfOk result (Shows (text_handed r target) (heirs_of r target) (starts t r target) es) →
-    IfErr result (StopsBy (text_handed r target) (heirs_of r target) (starts t r target) es) →
+    IfOk result (Shows (handover_for r target) (heirs_of r target) (starts t r target) es) →
+    IfErr result (StopsBy (handover_for r target) (heirs_of r target) (starts t r target) es) →
     IfOk result (IsBeginning t r target es) × IsExactly (IsNoBeginning t r target es) result
 answered-beginning t r target es ready (Ok section) shows stops =
     let is = begun t r target es ready section shows in (is, exact-held (IsNoBeginning t r target es) section (none-unbegun t r target es ready (section.turns, is.explained)))
@@ -315,8 +314,8 @@ complete-beginning t r target es section (Err why) exact is = elim (exact why) [
 
 -- what a transcript comes to
 pub answered : {T : Type 0} (section_in : T → Section) (t : Table) (r : Record) (target : Target) (es : List Entry) (report : Report) → IsReady t r target → (result : Result T Mismatch) →
-    IfOk result (λ it. Holds (text_handed r target) (heirs_of r target) (sides_of r target) (starts t r target) es report (section_in it)) →
-    IfErr result (FailsBy (text_handed r target) (heirs_of r target) (sides_of r target) (starts t r target) es report) →
+    IfOk result (λ it. Holds (handover_for r target) (heirs_of r target) (sides_of r target) (starts t r target) es report (section_in it)) →
+    IfErr result (FailsBy (handover_for r target) (heirs_of r target) (sides_of r target) (starts t r target) es report) →
     IsExact t r target es report result
 answered section_in t r target es report ready (Ok it) holds fails = exact-held (IsMismatch t r target es report) it (none-fits t r target es report ready (section_in it) holds)
 answered section_in t r target es report ready (Err why) holds fails =

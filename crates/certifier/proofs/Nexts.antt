@@ -1,10 +1,11 @@
 -- An entry that is next at a turn.
 use Rattle.std.proofs.Common.{◌≡◌, Bool, true, false, not, List, [], ◌∷◌, ◌++◌, Option, None, Some, refl, sym, ◌∙◌, ap, subst, is_none, if◌then◌else◌}
-use Rattle.definitions.specs.Parts.{Turn, New}
-use Rattle.definitions.specs.Path.{Entry}
+use Rattle.definitions.specs.Plans.{Turn, New}
+use Rattle.definitions.specs.Run.{Entry}
 use Rattle.plan_walk.specs.Path.{Trail, Asks, advance, rest_after}
 use Rattle.rollback_plan.specs.Following.{follow}
 use Rattle.definitions.specs.Claims.{names_any, executing_at}
+use Rattle.handover_text.specs.Reading.{handed_by}
 use Rattle.rollback_plan.specs.declared.cursor.Cursor.{Cursor}
 use Rattle.rollback_plan.specs.Places.{is_both, without_first}
 use Rattle.plan_walk.specs.declared.walk.Walk.{Walk}
@@ -69,9 +70,9 @@ module _ (x : Replay) (e : Entry) (turn : Turn) (after : Walk) (lost : Bool) (go
   lost-is turns first = is_lost (left_by x.walk turns) ∙ ap (λ (t : Trail). is_none t.rest) (goes.leads turns first)
 
   pub next-at :
-      (stepped_at x.text.now x.kernel.table (moment_shown x.text.now x.kernel.table e) e).answer ≡ e.answer →
-      names_any (executing_at e.call (listed x.executing) (listed x.heir)) (moment_shown x.text.now x.kernel.table e).exits ≡ false →
-      not lost ≡ true → (turns : List Turn) → IsTurnOf x.walk turn turns → IsNext x.text.now (listed x.heir) (place_of x turns) e
+      (stepped_at (handed_by x.text.now) x.kernel.table (moment_shown (handed_by x.text.now) x.kernel.table e) e).answer ≡ e.answer →
+      names_any (executing_at e.call (listed x.executing) (listed x.heir)) (moment_shown (handed_by x.text.now) x.kernel.table e).exits ≡ false →
+      not lost ≡ true → (turns : List Turn) → IsTurnOf x.walk turn turns → IsNext (handed_by x.text.now) (listed x.heir) (place_of x turns) e
   next-at gives spares there turns first = record {
     asks = goes.asks turns first;
     edge = edge-there (follow (trail_under x.walk turns).rest e.answer) (ap not (sym (lost-is turns first)) ∙ there);
@@ -79,5 +80,5 @@ module _ (x : Replay) (e : Entry) (turn : Turn) (after : Walk) (lost : Bool) (go
     spares = spares;
   }
 
-  pub next-edge : (turns : List Turn) → IsTurnOf x.walk turn turns → IsNext x.text.now (listed x.heir) (place_of x turns) e → not lost ≡ true
+  pub next-edge : (turns : List Turn) → IsTurnOf x.walk turn turns → IsNext (handed_by x.text.now) (listed x.heir) (place_of x turns) e → not lost ≡ true
   next-edge turns first next = ap not (lost-is turns first) ∙ edge-leads (follow (trail_under x.walk turns).rest e.answer) next.edge

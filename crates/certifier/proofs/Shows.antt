@@ -7,8 +7,7 @@ use Rattle.vocabulary.specs.declared.calls.Answer.{Answer}
 use Rattle.vocabulary.specs.declared.calls.Answer.TheVariants as answer
 use Rattle.definitions.specs.Exits.{Name}
 use Rattle.definitions.specs.Tree.{reply_of, same_reply}
-use Rattle.definitions.specs.Path.{Entry}
-use Rattle.definitions.specs.Run.{quiet}
+use Rattle.definitions.specs.Run.{Entry, quiet}
 use Rattle.certifier.specs.Shown.{is_count, uncounted, found_gone, fate_of, moment_by}
 
 -- an answer that counts nobody leaves nobody uncounted

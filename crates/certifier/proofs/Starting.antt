@@ -2,10 +2,11 @@
 use Rattle.std.proofs.Common.{◌≡◌, ℕ, zero, suc, ◌≤◌, ◌<◌, ◌^◌, List, [], ◌∷◌, ◌++◌, replicate, Option, None, Some, refl, sym, ◌∙◌, ap, subst, arith}
 use Rattle.definitions.specs.Tree.{Tree, height, End}
 use Rattle.vocabulary.specs.declared.plans.End.TheVariants.{Done, RolledBack, ShortOld, ShortTarget, Split, JoinReady, JoinBack, Join}
-use Rattle.definitions.specs.Parts.{Turn, New, graft, joined}
+use Rattle.definitions.specs.Plans.{Turn, New, graft, joined}
 use Rattle.theorems.specs.Apart.{Plays}
 use Rattle.plan_walk.specs.Path.{Trail, begin}
 use Rattle.definitions.specs.Run.{quiet}
+use Rattle.handover_text.specs.Reading.{handed_by}
 use Rattle.theorems.proofs.LastTurns.{weave-last}
 use Rattle.plan_steps.specs.declared.parts.Parts.{Parts}
 use Rattle.plan_steps.specs.declared.step.Step.{Step}
@@ -63,7 +64,7 @@ pub record IsFresh (plan : Plan) (x : Replay) : Type 0 where
   pub told : x.turns.told ≡ []
   pub late : x.turns.late ≡ 0
 
-pub nothing-taken : (plan : Plan) (x : Replay) → IsFresh plan x → HasTaken x.text.now (listed x.heir) (sides_in x.walk) (start_of x) [] x
+pub nothing-taken : (plan : Plan) (x : Replay) → IsFresh plan x → HasTaken (handed_by x.text.now) (listed x.heir) (sides_in x.walk) (start_of x) [] x
 nothing-taken plan x fresh =
     let none : used_in x.turns ≡ [] = λ i. fresh.told i ++ replicate (fresh.late i) New in
     let quiets : (n : ℕ) → moment_at x.pattern n ≡ moment_at [] n = λ n. ap (λ p. moment_at p n) fresh.pattern in
@@ -75,7 +76,7 @@ nothing-taken plan x fresh =
         uncounted = omega (arith, fresh.late);
         later = λ n _. quiets n ∙ no-quiet n;
       };
-      text_is = refl;
+      handed_is = refl;
       heirs_are = refl;
       sides_are = refl;
       number = fresh.number;

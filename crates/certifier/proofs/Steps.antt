@@ -3,37 +3,37 @@ use Rattle.std.proofs.Common.{◌≡◌, ℕ, suc, zero, ◌+◌, nat_eq, false,
 use Rattle.std.specs.Prelude.{if◌then◌else◌, unwrap_or, slice_get}
 use Rattle.std.proofs.lemmas.Bool.Decides.{nat_tests}
 use Rattle.definitions.specs.Table.{Table}
-use Rattle.definitions.specs.Path.{Entry}
-use Rattle.definitions.specs.Run.{Moment, quiet}
+use Rattle.definitions.specs.Run.{Entry, Moment, quiet}
+use Rattle.definitions.specs.Calls.{Handed}
 use Rattle.certifier.specs.Shown.{moment_shown, moments_shown, pattern_of, stepped_at}
 use Rattle.certifier.specs.Places.{Place, IsNext, place_after, place_after_all, AreNext}
 
-pub next-push : (text heirs : List ℕ) (p : Place) (es : List Entry) (e : Entry) → AreNext text heirs p es → IsNext text heirs (place_after_all text heirs p es) e → AreNext text heirs p (es ++ e ∷ [])
-next-push text heirs p [] e all next = (next, tt)
-next-push text heirs p (x ∷ es) e all next = (all.0, next-push text heirs (place_after text heirs p x) es e all.1 next)
+pub next-push : (handed : Handed) (heirs : List ℕ) (p : Place) (es : List Entry) (e : Entry) → AreNext handed heirs p es → IsNext handed heirs (place_after_all handed heirs p es) e → AreNext handed heirs p (es ++ e ∷ [])
+next-push handed heirs p [] e all next = (next, tt)
+next-push handed heirs p (x ∷ es) e all next = (all.0, next-push handed heirs (place_after handed heirs p x) es e all.1 next)
 
-pub next-last : (text heirs : List ℕ) (p : Place) (es : List Entry) (e : Entry) → AreNext text heirs p (es ++ e ∷ []) → IsNext text heirs (place_after_all text heirs p es) e
-next-last text heirs p [] e all = all.0
-next-last text heirs p (x ∷ es) e all = next-last text heirs (place_after text heirs p x) es e all.1
+pub next-last : (handed : Handed) (heirs : List ℕ) (p : Place) (es : List Entry) (e : Entry) → AreNext handed heirs p (es ++ e ∷ []) → IsNext handed heirs (place_after_all handed heirs p es) e
+next-last handed heirs p [] e all = all.0
+next-last handed heirs p (x ∷ es) e all = next-last handed heirs (place_after handed heirs p x) es e all.1
 
-pub place-push : (text heirs : List ℕ) (p : Place) (es : List Entry) (e : Entry) → place_after_all text heirs p (es ++ e ∷ []) ≡ place_after text heirs (place_after_all text heirs p es) e
-place-push text heirs p [] e = refl
-place-push text heirs p (x ∷ es) e = place-push text heirs (place_after text heirs p x) es e
+pub place-push : (handed : Handed) (heirs : List ℕ) (p : Place) (es : List Entry) (e : Entry) → place_after_all handed heirs p (es ++ e ∷ []) ≡ place_after handed heirs (place_after_all handed heirs p es) e
+place-push handed heirs p [] e = refl
+place-push handed heirs p (x ∷ es) e = place-push handed heirs (place_after handed heirs p x) es e
 
 -- entries before others that are next are next
-pub next-front : (text heirs : List ℕ) (p : Place) (es more : List Entry) → AreNext text heirs p (es ++ more) → AreNext text heirs p es
-next-front text heirs p [] more all = tt
-next-front text heirs p (x ∷ es) more all = (all.0, next-front text heirs (place_after text heirs p x) es more all.1)
+pub next-front : (handed : Handed) (heirs : List ℕ) (p : Place) (es more : List Entry) → AreNext handed heirs p (es ++ more) → AreNext handed heirs p es
+next-front handed heirs p [] more all = tt
+next-front handed heirs p (x ∷ es) more all = (all.0, next-front handed heirs (place_after handed heirs p x) es more all.1)
 
 ---- Moments
 
-pub moments-push : (text heirs : List ℕ) (p : Place) (es : List Entry) (e : Entry) → moments_shown text p.table (es ++ e ∷ []) ≡ moments_shown text p.table es ++ moment_shown text (place_after_all text heirs p es).table e ∷ []
-moments-push text heirs p [] e = refl
-moments-push text heirs p (x ∷ es) e = ap (λ ms. moment_shown text p.table x ∷ ms) (moments-push text heirs (place_after text heirs p x) es e)
+pub moments-push : (handed : Handed) (heirs : List ℕ) (p : Place) (es : List Entry) (e : Entry) → moments_shown handed p.table (es ++ e ∷ []) ≡ moments_shown handed p.table es ++ moment_shown handed (place_after_all handed heirs p es).table e ∷ []
+moments-push handed heirs p [] e = refl
+moments-push handed heirs p (x ∷ es) e = ap (λ ms. moment_shown handed p.table x ∷ ms) (moments-push handed heirs (place_after handed heirs p x) es e)
 
-pub moments-length : (text : List ℕ) (t : Table) (es : List Entry) → length (moments_shown text t es) ≡ length es
-moments-length text t [] = refl
-moments-length text t (e ∷ es) = let more = moments-length text (stepped_at text t (moment_shown text t e) e).table es in omega (arith, more)
+pub moments-length : (handed : Handed) (t : Table) (es : List Entry) → length (moments_shown handed t es) ≡ length es
+moments-length handed t [] = refl
+moments-length handed t (e ∷ es) = let more = moments-length handed (stepped_at handed t (moment_shown handed t e) e).table es in omega (arith, more)
 
 got-push : (ms : List Moment) (m : Moment) (n : ℕ) → unwrap_or (slice_get (ms ++ m ∷ []) n) quiet ≡ (if nat_eq n (length ms) then m else unwrap_or (slice_get ms n) quiet)
 got-push [] m zero = refl

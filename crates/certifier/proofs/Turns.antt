@@ -1,6 +1,6 @@
 -- Lists of turns, and the trails that they lead along.
 use Rattle.std.proofs.Common.{◌≡◌, ℕ, zero, suc, ◌-◌, ◌<◌, ◌≤◌, List, [], ◌∷◌, ◌++◌, length, replicate, refl, sym, ◌∙◌, ap, arith, append_assoc}
-use Rattle.definitions.specs.Parts.{Turn, New, Old}
+use Rattle.definitions.specs.Plans.{Turn, New, Old}
 use Rattle.theorems.specs.Apart.{Plays}
 use Rattle.certifier.specs.Turns.{IsTrimmed}
 

@@ -4,10 +4,9 @@ use Rattle.definitions.specs.Table.{Table}
 use Rattle.definitions.specs.Record.{Record}
 use Rattle.definitions.specs.Calls.{Fate}
 use Rattle.vocabulary.specs.declared.targets.Target.{Target}
-use Rattle.definitions.specs.Path.{Entry, Report}
-use Rattle.definitions.specs.Parts.{Turn}
+use Rattle.definitions.specs.Run.{Entry, Report, Pattern}
+use Rattle.definitions.specs.Plans.{Turn}
 use Rattle.theorems.specs.Apart.{Plays}
-use Rattle.definitions.specs.Run.{Pattern}
 use Rattle.definitions.specs.Claims.{refusal_of}
 use Rattle.definitions.specs.After.{next_record}
 use Rattle.kernel_model.specs.Pattern.{moment_at}

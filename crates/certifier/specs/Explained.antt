@@ -3,13 +3,11 @@ use Rattle.std.specs.Prelude.{ℕ, ◌+◌, ◌≡◌, ◌≤◌, ◌⊎◌, tru
 use Rattle.definitions.specs.Table.{Table}
 use Rattle.definitions.specs.Record.{Record, Agrees}
 use Rattle.vocabulary.specs.declared.targets.Target.{Target}
-use Rattle.definitions.specs.Target.{text_handed, sides_of}
-use Rattle.definitions.specs.After.{lacks_generation}
-use Rattle.definitions.specs.Parts.{Turn}
-use Rattle.definitions.specs.Plans.{plan_tree, plan_length}
-use Rattle.definitions.specs.Path.{Entry, Report}
+use Rattle.definitions.specs.Target.{handover_for, sides_of}
+use Rattle.service_state.specs.Targets.{lacks_generation}
+use Rattle.definitions.specs.Plans.{Turn, plan_tree, plan_length}
+use Rattle.definitions.specs.Run.{Entry, Report, Pattern}
 use Rattle.plan_walk.specs.Path.{Trail, begin, trail_after, Follows, IsOver, Reports}
-use Rattle.definitions.specs.Run.{Pattern}
 use Rattle.plan_executor.specs.Replays.{Replays}
 use Rattle.definitions.specs.Claims.{heirs_of, refused_among}
 use Rattle.kernel_model.specs.Room.{LacksNumbers}
@@ -20,7 +18,7 @@ use Rattle.mismatches.specs.declared.Mismatch.TheVariants as mismatch
 
 -- The pattern that the entries of a target show.
 abbrev pub pattern_shown : Table → Record → Target → List Entry → Pattern
-pattern_shown t r target entries = pattern_of (moments_shown (text_handed r target) t entries)
+pattern_shown t r target entries = pattern_of (moments_shown (handover_for r target) t entries)
 
 -- how far the target's plan has come by the entries, where the masters take these turns
 abbrev pub trail_by : Record → Target → List Turn → List Entry → Trail
@@ -36,7 +34,7 @@ pub record IsExplainedBy (t : Table) (r : Record) (target : Target) (turns : Lis
   pub path : IsPath r target turns entries
   pub edges : is_some (trail_by r target turns entries).rest ≡ true
   pub last : Table
-  pub replays : Replays (text_handed r target) (pattern_shown t r target entries) 0 t entries last
+  pub replays : Replays (handover_for r target) (pattern_shown t r target entries) 0 t entries last
   pub spares : refused_among (r.generation.image ∷ []) (heirs_of r target) (pattern_shown t r target entries) 0 entries ≡ None
 
 -- Under some turns they are.

@@ -4,12 +4,11 @@ use Rattle.listener_set.specs.Numbers.{lacks}
 use Rattle.definitions.specs.Table.{Table}
 use Rattle.definitions.specs.Exits.{Name, after_exits}
 use Rattle.vocabulary.specs.declared.names.Name.TheVariants as name
-use Rattle.definitions.specs.Calls.{Call, Answer, AwaitReady, Alive, Census, Fate, Stepped, step_with}
+use Rattle.definitions.specs.Calls.{Call, Answer, AwaitReady, Alive, Census, Fate, Stepped, step_with, Handed}
 use Rattle.vocabulary.specs.declared.calls.Answer.TheVariants as answer
 use Rattle.vocabulary.specs.declared.calls.Fate.TheVariants as fate
 use Rattle.definitions.specs.Tree.{reply_of, same_reply}
-use Rattle.definitions.specs.Path.{Entry}
-use Rattle.definitions.specs.Run.{Moment, quiet, Pattern}
+use Rattle.definitions.specs.Run.{Entry, Moment, quiet, Pattern}
 
 -- The fate that makes a call fail so; other answers are no faults.
 abbrev pub fate_of : Answer → Option Fate
@@ -66,18 +65,18 @@ moment_by own e =
     else record { exits = found_gone e.by e.call e.answer; fate = fate_of e.answer }
 
 -- The moment that an entry shows on the table before it.
-abbrev pub moment_shown : List ℕ → Table → Entry → Moment
-moment_shown text t e = moment_by (step_with text e.by e.call None t).answer e
+abbrev pub moment_shown : Handed → Table → Entry → Moment
+moment_shown handed t e = moment_by (step_with handed e.by e.call None t).answer e
 
 -- what an entry's call gives at a moment
-abbrev pub stepped_at : List ℕ → Table → Moment → Entry → Stepped
-stepped_at text t m e = step_with text e.by e.call m.fate (after_exits m.exits t)
+abbrev pub stepped_at : Handed → Table → Moment → Entry → Stepped
+stepped_at handed t m e = step_with handed e.by e.call m.fate (after_exits m.exits t)
 
 -- The moments that entries show, each on the table that those before it lead to.
-abbrev pub moments_shown : List ℕ → Table → List Entry → List Moment
-moments_shown text t [] = []
-moments_shown text t (e ∷ entries) =
-    let m = moment_shown text t e in m ∷ moments_shown text (stepped_at text t m e).table entries
+abbrev pub moments_shown : Handed → Table → List Entry → List Moment
+moments_shown handed t [] = []
+moments_shown handed t (e ∷ entries) =
+    let m = moment_shown handed t e in m ∷ moments_shown handed (stepped_at handed t m e).table entries
 
 -- The pattern of some moments, the first being number 1. All others are quiet.
 abbrev pub pattern_of : List Moment → Pattern

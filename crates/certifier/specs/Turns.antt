@@ -1,6 +1,6 @@
 -- The turns that entries use.
 use Rattle.std.specs.Prelude.{◌≡◌, List, [], ◌∷◌, ◌++◌, replicate}
-use Rattle.definitions.specs.Parts.{Turn, New}
+use Rattle.definitions.specs.Plans.{Turn, New}
 use Rattle.theorems.specs.Apart.{Plays}
 use Rattle.plan_walk.specs.declared.walk.Walk.{Walk}
 use Rattle.plan_walk.specs.Walk.{left_by, IsTurnOf}

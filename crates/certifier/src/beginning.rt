@@ -1,6 +1,6 @@
 //! The beginning of a run, held against the modelled kernel.
 ghost use Rattle.std.specs.Prelude.{◌≡◌, ◌⊎◌, ◌↔◌, IfOk, IfErr, IsErrOf};
-ghost use Rattle.definitions.specs.Target.{IsTarget};
+ghost use Rattle.service_state.specs.Targets.{IsTarget};
 ghost use Rattle.kernel_pattern.specs.declared.section.Section.{Section as Shown};
 ghost use Rattle.plan_executor.specs.Refusals.{IsPlannable};
 ghost use Rattle.certifier.specs.Explained.{IsNoBeginning};

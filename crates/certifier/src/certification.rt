@@ -1,6 +1,7 @@
 //! A transcript, held against the modelled kernel.
 ghost use Rattle.std.specs.Prelude.{◌≡◌, ◌+◌, ◌⊎◌, ◌↔◌, length, IfOk, IfErr, IsErrOf};
-ghost use Rattle.definitions.specs.Target.{IsTarget};
+ghost use Rattle.service_state.specs.Targets.{IsTarget};
+ghost use Rattle.handover_text.specs.Reading.{handed_by};
 ghost use Rattle.rollback_plan.specs.Plans.{length_of, sides_told, text_of};
 ghost use Rattle.plan_executor.specs.Naming.{listed};
 ghost use Rattle.plan_executor.specs.Refusals.{IsPlannable};
@@ -30,8 +31,8 @@ pub(crate) fn replay_all<'a>(
     log: &Transcript,
 ) -> Result<Replay<'a>, Mismatch>
     requires { kernel.room ≡ length_of plan.now }
-    ensures ok { IfOk result (HasTaken (text_of plan.now) (listed heir) (sides_told plan.now) (planned_start plan.now kernel.table image) log.now.entries) }
-    ensures err { IfErr result (StopsBy (text_of plan.now) (listed heir) (planned_start plan.now kernel.table image) log.now.entries) }
+    ensures ok { IfOk result (HasTaken (handed_by (text_of plan.now)) (listed heir) (sides_told plan.now) (planned_start plan.now kernel.table image) log.now.entries) }
+    ensures err { IfErr result (StopsBy (handed_by (text_of plan.now)) (listed heir) (planned_start plan.now kernel.table image) log.now.entries) }
     ensures left { IfOk result (λ replay. replay.kernel.room + length log.now.entries ≡ length_of plan.now) }
 {
     let mut replay = Replay::new(alloc, plan, kernel, image, heir);

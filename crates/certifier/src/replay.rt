@@ -1,6 +1,7 @@
 //! A transcript, replayed entry by entry.
 ghost use Rattle.std.specs.Prelude.{◌≡◌, ◌+◌, ◌↔◌, List, [], IsTrue, IfOk, IfErr};
-ghost use Rattle.definitions.specs.Parts.{Turn};
+ghost use Rattle.definitions.specs.Plans.{Turn};
+ghost use Rattle.handover_text.specs.Reading.{handed_by};
 ghost use Rattle.plan_walk.specs.Path.{Asks};
 ghost use Rattle.rollback_plan.specs.Plans.{length_of, sides_told, text_of};
 ghost use Rattle.plan_walk.specs.Walk.{trail_under, sides_in, IsTurnOf};
@@ -66,7 +67,7 @@ impl<'a> Replay<'a> {
         ensures heir { result.heir ≡ heir }
         ensures sides { sides_in result.walk ≡ sides_told plan.now }
         ensures room { result.kernel.room ≡ kernel.room }
-        ensures taken { HasTaken result.text.now (listed result.heir) (sides_in result.walk) (start_of result) [] result }
+        ensures taken { HasTaken (handed_by result.text.now) (listed result.heir) (sides_in result.walk) (start_of result) [] result }
     {
         Replay {
             walk: Walk::new(plan),

@@ -1,6 +1,8 @@
 //! What an entry shows of the moment before its call.
 ghost use Rattle.std.specs.Prelude.{◌≡◌, ◌≤◌, ◌==◌, ℕ, List, map, None, false, OnOk, IfSome, if◌then◌else◌};
+ghost use Rattle.definitions.specs.Calls.{Handed};
 ghost use Rattle.definitions.specs.Run.{quiet};
+ghost use Rattle.handover_text.specs.Reading.{handed_by};
 ghost use Rattle.kernel_model.specs.Pattern.{moment_at, IsNameWithin};
 ghost use Rattle.certifier.specs.Shown.{fate_of, awaited_one, found_gone, named, is_count, moment_shown};
 
@@ -108,7 +110,7 @@ fn show_uncounted(
 ) -> Result<(), AllocError>
     requires number { 1 ≤ number }
     requires quiet { moment_at pattern.old number ≡ quiet }
-    ensures { (text : List ℕ) → OnOk result ((n : ℕ) → moment_at pattern.new n ≡ (if n == number then moment_shown text kernel.now.table (record { by = by; call = call.now; answer = Answer.Counted counted.now }) else moment_at pattern.old n)) }
+    ensures { (handed : Handed) → OnOk result ((n : ℕ) → moment_at pattern.new n ≡ (if n == number then moment_shown handed kernel.now.table (record { by = by; call = call.now; answer = Answer.Counted counted.now }) else moment_at pattern.old n)) }
 {
     let Call::Census(generation) = *call else {
         return Ok(());
@@ -122,7 +124,7 @@ fn show_uncounted(
 /// Who is found gone, and the fault, where the call isn't answered so by itself.
 fn fault_shown(kernel: &Kernel, text: &[u8], entry: &Entry) -> (Option<Name>, Option<Fate>)
     requires { is_count entry.now.answer ≡ false }
-    ensures shown { moment_shown text.now kernel.now.table entry.now ≡ record { exits = named result.0; fate = result.1 } }
+    ensures shown { moment_shown (handed_by text.now) kernel.now.table entry.now ≡ record { exits = named result.0; fate = result.1 } }
     ensures within { IfSome result.0 IsNameWithin }
 {
     let gone = found_gone(entry.by, &entry.call, &entry.answer);
@@ -147,7 +149,7 @@ pub(crate) fn show(
 ) -> Result<(), AllocError>
     requires number { 1 ≤ number }
     requires quiet { moment_at pattern.old number ≡ quiet }
-    ensures { OnOk result ((n : ℕ) → moment_at pattern.new n ≡ (if n == number then moment_shown text.now kernel.now.table entry.now else moment_at pattern.old n)) }
+    ensures { OnOk result ((n : ℕ) → moment_at pattern.new n ≡ (if n == number then moment_shown (handed_by text.now) kernel.now.table entry.now else moment_at pattern.old n)) }
 {
     match &entry.answer {
         Answer::Counted(counted) => {

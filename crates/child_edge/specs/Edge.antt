@@ -2,7 +2,7 @@
 use Rattle.std.specs.Prelude.{◌≡◌, ℕ, ◌==◌, Bool, true, false, ◌&&◌, List, [], ◌∷◌, ◌++◌, Option, Some, None, IfSome, is_some, if◌then◌else◌}
 use Rattle.vocabulary.specs.declared.reports.Entry.{Entry}
 use Rattle.definitions.specs.Record.{Record}
-use Rattle.definitions.specs.Handover.{Handover}
+use Rattle.definitions.specs.Calls.{Handover}
 use Rattle.child_family.specs.Told.{Told}
 use Rattle.child_family.specs.Talk.{IsHeld}
 use Rattle.child_workers.specs.declared.worker.Worker.{Worker}

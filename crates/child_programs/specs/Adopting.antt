@@ -1,9 +1,9 @@
 -- How a new master serves, from the first line of its handover on.
 use Rattle.std.specs.Prelude.{⊤, ℕ, ◌≡◌, ◌⊎◌, List, [], ◌∷◌, ◌++◌, Option, Some, None, Ok, Err}
-use Rattle.definitions.specs.Calls.{Call, Answer}
+use Rattle.definitions.specs.Calls.{Call, Answer, Handover}
 use Rattle.vocabulary.specs.declared.calls.Answer.TheVariants.{Counted}
-use Rattle.definitions.specs.Handover.{Handover, HandoverRefusal}
-use Rattle.definitions.specs.Reading.{reading}
+use Rattle.handover_text.specs.Spelling.{HandoverRefusal}
+use Rattle.handover_text.specs.Reading.{reading}
 use Rattle.child_family.specs.declared.family.Family.{Ghosts}
 use Rattle.child_family.specs.Talk.{Held}
 use Rattle.child_edge.specs.declared.edge.Edge.{Edge}

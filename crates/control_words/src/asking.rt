@@ -1,7 +1,7 @@
 //! What words ask of a master.
 ghost use Rattle.std.specs.Prelude.{◌≡◌, IfOk, IfSome};
 ghost use Rattle.std.specs.Option.{option_copied};
-ghost use Rattle.definitions.specs.Target.{IsTarget};
+ghost use Rattle.service_state.specs.Targets.{IsTarget};
 ghost use Rattle.control_words.specs.Words.{target_of, settings_for};
 
 use crate::{Word, WordRefusal};

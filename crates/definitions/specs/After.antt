@@ -13,7 +13,8 @@ use Rattle.definitions.specs.Crew.{Posts, Crew, posts_of}
 use Rattle.definitions.specs.Record.{Listener, Record}
 use Rattle.definitions.specs.Target.{generation_wanted, Target}
 use Rattle.definitions.specs.Tree.{Old, Target as TargetSide}
-use Rattle.definitions.specs.Path.{Report, Outcome}
+use Rattle.vocabulary.specs.declared.reports.Report.{Report}
+use Rattle.vocabulary.specs.declared.reports.Outcome.{Outcome}
 
 ---- Listeners that open and close
 
@@ -111,13 +112,6 @@ next_config g = numbered (Some g.image) (next_number g.config)
 -- the generation of an upgrade
 abbrev pub next_image : Generation → Option Generation
 next_image g = numbered (next_number g.image) (next_number g.config)
-
--- a reload or an upgrade that has no generation, since a number would pass its limit
-abbrev pub lacks_generation : Record → Target → Bool
-lacks_generation r (target.Reload s) = is_none (next_config r.generation)
-lacks_generation r (target.Upgrade s) = is_none (next_image r.generation)
-lacks_generation r (target.Attended s) = is_none (next_image r.generation)
-lacks_generation r _ = false
 
 -- the service of new settings
 abbrev pub renewed : Settings → Posts → Option (List Listener) → Option Generation → Option Setup

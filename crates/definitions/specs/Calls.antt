@@ -5,7 +5,7 @@
 
 use Rattle.std.specs.Prelude.{◌≡◌, ◌+◌, ◌&&◌, ◌==◌, ◌∷◌, ◌++◌, if◌then◌else◌}
 use Rattle.vocabulary.specs.Words.{refl, ℕ, Bool, true, false, nat_lt, not, List, [], Option, Some, None, filter}
-use Rattle.vocabulary.specs.Words.{count_by, length, zero, suc, bytes_eq, Result, Ok, Err, list_any, filter_map}
+use Rattle.vocabulary.specs.Words.{count_by, length, zero, suc, bytes_eq, list_any, filter_map, Group}
 use Rattle.vocabulary.specs.Words.{numbers_below, is_in}
 use Rattle.vocabulary.specs.declared.calls.Answer.TheVariants as answer
 use Rattle.vocabulary.specs.declared.calls.Fate.TheVariants as fate
@@ -14,8 +14,6 @@ use Rattle.definitions.specs.Table.{Starting, Ready, Draining, Process, Master, 
 use Rattle.definitions.specs.Table.{is_starting, is_ready, is_active, is_exited, is_any, is_worker, is_own, is_at}
 use Rattle.definitions.specs.Table.{is_held, Caller, live_master}
 use Rattle.definitions.specs.Exits.{change}
-use Rattle.definitions.specs.Handover.{Handover, HandoverRefusal}
-use Rattle.definitions.specs.Reading.{reading}
 pub use Rattle.vocabulary.specs.declared.calls.Call.{Call}
 pub use Rattle.vocabulary.specs.declared.calls.Call.TheVariants.{OpenAt, CloseAt, Fork, AwaitReady, Quit, Kill, Census}
 pub use Rattle.vocabulary.specs.declared.calls.Call.TheVariants.{AwaitGone, SpawnMaster, Adopt, WritePid, MovePid}
@@ -206,6 +204,21 @@ terminated image t = gives answer.Fine (each_row (drop_where (is_of_image image 
 
 ---- Adopt
 
+-- What an old master tells a new one: its process number, the generation that is to run, its listeners in ascending
+-- descriptors, the addresses that are wanted, the groups of workers, each of which takes the next so many of these
+-- addresses, and the pid file.
+pub record Handover : Type 0 where
+  pub old_pid : ℕ
+  pub generation : Generation
+  pub listeners : List Listener
+  pub want : List Address
+  pub groups : List Group
+  pub pid_file : Option FilePath
+
+-- What a new master is handed: a handover, or nothing that is one.
+abbrev pub Handed : Type 0
+Handed = Option Handover
+
 -- the descriptors and addresses of these holds, and no other
 abbrev pub are_listeners : List Listener → List Hold → Bool
 are_listeners [] [] = true
@@ -213,13 +226,13 @@ are_listeners [] (h ∷ hs) = false
 are_listeners (l ∷ ls) [] = false
 are_listeners (l ∷ ls) (h ∷ hs) = (l.descriptor == h.fd) && (bytes_eq l.address h.address && are_listeners ls hs)
 
-abbrev pub suits : Result Handover HandoverRefusal → ℕ → List Hold → Bool
-suits (Ok h) image holds = (h.generation.image == image) && are_listeners h.listeners holds
-suits (Err e) image holds = false
+abbrev pub suits : Handed → ℕ → List Hold → Bool
+suits None image holds = false
+suits (Some h) image holds = (h.generation.image == image) && are_listeners h.listeners holds
 
--- The text reads as a handover to the caller's image, with exactly the caller's descriptors and addresses.
-abbrev pub adopted : List ℕ → ℕ → Caller → Table → Stepped
-adopted text image c t = if suits (reading text) image c.holds then gives answer.Adopted t else gives answer.Refused t
+-- What is handed is a handover to the caller's image, with exactly the caller's descriptors and addresses.
+abbrev pub adopted : Handed → ℕ → Caller → Table → Stepped
+adopted handed image c t = if suits handed image c.holds then gives answer.Adopted t else gives answer.Refused t
 
 ---- Files
 
@@ -266,26 +279,26 @@ departed c t = gives answer.Fine (each_row (without_master c.number) t)
 
 ---- The order in a call
 
--- The call's own answer, to a caller that lives, of that image, which is handed that text.
-abbrev pub own_step : List ℕ → ℕ → Caller → Call → Table → Stepped
-own_step text image c (OpenAt a) t = opened c a t
-own_step text image c (CloseAt a) t = closed c a t
-own_step text image c (Fork g k fds) t = forked c g k fds t
-own_step text image c (AwaitReady g k) t = awaited c g k t
-own_step text image c (Quit g k) t = quitted c g k t
-own_step text image c (Kill g k) t = killed c g k t
-own_step text image c (Census g) t = counted c g t
-own_step text image c (AwaitGone g k) t = awaited_gone c g k t
-own_step text image c (SpawnMaster i) t = spawned c i t
-own_step text image c Adopt t = adopted text image c t
-own_step text image c (WritePid path) t = written c path t
-own_step text image c (MovePid from to) t = moved from to t
-own_step text image c (RemovePid path) t = unlinked path t
-own_step text image c (Alive i) t = asked_alive (live_master i t.rows) i t
-own_step text image c Leave t = departed c t
-own_step text image c (Usr1 g k) t = gives answer.Fine t
-own_step text image c (TermMaster i) t = terminated i t
-own_step text image c (Ask n) t = gives answer.Go t
+-- The call's own answer, to a caller that lives, of that image, which is handed that.
+abbrev pub own_step : Handed → ℕ → Caller → Call → Table → Stepped
+own_step handed image c (OpenAt a) t = opened c a t
+own_step handed image c (CloseAt a) t = closed c a t
+own_step handed image c (Fork g k fds) t = forked c g k fds t
+own_step handed image c (AwaitReady g k) t = awaited c g k t
+own_step handed image c (Quit g k) t = quitted c g k t
+own_step handed image c (Kill g k) t = killed c g k t
+own_step handed image c (Census g) t = counted c g t
+own_step handed image c (AwaitGone g k) t = awaited_gone c g k t
+own_step handed image c (SpawnMaster i) t = spawned c i t
+own_step handed image c Adopt t = adopted handed image c t
+own_step handed image c (WritePid path) t = written c path t
+own_step handed image c (MovePid from to) t = moved from to t
+own_step handed image c (RemovePid path) t = unlinked path t
+own_step handed image c (Alive i) t = asked_alive (live_master i t.rows) i t
+own_step handed image c Leave t = departed c t
+own_step handed image c (Usr1 g k) t = gives answer.Fine t
+own_step handed image c (TermMaster i) t = terminated i t
+own_step handed image c (Ask n) t = gives answer.Go t
 
 abbrev pub fault_if : Bool → Answer → Option Answer
 fault_if true a = Some a
@@ -315,18 +328,18 @@ abbrev pub fault_at : Caller → Call → Option Fate → Table → Option Answe
 fault_at c call None t = None
 fault_at c call (Some f) t = fault_of c call f t
 
-abbrev pub fault_or_own : Option Answer → List ℕ → ℕ → Caller → Call → Table → Stepped
-fault_or_own (Some a) text image c call t = gives a t
-fault_or_own None text image c call t = own_step text image c call t
+abbrev pub fault_or_own : Option Answer → Handed → ℕ → Caller → Call → Table → Stepped
+fault_or_own (Some a) handed image c call t = gives a t
+fault_or_own None handed image c call t = own_step handed image c call t
 
-abbrev pub step_by : List ℕ → ℕ → Option Caller → Call → Option Fate → Table → Stepped
-step_by text image None call f t = gives answer.MasterGone t
-step_by text image (Some c) call f t = fault_or_own (fault_at c call f t) text image c call t
+abbrev pub step_by : Handed → ℕ → Option Caller → Call → Option Fate → Table → Stepped
+step_by handed image None call f t = gives answer.MasterGone t
+step_by handed image (Some c) call f t = fault_or_own (fault_at c call f t) handed image c call t
 
--- A call by the master of an image, which is handed a text: master-gone where it is not live, without effect; then
--- the fate, without effect; then the call's own answer.
-abbrev pub step_with : List ℕ → ℕ → Call → Option Fate → Table → Stepped
-step_with text image call f t = step_by text image (live_master image t.rows) call f t
+-- A call by the master of an image, which is handed that: master-gone where it is not live, without effect; then the
+-- fate, without effect; then the call's own answer.
+abbrev pub step_with : Handed → ℕ → Call → Option Fate → Table → Stepped
+step_with handed image call f t = step_by handed image (live_master image t.rows) call f t
 
 ---- An example: a file that is not there can't be moved
 

@@ -11,21 +11,18 @@ use Rattle.vocabulary.specs.declared.reports.Outcome.TheVariants as outcome
 use Rattle.vocabulary.specs.declared.plans.Side.TheVariants as side
 use Rattle.vocabulary.specs.declared.calls.Answer.TheVariants as answer
 use Rattle.definitions.specs.Table.{FilePath, owner_at, is_own, Address, same_generation, Hold, Process, Worker, Table}
-use Rattle.definitions.specs.Table.{Generation, is_ready, has_address}
+use Rattle.definitions.specs.Table.{Generation, is_ready, has_address, IsFormed}
 use Rattle.definitions.specs.Exits.{Name}
 use Rattle.definitions.specs.Calls.{Call, Answer, RemovePid}
 use Rattle.definitions.specs.Service.{Service, is_live_with, service, IsSame}
 use Rattle.definitions.specs.Crew.{Layout, short_at}
-use Rattle.definitions.specs.Record.{Listener, Record, IsRecord, Agrees, layout_of, PidNote, InPlace, AtOldbin}
-use Rattle.definitions.specs.Record.{OldbinLeft, Left, NoFile, oldbin}
-use Rattle.definitions.specs.Formed.{IsFormed}
-use Rattle.definitions.specs.Target.{Target, Workers, Mend, Reopen, Reload, Upgrade, Attended, Stop, want, wanted_at}
-use Rattle.definitions.specs.Target.{layout_wanted, sides_of, upgrade_generation, text_handed}
-use Rattle.definitions.specs.Path.{Report, Outcome, Entry}
+use Rattle.definitions.specs.Record.{Listener, Record, IsRecord, Agrees, layout_of, PidNote, Left, NoFile, oldbin}
+use Rattle.definitions.specs.Target.{Target, Workers, Mend, Reload, Upgrade, Attended, Stop, want, wanted_at}
+use Rattle.definitions.specs.Target.{layout_wanted, sides_of, upgrade_generation, handover_for}
 use Rattle.definitions.specs.After.{next_record, next_config, next_image}
-use Rattle.definitions.specs.Parts.{Turn}
-use Rattle.definitions.specs.Plans.{plan_tree}
-use Rattle.definitions.specs.Run.{report_of, run_with, Pattern, Progress, faults_since, start_at, Ran}
+use Rattle.definitions.specs.Plans.{Turn, plan_tree}
+use Rattle.definitions.specs.Run.{Report, Outcome, Entry, report_of, run_with, Pattern, Progress, faults_since}
+use Rattle.definitions.specs.Run.{start_at, Ran}
 use Rattle.definitions.specs.Manner.{Manner, is_leave_call}
 
 ---- Where a run starts
@@ -43,8 +40,7 @@ pub record IsStart (t : Table) (r : Record) : Type 0 where
 abbrev pub names_any : List ℕ → List Name → Bool
 names_any images [] = false
 names_any images (name.Master i ∷ es) = is_in images i || names_any images es
-names_any images (name.Worker g k ∷ es) = names_any images es
-names_any images (name.Draining g k ∷ es) = names_any images es
+names_any images (e ∷ es) = names_any images es
 
 -- The executing masters, at a call and after it: those who leave are executing up to and at their Leave, and their
 -- heirs from it on.
@@ -69,7 +65,8 @@ heirs_of r _ = []
 
 -- The run of a target's plan under the turns.
 abbrev pub run_of : Record → Target → List Turn → Pattern → Table → Ran
-run_of r target turns pattern t = run_with (text_handed r target) (plan_tree r target turns) pattern (start_at t r.note)
+run_of r target turns pattern t =
+    run_with (handover_for r target) (plan_tree r target turns) pattern (start_at t r.note)
 
 -- The first moment of the run in which an executing master exits: a pattern with such a moment is refused, with its
 -- number. Moments after the run's end aren't looked at.
@@ -143,23 +140,14 @@ StopNote NoFile (Some path) ran =
     (owner_at path ran.last.table.files ≡ None) × (owner_at (oldbin path) ran.last.table.files ≡ None)
 StopNote Left (Some path) ran =
     (was_failed (path ∷ oldbin path ∷ []) ran.entries ≡ true) × IsRemoved path ran × IsRemoved (oldbin path) ran
-StopNote Left None ran = ⊥
-StopNote InPlace path ran = ⊥
-StopNote AtOldbin path ran = ⊥
-StopNote OldbinLeft path ran = ⊥
+StopNote note path ran = ⊥
 
 -- What a run leaves: after a stop there is no record, and no master and no worker.
 abbrev pub IsSucceeded : Record → Target → Ran → Type 0
-IsSucceeded r (Workers n) ran = AgreesAfter r (Workers n) (report_of (sides_of r (Workers n)) ran) ran.last.table
-IsSucceeded r (Mend overdue) ran =
-    AgreesAfter r (Mend overdue) (report_of (sides_of r (Mend overdue)) ran) ran.last.table
-IsSucceeded r Reopen ran = AgreesAfter r Reopen (report_of (sides_of r Reopen) ran) ran.last.table
-IsSucceeded r (Reload s) ran = AgreesAfter r (Reload s) (report_of (sides_of r (Reload s)) ran) ran.last.table
-IsSucceeded r (Upgrade s) ran = AgreesAfter r (Upgrade s) (report_of (sides_of r (Upgrade s)) ran) ran.last.table
-IsSucceeded r (Attended s) ran = AgreesAfter r (Attended s) (report_of (sides_of r (Attended s)) ran) ran.last.table
 IsSucceeded r (Stop quick) ran =
     (next_record r (Stop quick) (report_of (sides_of r (Stop quick)) ran) ran.last.table ≡ None)
     × (list_any is_own ran.last.table.rows ≡ false) × StopNote ran.last.note r.pid_path ran
+IsSucceeded r target ran = AgreesAfter r target (report_of (sides_of r target) ran) ran.last.table
 
 ---- What is kept throughout
 

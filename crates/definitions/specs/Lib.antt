@@ -1,17 +1,12 @@
 pub mod Table
 pub mod Exits
-pub mod Handover
-pub mod Reading
 pub mod Calls
 pub mod Service
 pub mod Crew
 pub mod Record
-pub mod Formed
 pub mod Target
 pub mod Tree
-pub mod Path
 pub mod After
-pub mod Parts
 pub mod Plans
 pub mod Run
 pub mod Manner

@@ -12,8 +12,7 @@ use Rattle.definitions.specs.Table.{Generation, bears, Process, Worker, Table, n
 use Rattle.definitions.specs.Calls.{Call, Quit, Kill, AwaitGone, Leave, Usr1, Answer}
 use Rattle.definitions.specs.Record.{Record}
 use Rattle.definitions.specs.Target.{Target, Workers, Mend, Reopen, Reload, Upgrade, Attended, Stop}
-use Rattle.definitions.specs.Path.{Entry, Outcome}
-use Rattle.definitions.specs.Run.{Progress, Ran}
+use Rattle.definitions.specs.Run.{Entry, Outcome, Progress, Ran}
 
 ---- Processes
 

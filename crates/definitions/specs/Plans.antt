@@ -20,7 +20,8 @@ use Rattle.definitions.specs.Tree.{Reply, plain_reply, replies_to, Side, End, Do
 use Rattle.definitions.specs.Tree.{Split, JoinReady, JoinBack, Join, Make, ForkLacking, AwaitLacking, KillLacking, Tree}
 use Rattle.definitions.specs.Tree.{Branches, Ends, Does, Nothing, Branch, height}
 use Rattle.definitions.specs.After.{crew_wanted}
-use Rattle.definitions.specs.Parts.{Turn, weave, joined}
+pub use Rattle.vocabulary.specs.declared.plans.Turn.{Turn}
+pub use Rattle.vocabulary.specs.declared.plans.Turn.TheVariants.{New, Old}
 
 ---- Edges
 
@@ -228,6 +229,50 @@ stop_tree by g ready path note true = kills by g ready (removes by path note (st
 stop_tree by g ready path note false =
     quits by g (reverse ready) (awaits_gone by g (reverse ready) (removes by path note (stopped by)))
 
+---- Two parts of a plan that two masters carry out side by side: under a list of turns they are an ordinary tree
+
+-- The ends of a part are marks: each gives way to what follows it.
+abbrev mutual
+  pub graft : (End → Tree) → Tree → Tree
+  graft then (Ends end) = then end
+  graft then (Does by order set branches) = Does by order set (graft_all then branches)
+
+  pub graft_all : (End → Tree) → Branches → Branches
+  graft_all then Nothing = Nothing
+  graft_all then (Branch replies said rest more) = Branch replies said (graft then rest) (graft_all then more)
+
+-- The old part beside a step of the new one, of which `goes` says what follows where it is the new part's turn. Where
+-- the old part has ended no turn is used.
+abbrev mutual
+  pub beside : (List Turn → Tree → Tree) → List Turn → Tree → Tree
+  beside goes turns (Ends end) = goes turns (Ends end)
+  beside goes [] (Does by order set branches) = goes [] (Does by order set branches)
+  beside goes (New ∷ turns) (Does by order set branches) = goes turns (Does by order set branches)
+  beside goes (Old ∷ turns) (Does by order set branches) = Does by order set (beside_all goes turns branches)
+
+  pub beside_all : (List Turn → Tree → Tree) → List Turn → Branches → Branches
+  beside_all goes turns Nothing = Nothing
+  beside_all goes turns (Branch replies said rest more) =
+      Branch replies said (beside goes turns rest) (beside_all goes turns more)
+
+-- Both parts, the new one first, under the turns, New after their end. Where the new part has ended the old one goes
+-- on alone; where both have, the new part's end says what follows.
+abbrev mutual
+  pub weave : (End → Tree) → Tree → List Turn → Tree → Tree
+  weave join (Ends end) turns old = graft (λ e. join end) old
+  weave join (Does by order set branches) turns old =
+      beside (λ later still. Does by order set (weave_all join branches later still)) turns old
+
+  pub weave_all : (End → Tree) → Branches → List Turn → Tree → Branches
+  weave_all join Nothing turns old = Nothing
+  weave_all join (Branch replies said rest more) turns old =
+      Branch replies said (weave join rest turns old) (weave_all join more turns old)
+
+-- The new part ends ready, or leads back.
+abbrev pub joined : Tree → Tree → End → Tree
+joined ready back JoinReady = ready
+joined ready back _ = back
+
 ---- Upgrade
 
 abbrev pub others : List Reply → List Reply
@@ -386,17 +431,13 @@ plan_tree r (Stop quick) turns = stop_tree r.generation.image r.generation r.rea
 
 -- The steps on the longest path of a target's plan.
 abbrev pub plan_length : Record → Target → ℕ
-plan_length r (Workers n) = height (plan_tree r (Workers n) [])
-plan_length r (Mend overdue) = height (plan_tree r (Mend overdue) [])
-plan_length r Reopen = height (plan_tree r Reopen [])
-plan_length r (Reload s) = height (plan_tree r (Reload s) [])
 plan_length r (Upgrade s) =
     upgrade_length false r.generation.image (crew_of r) (crew_wanted r (Upgrade s)) r.ready r.retries r.pid_path r.note
     (addresses_of r) s.listeners s.workers
 plan_length r (Attended s) =
     upgrade_length true r.generation.image (crew_of r) (crew_wanted r (Attended s)) r.ready r.retries r.pid_path r.note
     (addresses_of r) s.listeners s.workers
-plan_length r (Stop quick) = height (plan_tree r (Stop quick) [])
+plan_length r target = height (plan_tree r target [])
 
 ---- An example: a settle with one round makes five calls at most: count, fork, wait, kill, count
 

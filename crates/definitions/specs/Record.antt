@@ -2,9 +2,9 @@
 --
 -- Our own. The pid file and its suffix are those of nginx's "Controlling nginx".
 
-use Rattle.std.specs.Prelude.{◌≡◌, ◌≤◌, ◌<◌, ◌+◌, ◌++◌, ◌∷◌}
-use Rattle.vocabulary.specs.Words.{refl, ℕ, true, List, [], Option, Some, None, map, length, count_by, is_some, codes}
-use Rattle.vocabulary.specs.Words.{⊤, list_any, AllByRecursion, is_in, Settings, HasSuffixRoom, AreGroups, first_posts}
+use Rattle.std.specs.Prelude.{◌≡◌, ◌≤◌, ◌<◌, ◌++◌}
+use Rattle.vocabulary.specs.Words.{refl, ℕ, true, List, Option, Some, None, map, length, count_by, is_some, codes}
+use Rattle.vocabulary.specs.Words.{⊤, list_any, AllByRecursion, is_in, HasSuffixRoom, AreGroups}
 use Rattle.definitions.specs.Table.{Address, FilePath, Generation, Hold, Starting, Ready, Process, Worker, File, Table}
 use Rattle.definitions.specs.Table.{is_master, is_ready, is_worker, live_master, owner_at}
 use Rattle.definitions.specs.Crew.{Posts, Crew, share, Layout, layout_at}
@@ -47,34 +47,6 @@ crew_of r = record { generation = r.generation; posts = r.posts }
 
 abbrev pub layout_of : Record → Layout
 layout_of r = layout_at r.posts r.listeners
-
--- addresses in order, from a descriptor on
-abbrev pub listeners_from : ℕ → List Address → List Listener
-listeners_from fd [] = []
-listeners_from fd (a ∷ rest) = (record { descriptor = fd; address = a }) ∷ listeners_from (fd + 1) rest
-
-abbrev pub first_note : Option FilePath → PidNote
-first_note None = NoFile
-first_note (Some path) = InPlace
-
-abbrev pub first_generation : Generation
-first_generation = record { image = 1; config = 1 }
-
--- The record of a master that starts with these settings: generation 1.1, descriptors from 3 on, of which each group
--- takes the next so many.
-abbrev pub started : Settings → ℕ → List ℕ → ℕ → Record
-started s wanted ready pid = record {
-  listeners = listeners_from 3 s.listeners;
-  posts = first_posts s.groups;
-  generation = first_generation;
-  ready = ready;
-  wanted = wanted;
-  retries = s.retries;
-  timeout = s.timeout;
-  pid_path = s.pid;
-  note = first_note s.pid;
-  pid = pid;
-}
 
 ---- When a record agrees with a table
 

@@ -3,16 +3,20 @@
 -- Our own. One moment is: some children exit, and then one call by one master takes effect.
 
 use Rattle.std.specs.Prelude.{◌≡◌, ◌+◌, ◌-◌, ◌==◌, ◌∷◌, if◌then◌else◌}
-use Rattle.vocabulary.specs.Words.{refl, ℕ, not, Bool, true, false, List, [], Option, Some, None}
+use Rattle.vocabulary.specs.Words.{refl, ℕ, not, Bool, true, false, List, [], Option, Some, None, lacks, shortfalls_of}
 use Rattle.vocabulary.specs.declared.calls.Answer.TheVariants as answer
 use Rattle.vocabulary.specs.declared.reports.Outcome.TheVariants as outcome
 use Rattle.definitions.specs.Table.{Table}
 use Rattle.definitions.specs.Exits.{Name, after_exits, losses_of}
-use Rattle.definitions.specs.Calls.{Call, Ask, Answer, Fate, Stepped, step_with}
-use Rattle.definitions.specs.Tree.{Reply, among, reply_of, same_reply, plain_reply, End, PidNote, Order, call_of, Tree}
-use Rattle.definitions.specs.Tree.{Branches, Ends, Does, Nothing, Branch}
-use Rattle.definitions.specs.Path.{Report, Outcome, Sides, outcome_at, Entry, ready_after, lacking_after, Lack}
-use Rattle.definitions.specs.Path.{lacked_by, lacked_after, went_wrong, first_cause}
+use Rattle.definitions.specs.Calls.{Call, Ask, Answer, Fate, Stepped, Handed, step_with}
+use Rattle.definitions.specs.Tree.{Reply, among, reply_of, same_reply, plain_reply, PidNote, Order, call_of, Tree}
+use Rattle.definitions.specs.Tree.{Branches, Ends, Does, Nothing, Branch, Old, Target, End, Done, RolledBack}
+use Rattle.definitions.specs.Tree.{ShortOld, ShortTarget}
+pub use Rattle.vocabulary.specs.declared.reports.Entry.{Entry}
+pub use Rattle.vocabulary.specs.declared.reports.Report.{Report}
+pub use Rattle.vocabulary.specs.declared.reports.Outcome.{Outcome}
+pub use Rattle.vocabulary.specs.declared.plans.Sides.{Sides}
+pub use Rattle.vocabulary.specs.declared.plans.Lack.{Lack}
 
 -- What happens at one call: who exits before it, and how it is made to fail.
 pub record Moment : Type 0 where
@@ -25,6 +29,41 @@ quiet = record { exits = []; fate = None }
 -- A pattern gives each call, counted from 1, its moment.
 abbrev pub Pattern : Type 0
 Pattern = ℕ → Moment
+
+---- What the answers tell
+
+abbrev pub ready_after : Answer → List ℕ → List ℕ
+ready_after (answer.Counted ns) ready = ns
+ready_after _ ready = ready
+
+abbrev pub lacking_after : List ℕ → Answer → List ℕ → List ℕ
+lacking_after set (answer.Counted ns) lacking = lacks set ns
+lacking_after set _ lacking = lacking
+
+-- what the last count of a master lacked
+abbrev pub lacked_by : ℕ → List Lack → List ℕ
+lacked_by by [] = []
+lacked_by by (lack ∷ lacked) = if lack.by == by then lack.numbers else lacked_by by lacked
+
+-- the newest of another master
+abbrev pub beside : ℕ → List Lack → List Lack
+beside by [] = []
+beside by (lack ∷ lacked) = if lack.by == by then beside by lacked else lack ∷ []
+
+-- What the last counts lack, after an answer to a master. A plan has two masters at most: their last counts are kept,
+-- the newest first.
+abbrev pub lacked_after : ℕ → List ℕ → Answer → List Lack → List Lack
+lacked_after by set (answer.Counted ns) lacked = record { by = by; numbers = lacks set ns } ∷ beside by lacked
+lacked_after by set _ lacked = lacked
+
+-- a call that is not answered plainly, or a census that lacks a number of its set
+abbrev pub went_wrong : Call → Reply → Bool
+went_wrong call r = not (same_reply r (plain_reply call))
+
+abbrev pub first_cause : Option ℕ → Bool → ℕ → Option ℕ
+first_cause (Some k) wrong n = Some k
+first_cause None true n = Some n
+first_cause None false n = None
 
 -- The answer that a call is meant to have; of a census, each count.
 abbrev pub is_plain : Call → Answer → Bool
@@ -101,9 +140,9 @@ abbrev pub noted : Option PidNote → Progress → Progress
 noted None p = p
 noted (Some n) p = record p { note = n }
 
--- what a step's call, which is handed a text, is answered after the exits of its moment
-abbrev pub answered : List ℕ → ℕ → Order → Option Fate → Progress → Stepped
-answered text by order f p = step_with text by (call_of order (lacked_by by p.lacked)) f p.table
+-- what a step's call, which is handed that, is answered after the exits of its moment
+abbrev pub answered : Handed → ℕ → Order → Option Fate → Progress → Stepped
+answered handed by order f p = step_with handed by (call_of order (lacked_by by p.lacked)) f p.table
 
 -- how a run ends: at an end of the plan, or where a step has no edge for the answer
 pub data Ending : Type 0 where
@@ -125,25 +164,36 @@ abbrev pub with_entry : Entry → Progress → Progress → Ran → Ran
 with_entry entry before middle rest =
     record rest { entries = entry ∷ rest.entries; passed = before ∷ middle ∷ rest.passed }
 
--- The run of a tree, each call of which is handed a text, and of what is behind the first of some edges that has the
+-- The run of a tree, each call of which is handed that, and of what is behind the first of some edges that has the
 -- reply.
 abbrev mutual
-  pub run_with : List ℕ → Tree → Pattern → Progress → Ran
-  run_with text (Ends end) pattern p = ends_at (At end) p
-  run_with text (Does by order set branches) pattern p =
+  pub run_with : Handed → Tree → Pattern → Progress → Ran
+  run_with handed (Ends end) pattern p = ends_at (At end) p
+  run_with handed (Does by order set branches) pattern p =
       let moment = pattern (p.calls + 1) in
       let middle = after_moment moment.exits p in
-      let s = answered text by order moment.fate middle in
+      let s = answered handed by order moment.fate middle in
       with_entry (record { by = by; call = call_of order (lacked_by by middle.lacked); answer = s.answer }) p middle
-      (goes_with text branches (reply_of set s.answer) pattern (after_call by order set s middle))
+      (goes_with handed branches (reply_of set s.answer) pattern (after_call by order set s middle))
 
-  pub goes_with : List ℕ → Branches → Reply → Pattern → Progress → Ran
-  goes_with text Nothing r pattern p = ends_at Lost p
-  goes_with text (Branch replies said rest more) r pattern p =
+  pub goes_with : Handed → Branches → Reply → Pattern → Progress → Ran
+  goes_with handed Nothing r pattern p = ends_at Lost p
+  goes_with handed (Branch replies said rest more) r pattern p =
       elim (among replies r) as (λ b. Ran) [
-        | true ↦ run_with text rest pattern (noted said p)
-        | false ↦ goes_with text more r pattern p
+        | true ↦ run_with handed rest pattern (noted said p)
+        | false ↦ goes_with handed more r pattern p
       ]
+
+---- What is reported: what the calls and their answers tell, and nothing else
+
+-- what an end says, by the groups of its side and what the last census lacked
+abbrev pub outcome_at : Sides → End → List ℕ → Outcome
+outcome_at sides Done lacking = outcome.Done
+outcome_at sides RolledBack lacking = outcome.RolledBack
+outcome_at sides ShortOld lacking = outcome.Degraded Old (shortfalls_of sides.old lacking)
+outcome_at sides ShortTarget lacking = outcome.Degraded Target (shortfalls_of sides.target lacking)
+-- no run ends at a mark
+outcome_at sides _ lacking = outcome.Done
 
 -- the outcome of a run that ends so, by what its last census lacked
 abbrev pub outcome_of : Sides → Ending → List ℕ → Outcome
@@ -161,5 +211,5 @@ report_of sides ran = record {
 
 ---- An example: a plan without a step makes no call, whatever the pattern
 
-example : (pattern : Pattern) (p : Progress) (end : End) → (run_with [] (Ends end) pattern p).entries ≡ []
+example : (pattern : Pattern) (p : Progress) (end : End) → (run_with None (Ends end) pattern p).entries ≡ []
 example pattern p end = refl

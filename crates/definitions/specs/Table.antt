@@ -3,8 +3,9 @@
 -- After POSIX, as far as masters need it: a process has a number and a parent, a descriptor leads to a socket, and an
 -- address is taken as long as a process holds a socket of it.
 
-use Rattle.std.specs.Prelude.{◌≡◌, ◌&&◌, ◌==◌, ◌∷◌}
+use Rattle.std.specs.Prelude.{◌≡◌, ◌≤◌, ◌+◌, ◌&&◌, ◌==◌, ◌∷◌}
 use Rattle.vocabulary.specs.Words.{refl, ℕ, Bool, true, false, List, [], Option, Some, None, bytes_eq, list_any}
+use Rattle.vocabulary.specs.Words.{count_by, ⊤, AllByRecursion}
 pub use Rattle.vocabulary.specs.Words.{Generation}
 pub use Rattle.vocabulary.specs.declared.table.Stance.{Stance}
 pub use Rattle.vocabulary.specs.declared.table.Stance.TheVariants.{Starting, Ready, Draining, Exited}
@@ -157,6 +158,31 @@ owner_at path (f ∷ files) = owner_if (bytes_eq f.path path) f.owner (owner_at 
 
 abbrev pub with_rows : Table → List Process → Table
 with_rows t rows = record t { rows = rows }
+
+---- What every table that the kernel makes keeps by itself: process numbers are not used again
+
+-- A worker that drains or has exited holds nothing; of a master, or of somebody else's process, nothing is asked.
+abbrev pub IsQuiet : Process → Type 0
+IsQuiet (Worker n q g k Draining hs) = hs ≡ []
+IsQuiet (Worker n q g k Exited hs) = hs ≡ []
+IsQuiet _ = ⊤
+
+-- A worker's parent is a live master.
+abbrev pub HasParent : List Process → Process → Type 0
+HasParent rows (Worker n q g k s hs) = list_any (is_live_master q) rows ≡ true
+HasParent rows _ = ⊤
+
+-- Process numbers rise from the first on and stay below the last.
+abbrev pub IsAscending : ℕ → List Process → ℕ → Type 0
+IsAscending least [] next = least ≤ next
+IsAscending least (p ∷ rows) next = (least ≤ number_of p) × IsAscending (number_of p + 1) rows next
+
+pub record IsFormed (t : Table) : Type 0 where
+  -- At most one Starting or Ready worker of a master bears a name.
+  pub once : (q : ℕ) (g : Generation) (k : ℕ) → count_by (is_worker is_active q g k) t.rows ≤ 1
+  pub quiet : AllByRecursion IsQuiet t.rows
+  pub parents : AllByRecursion (HasParent t.rows) t.rows
+  pub ascending : IsAscending 0 t.rows t.next_process
 
 ---- An example: a master that has exited is no live master of its image
 

@@ -3,10 +3,10 @@
 -- After Unicorn's SIGNALS and nginx's "Controlling nginx": HUP starts workers of the next configuration, USR2 a new
 -- executable, TTIN and TTOU change the number of workers, USR1 reopens logs, QUIT and TERM stop.
 
-use Rattle.std.specs.Prelude.{◌≡◌, ◌∷◌, ◌≤◌, ◌+◌}
-use Rattle.vocabulary.specs.Words.{refl, ⊤, ℕ, not, List, [], filter, has, Settings, numbers_below}
+use Rattle.std.specs.Prelude.{◌≡◌, ◌∷◌, ◌+◌}
+use Rattle.vocabulary.specs.Words.{refl, ℕ, not, List, [], Some, None, filter, has, Settings, numbers_below}
 use Rattle.definitions.specs.Table.{Address, Generation}
-use Rattle.definitions.specs.Handover.{Handover, spelling}
+use Rattle.definitions.specs.Calls.{Handover, Handed}
 use Rattle.definitions.specs.Service.{Service, serving}
 use Rattle.definitions.specs.Crew.{Layout, layout_in, served}
 use Rattle.definitions.specs.Record.{Record, addresses_of, layout_of}
@@ -14,11 +14,6 @@ pub use Rattle.vocabulary.specs.declared.plans.Sides.{Sides}
 pub use Rattle.vocabulary.specs.declared.targets.Target.{Target}
 pub use Rattle.vocabulary.specs.declared.targets.Target.TheVariants.{Workers, Mend, Reopen, Reload, Upgrade, Attended}
 pub use Rattle.vocabulary.specs.declared.targets.Target.TheVariants.{Stop}
-
--- A number of workers that is wanted is at most 1024. What settings say is in range by itself.
-abbrev pub IsTarget : Target → Type 0
-IsTarget (Workers n) = n ≤ 1024
-IsTarget _ = ⊤
 
 -- what the first list has and the second lacks
 abbrev pub only_in : List Address → List Address → List Address
@@ -87,11 +82,11 @@ handover_of r s = record {
   pid_file = r.pid_path;
 }
 
--- The text that goes with each call of a plan.
-abbrev pub text_handed : Record → Target → List ℕ
-text_handed r (Upgrade s) = spelling (handover_of r s)
-text_handed r (Attended s) = spelling (handover_of r s)
-text_handed r _ = []
+-- What goes with each call of a plan.
+abbrev pub handover_for : Record → Target → Handed
+handover_for r (Upgrade s) = Some (handover_of r s)
+handover_for r (Attended s) = Some (handover_of r s)
+handover_for r _ = None
 
 ---- An example: two workers have the numbers 0 and 1, whatever the master
 

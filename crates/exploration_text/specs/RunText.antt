@@ -1,7 +1,7 @@
 -- Runs as they are listed.
 use Rattle.std.specs.Prelude.{ℕ, List, [], ◌++◌, codes}
 use Rattle.vocabulary.specs.declared.reports.Report.{Report}
-use Rattle.definitions.specs.Parts.{Turn}
+use Rattle.definitions.specs.Plans.{Turn}
 use Rattle.call_text.specs.ReportText.{report_text}
 use Rattle.pattern_text.specs.declared.pattern_line.PatternLine.{PatternLine}
 use Rattle.pattern_text.specs.declared.pattern_line.PatternLine.TheVariants as line

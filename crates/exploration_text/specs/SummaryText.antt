@@ -1,6 +1,6 @@
 -- What all runs came to.
 use Rattle.std.specs.Prelude.{ℕ, Bool, List, [], ◌∷◌, ◌++◌, Option, Some, None, unwrap_or, slice_get, codes, if◌then◌else◌}
-use Rattle.definitions.specs.Parts.{Turn}
+use Rattle.definitions.specs.Plans.{Turn}
 use Rattle.pattern_text.specs.TurnsText.{letters}
 use Rattle.std.specs.Fmt.{decimal}
 use Rattle.explorer.specs.declared.events.Tried.{Tried}

@@ -4,7 +4,7 @@ use Rattle.std.proofs.lemmas.List.{drop_more, append_assoc}
 use Rattle.vocabulary.specs.declared.targets.Target.{Target}
 use Rattle.definitions.specs.Table.{Table}
 use Rattle.definitions.specs.Record.{Record}
-use Rattle.definitions.specs.Parts.{Turn}
+use Rattle.definitions.specs.Plans.{Turn}
 use Rattle.explorer.specs.declared.events.Event.{Event}
 use Rattle.explorer.specs.declared.events.Mishap.{Mishap}
 use Rattle.explorer.specs.declared.events.Tried.{Tried}

@@ -3,32 +3,32 @@ use Rattle.std.proofs.Common.{◌≡◌, ℕ, List, Option, Some, None, refl, sy
 use Rattle.vocabulary.specs.declared.reports.Report.{Report}
 use Rattle.vocabulary.specs.declared.reports.Outcome.{Outcome}
 use Rattle.definitions.specs.Tree.{Tree, Ends, Does}
-use Rattle.definitions.specs.Path.{Sides}
+use Rattle.definitions.specs.Run.{Sides, Pattern, Progress, Ran, outcome_of, report_of}
 use Rattle.plan_walk.specs.Path.{Trail, IsOver, IsOutcome, Reports}
-use Rattle.definitions.specs.Run.{Pattern, Progress, Ran, outcome_of, report_of}
+use Rattle.definitions.specs.Calls.{Handed}
 use Rattle.plan_executor.specs.Lawful.{trail_at, ending_of}
 use Rattle.explorer.specs.Positions.{rest_run, EndsAlike}
 
-ending-of : (text : List ℕ) (rest : Option Tree) (q : Pattern) (p : Progress) → IsOver rest → (rest_run text rest q p).ending ≡ ending_of rest
-ending-of text None q p over = refl
-ending-of text (Some (Ends end)) q p over = refl
-ending-of text (Some (Does by order set branches)) q p over = absurd over
+ending-of : (handed : Handed) (rest : Option Tree) (q : Pattern) (p : Progress) → IsOver rest → (rest_run handed rest q p).ending ≡ ending_of rest
+ending-of handed None q p over = refl
+ending-of handed (Some (Ends end)) q p over = refl
+ending-of handed (Some (Does by order set branches)) q p over = absurd over
 
-last-of : (text : List ℕ) (rest : Option Tree) (q : Pattern) (p : Progress) → IsOver rest → (rest_run text rest q p).last ≡ p
-last-of text None q p over = refl
-last-of text (Some (Ends end)) q p over = refl
-last-of text (Some (Does by order set branches)) q p over = absurd over
+last-of : (handed : Handed) (rest : Option Tree) (q : Pattern) (p : Progress) → IsOver rest → (rest_run handed rest q p).last ≡ p
+last-of handed None q p over = refl
+last-of handed (Some (Ends end)) q p over = refl
+last-of handed (Some (Does by order set branches)) q p over = absurd over
 
 outcome-of : (sides : Sides) (rest : Option Tree) (lacking : List ℕ) (o : Outcome) → IsOutcome sides rest lacking o → o ≡ outcome_of sides (ending_of rest) lacking
 outcome-of sides None lacking o h = h
 outcome-of sides (Some (Ends end)) lacking o h = h
 outcome-of sides (Some (Does by order set branches)) lacking o h = absurd h
 
-pub reported : (text : List ℕ) (sides : Sides) (t : Trail) (q : Pattern) (p : Progress) (ran : Ran) (report : Report) →
-    IsOver t.rest → trail_at t.rest p ≡ t → EndsAlike ran (rest_run text t.rest q p) → Reports sides t report → report ≡ report_of sides ran
-reported text sides t q p ran report over trail alike is =
-    let ending = sym (ending-of text t.rest q p over) ∙ sym alike.ending in
-    let last : p ≡ ran.last = sym (last-of text t.rest q p over) ∙ sym alike.last in
+pub reported : (handed : Handed) (sides : Sides) (t : Trail) (q : Pattern) (p : Progress) (ran : Ran) (report : Report) →
+    IsOver t.rest → trail_at t.rest p ≡ t → EndsAlike ran (rest_run handed t.rest q p) → Reports sides t report → report ≡ report_of sides ran
+reported handed sides t q p ran report over trail alike is =
+    let ending = sym (ending-of handed t.rest q p over) ∙ sym alike.ending in
+    let last : p ≡ ran.last = sym (last-of handed t.rest q p over) ∙ sym alike.last in
     let lacking : t.lacking ≡ ran.last.lacking = ap (λ (x : Trail). x.lacking) (sym trail) ∙ ap (λ (x : Progress). x.lacking) last in
     let outcome = outcome-of sides t.rest t.lacking report.outcome is.outcome ∙ ap (λ e. outcome_of sides e t.lacking) ending ∙ ap (outcome_of sides ran.ending) lacking in
     let cause = is.cause ∙ ap (λ (x : Trail). x.cause) (sym trail) ∙ ap (λ (x : Progress). x.cause) last in

@@ -6,10 +6,11 @@ use Rattle.definitions.specs.Table.{Table}
 use Rattle.definitions.specs.Calls.{Stepped, step_with}
 use Rattle.definitions.specs.Exits.{after_exits}
 use Rattle.definitions.specs.Tree.{Tree}
-use Rattle.definitions.specs.Parts.{Turn}
+use Rattle.definitions.specs.Plans.{Turn}
 use Rattle.plan_walk.specs.Path.{Trail, advance, Asks}
 use Rattle.definitions.specs.Run.{Moment, Pattern, Progress}
-use Rattle.definitions.specs.Target.{text_handed}
+use Rattle.definitions.specs.Target.{handover_for}
+use Rattle.handover_text.specs.Reading.{handed_by}
 use Rattle.kernel_model.specs.State.{State}
 use Rattle.plan_walk.specs.Fit.{height_next}
 use Rattle.plan_walk.specs.Course.{turns_of, trail_on, sides_on}
@@ -30,7 +31,7 @@ entry_of due answer = record { by = due.by; call = due.call; answer = answer }
 
 -- What making the call that is due gave.
 pub record IsMade (before : Position) (due : Due) (m : Moment) (course : Course) (kernel : State) (waits : Option ℕ) (answer : Answer) : Type 0 where
-  pub step : record { answer = answer; table = kernel.table } ≡ step_with before.text.now due.by due.call m.fate (after_exits m.exits before.kernel.table)
+  pub step : record { answer = answer; table = kernel.table } ≡ step_with (handed_by before.text.now) due.by due.call m.fate (after_exits m.exits before.kernel.table)
   pub room : kernel.room + 1 ≡ before.kernel.room
   pub trail : trail_on course ≡ advance (trail_on before.course) (entry_of due answer)
   pub sides : sides_on course ≡ sides_on before.course
@@ -44,9 +45,9 @@ pub later : (before : Position) (due : Due) (m : Moment) (course : Course) (kern
 later before due m course kernel waits answer fit asks moment is =
     let e = entry_of due answer in
     let T = trail_on before.course in
-    let text = text_handed before.state.now before.target.now in
-    let stepped : (p : Progress) → IsAt before p → record { answer = answer; table = kernel.table } ≡ step_with text due.by due.call m.fate (after_exits m.exits p.table) =
-    λ p at. is.step ∙ (λ i. step_with (at.text i) due.by due.call m.fate (after_exits m.exits (sym at.table i))) in
+    let handed = handover_for before.state.now before.target.now in
+    let stepped : (p : Progress) → IsAt before p → record { answer = answer; table = kernel.table } ≡ step_with handed due.by due.call m.fate (after_exits m.exits p.table) =
+    λ p at. is.step ∙ (λ i. step_with (at.handed i) due.by due.call m.fate (after_exits m.exits (sym at.table i))) in
     let on : (p : Progress) → IsAt before p → Goes before.state.now before.target.now T.rest p m e =
     λ p at. goes before.state.now before.target.now T.rest p m e (subst (λ ks. Asks T.rest ks e) (sym (ap (λ (t : Trail). t.lacked) at.trail)) (asks answer)) (ap (λ (s : Stepped). s.answer) (stepped p at)) in
     let trails : (p : Progress) → IsAt before p → trail_on course ≡ advance (trail_at T.rest p) e =
@@ -65,26 +66,26 @@ later before due m course kernel waits answer fit asks moment is =
           let g = on p at in
           let w = trails p at in
           record {
-            trail = ap (λ (t : Trail). trail_at t.rest (moved text T.rest m p)) w ∙ sym g.trail ∙ sym w;
+            trail = ap (λ (t : Trail). trail_at t.rest (moved handed T.rest m p)) w ∙ sym g.trail ∙ sym w;
             table = g.table ∙ sym (ap (λ (s : Stepped). s.table) (stepped p at));
-            text = at.text;
+            handed = at.handed;
             sides = is.sides ∙ at.sides;
             come =
-                subst (λ (given : List Turn). HasCome before.state.now before.target.now given before.first.now.table (pattern_of before.tried) (before.made + 1) (trail_on course).rest (listed waits) (moved text T.rest m p)) (sym is.turns)
-                (subst (λ (rest : Option Tree). HasCome before.state.now before.target.now (turns_of before.course) before.first.now.table (pattern_of before.tried) (before.made + 1) rest (listed waits) (moved text T.rest m p)) (sym (ap (λ (t : Trail). t.rest) w))
-                (subst (λ (heirs : List ℕ). HasCome before.state.now before.target.now (turns_of before.course) before.first.now.table (pattern_of before.tried) (before.made + 1) (advance (trail_at T.rest p) e).rest heirs (moved text T.rest m p)) (sym is.heir)
+                subst (λ (given : List Turn). HasCome before.state.now before.target.now given before.first.now.table (pattern_of before.tried) (before.made + 1) (trail_on course).rest (listed waits) (moved handed T.rest m p)) (sym is.turns)
+                (subst (λ (rest : Option Tree). HasCome before.state.now before.target.now (turns_of before.course) before.first.now.table (pattern_of before.tried) (before.made + 1) rest (listed waits) (moved handed T.rest m p)) (sym (ap (λ (t : Trail). t.rest) w))
+                (subst (λ (heirs : List ℕ). HasCome before.state.now before.target.now (turns_of before.course) before.first.now.table (pattern_of before.tried) (before.made + 1) (advance (trail_at T.rest p) e).rest heirs (moved handed T.rest m p)) (sym is.heir)
                 (g.come (turns_of before.course) before.first.now.table (pattern_of before.tried) before.made (listed before.heir) at.come moment)));
           };
       left = λ p last at.
           let g = on p at in
           let w = trails p at in
           let pattern = pattern_of before.tried in
-          let onto = moved text T.rest m p in
-          let tables : (step_with text due.by due.call m.fate (after_exits m.exits before.kernel.table)).table ≡ kernel.table =
-          ap (λ (t : Table). (step_with text due.by due.call m.fate (after_exits m.exits t)).table) (sym at.table) ∙ sym (ap (λ (s : Stepped). s.table) (stepped p at)) in
-          ap (λ es. met text last pattern (listed before.heir) before.made before.kernel.table es) (g.entries pattern (ap (λ k. pattern (k + 1)) at.come.calls ∙ moment))
-          ∙ met-step text last pattern (listed before.heir) before.made before.kernel.table e _ m moment
-          ∙ (λ i. open_now before due m last ++ met text last pattern (sym is.heir i) (before.made + 1) (tables i) (rest_run text ((sym (ap (λ (t : Trail). t.rest) w)) i) pattern onto).entries);
+          let onto = moved handed T.rest m p in
+          let tables : (step_with handed due.by due.call m.fate (after_exits m.exits before.kernel.table)).table ≡ kernel.table =
+          ap (λ (t : Table). (step_with handed due.by due.call m.fate (after_exits m.exits t)).table) (sym at.table) ∙ sym (ap (λ (s : Stepped). s.table) (stepped p at)) in
+          ap (λ es. met handed last pattern (listed before.heir) before.made before.kernel.table es) (g.entries pattern (ap (λ k. pattern (k + 1)) at.come.calls ∙ moment))
+          ∙ met-step handed last pattern (listed before.heir) before.made before.kernel.table e _ m moment
+          ∙ (λ i. open_now before due m last ++ met handed last pattern (sym is.heir i) (before.made + 1) (tables i) (rest_run handed ((sym (ap (λ (t : Trail). t.rest) w)) i) pattern onto).entries);
     }
 
 -- Another run that is the same so far has come as far.
@@ -94,7 +95,7 @@ elsewhere run p other same at =
     record {
       trail = at.trail;
       table = at.table;
-      text = at.text;
+      handed = at.handed;
       sides = at.sides;
       come = record { calls = at.come.calls; ends = λ q is. at.come.ends q (onto q is); meets = λ q e is before. at.come.meets q e (onto q is) before };
     }

@@ -4,10 +4,10 @@ use Rattle.std.specs.Prelude.{◌==◌, if◌then◌else◌}
 use Rattle.std.proofs.lemmas.Bool.{le-ltb}
 use Rattle.table_laws.proofs.Views.{eqb-off, eqb-refl}
 use Rattle.definitions.specs.Table.{Table}
-use Rattle.definitions.specs.Calls.{Call}
+use Rattle.definitions.specs.Calls.{Call, Handed}
 use Rattle.definitions.specs.Tree.{Tree, Ends, Does}
 use Rattle.plan_walk.specs.Path.{IsOver}
-use Rattle.definitions.specs.Target.{text_handed}
+use Rattle.definitions.specs.Target.{handover_for}
 use Rattle.definitions.specs.Run.{Pattern, Progress}
 use Rattle.plan_walk.specs.Course.{trail_on}
 use Rattle.plan_executor.specs.Naming.{listed}
@@ -39,22 +39,22 @@ quiet-behind e q n le is m lt = other e q m (behind e.number m (omega (arith, lt
 
 ---- What is met
 
-none-left : (text : List ℕ) (last : Option Event) (q : Pattern) (heirs : List ℕ) (n : ℕ) (t : Table) (rest : Option Tree) (p : Progress) → IsOver rest → met text last q heirs n t (rest_run text rest q p).entries ≡ []
-none-left text last q heirs n t None p over = refl
-none-left text last q heirs n t (Some (Ends end)) p over = refl
-none-left text last q heirs n t (Some (Does by order set branches)) p over = absurd over
+none-left : (handed : Handed) (last : Option Event) (q : Pattern) (heirs : List ℕ) (n : ℕ) (t : Table) (rest : Option Tree) (p : Progress) → IsOver rest → met handed last q heirs n t (rest_run handed rest q p).entries ≡ []
+none-left handed last q heirs n t None p over = refl
+none-left handed last q heirs n t (Some (Ends end)) p over = refl
+none-left handed last q heirs n t (Some (Does by order set branches)) p over = absurd over
 
 pub left-over : (run : Position) (p : Progress) (last : Option Event) → IsOver (trail_on run.course).rest → left run p last ≡ []
-left-over run p last over = none-left (text_handed run.state.now run.target.now) last (pattern_of run.tried) (listed run.heir) run.made run.kernel.table (trail_on run.course).rest p over
+left-over run p last over = none-left (handover_for run.state.now run.target.now) last (pattern_of run.tried) (listed run.heir) run.made run.kernel.table (trail_on run.course).rest p over
 
 -- behind an event all is open
-pub open-behind : (text : List ℕ) (by : ℕ) (call : Call) (heirs : List ℕ) (e : Event) (n : ℕ) (t : Table) → e.number < n → open_at text by call heirs (Some e) n t ≡ mishaps_at text by call heirs 0 t
-open-behind text by call heirs e n t lt =
-    ap (λ (b : Bool). if b then [] else if n == e.number then beside text by call heirs e.mishap t else mishaps_at text by call heirs 0 t) (le-ltb n e.number (omega (arith, lt)))
-    ∙ ap (λ (b : Bool). if b then beside text by call heirs e.mishap t else mishaps_at text by call heirs 0 t) (eqb-off n e.number (behind e.number n lt))
+pub open-behind : (handed : Handed) (by : ℕ) (call : Call) (heirs : List ℕ) (e : Event) (n : ℕ) (t : Table) → e.number < n → open_at handed by call heirs (Some e) n t ≡ mishaps_at handed by call heirs 0 t
+open-behind handed by call heirs e n t lt =
+    ap (λ (b : Bool). if b then [] else if n == e.number then beside handed by call heirs e.mishap t else mishaps_at handed by call heirs 0 t) (le-ltb n e.number (omega (arith, lt)))
+    ∙ ap (λ (b : Bool). if b then beside handed by call heirs e.mishap t else mishaps_at handed by call heirs 0 t) (eqb-off n e.number (behind e.number n lt))
 
 -- at its own call what is open beside it
-pub open-beside : (text : List ℕ) (by : ℕ) (call : Call) (heirs : List ℕ) (e : Event) (n : ℕ) (t : Table) → n ≡ e.number → open_at text by call heirs (Some e) n t ≡ beside text by call heirs e.mishap t
-open-beside text by call heirs e n t is =
-    ap (λ (b : Bool). if b then [] else if n == e.number then beside text by call heirs e.mishap t else mishaps_at text by call heirs 0 t) (le-ltb n e.number (omega (arith, is)))
-    ∙ ap (λ (b : Bool). if b then beside text by call heirs e.mishap t else mishaps_at text by call heirs 0 t) (eqb-refl n e.number is)
+pub open-beside : (handed : Handed) (by : ℕ) (call : Call) (heirs : List ℕ) (e : Event) (n : ℕ) (t : Table) → n ≡ e.number → open_at handed by call heirs (Some e) n t ≡ beside handed by call heirs e.mishap t
+open-beside handed by call heirs e n t is =
+    ap (λ (b : Bool). if b then [] else if n == e.number then beside handed by call heirs e.mishap t else mishaps_at handed by call heirs 0 t) (le-ltb n e.number (omega (arith, is)))
+    ∙ ap (λ (b : Bool). if b then beside handed by call heirs e.mishap t else mishaps_at handed by call heirs 0 t) (eqb-refl n e.number is)

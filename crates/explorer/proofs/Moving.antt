@@ -10,14 +10,14 @@ use Rattle.vocabulary.specs.declared.targets.Target.{Target}
 use Rattle.definitions.specs.Table.{Table}
 use Rattle.definitions.specs.Record.{Record}
 use Rattle.definitions.specs.Exits.{losses_of}
-use Rattle.definitions.specs.Calls.{Call, Stepped, step_with}
+use Rattle.definitions.specs.Calls.{Call, Stepped, step_with, Handed}
 use Rattle.vocabulary.specs.declared.calls.Answer.TheVariants as answer
 use Rattle.definitions.specs.Tree.{Tree, Branches, Ends, Does, Nothing, Branch, Reply, among, branch, reply_of, call_of}
-use Rattle.definitions.specs.Parts.{Turn}
-use Rattle.definitions.specs.Path.{Sides, Lack, lacked_by}
+use Rattle.definitions.specs.Plans.{Turn}
+use Rattle.definitions.specs.Run.{Sides, Lack, lacked_by}
 use Rattle.plan_walk.specs.Path.{Trail, Asks, rest_after}
 use Rattle.definitions.specs.Run.{Moment, quiet, Pattern, Progress, Ran, run_with, goes_with, with_entry, answered, noted, after_moment, after_call, outcome_of, report_of}
-use Rattle.definitions.specs.Target.{sides_of, text_handed}
+use Rattle.definitions.specs.Target.{sides_of, handover_for}
 use Rattle.kernel_pattern.specs.Pattern.{with_exit}
 use Rattle.explorer.specs.declared.events.Event.{Event}
 use Rattle.explorer.specs.declared.events.Mishap.TheVariants.{Exit}
@@ -38,40 +38,40 @@ use Rattle.explorer.proofs.Passing.{passed, exited_step, same-losses}
 
 ---- The same pattern from a call on
 
-abbrev stepping : List ℕ → ℕ → Order → List ℕ → Branches → Progress → Pattern → Moment → Ran
-stepping text by order set branches p pattern m =
+abbrev stepping : Handed → ℕ → Order → List ℕ → Branches → Progress → Pattern → Moment → Ran
+stepping handed by order set branches p pattern m =
     let middle = after_moment m.exits p in
-    let s = answered text by order m.fate middle in
+    let s = answered handed by order m.fate middle in
     with_entry (record { by = by; call = call_of order (lacked_by by middle.lacked); answer = s.answer }) p middle
-    (goes_with text branches (reply_of set s.answer) pattern (after_call by order set s middle))
+    (goes_with handed branches (reply_of set s.answer) pattern (after_call by order set s middle))
 
 noted-calls : (said : Option PidNote) (p : Progress) → (noted said p).calls ≡ p.calls
 noted-calls None p = refl
 noted-calls (Some n) p = refl
 
 mutual
-  same-run : (text : List ℕ) (tree : Tree) (a b : Pattern) (p : Progress) → ((m : ℕ) → p.calls < m → a m ≡ b m) → run_with text tree a p ≡ run_with text tree b p
-  same-run text (Ends end) a b p same = refl
-  same-run text (Does by order set branches) a b p same =
+  same-run : (handed : Handed) (tree : Tree) (a b : Pattern) (p : Progress) → ((m : ℕ) → p.calls < m → a m ≡ b m) → run_with handed tree a p ≡ run_with handed tree b p
+  same-run handed (Ends end) a b p same = refl
+  same-run handed (Does by order set branches) a b p same =
       let m = b (p.calls + 1) in
       let middle = after_moment m.exits p in
-      let s = answered text by order m.fate middle in
-      ap (stepping text by order set branches p a) (same (p.calls + 1) (omega arith))
+      let s = answered handed by order m.fate middle in
+      ap (stepping handed by order set branches p a) (same (p.calls + 1) (omega arith))
       ∙ ap (with_entry (record { by = by; call = call_of order (lacked_by by middle.lacked); answer = s.answer }) p middle)
-      (same-goes text branches (reply_of set s.answer) a b (after_call by order set s middle) (λ k lt. same k (omega (arith, lt))))
+      (same-goes handed branches (reply_of set s.answer) a b (after_call by order set s middle) (λ k lt. same k (omega (arith, lt))))
 
-  same-goes : (text : List ℕ) (bs : Branches) (r : Reply) (a b : Pattern) (p : Progress) → ((m : ℕ) → p.calls < m → a m ≡ b m) → goes_with text bs r a p ≡ goes_with text bs r b p
-  same-goes text Nothing r a b p same = refl
-  same-goes text (Branch replies said rest more) r a b p same =
-      elim (among replies r) as (λ c. elim c as (λ _. Ran) [ true ↦ run_with text rest a (noted said p) | false ↦ goes_with text more r a p ]
-      ≡ elim c as (λ _. Ran) [ true ↦ run_with text rest b (noted said p) | false ↦ goes_with text more r b p ]) [
-        | true ↦ same-run text rest a b (noted said p) (λ m lt. same m (omega (arith, lt, noted-calls said p)))
-        | false ↦ same-goes text more r a b p same
+  same-goes : (handed : Handed) (bs : Branches) (r : Reply) (a b : Pattern) (p : Progress) → ((m : ℕ) → p.calls < m → a m ≡ b m) → goes_with handed bs r a p ≡ goes_with handed bs r b p
+  same-goes handed Nothing r a b p same = refl
+  same-goes handed (Branch replies said rest more) r a b p same =
+      elim (among replies r) as (λ c. elim c as (λ _. Ran) [ true ↦ run_with handed rest a (noted said p) | false ↦ goes_with handed more r a p ]
+      ≡ elim c as (λ _. Ran) [ true ↦ run_with handed rest b (noted said p) | false ↦ goes_with handed more r b p ]) [
+        | true ↦ same-run handed rest a b (noted said p) (λ m lt. same m (omega (arith, lt, noted-calls said p)))
+        | false ↦ same-goes handed more r a b p same
       ]
 
-same-rest : (text : List ℕ) (rest : Option Tree) (a b : Pattern) (p : Progress) → ((m : ℕ) → p.calls < m → a m ≡ b m) → rest_run text rest a p ≡ rest_run text rest b p
-same-rest text None a b p same = refl
-same-rest text (Some tree) a b p same = same-run text tree a b p same
+same-rest : (handed : Handed) (rest : Option Tree) (a b : Pattern) (p : Progress) → ((m : ℕ) → p.calls < m → a m ≡ b m) → rest_run handed rest a p ≡ rest_run handed rest b p
+same-rest handed None a b p same = refl
+same-rest handed (Some tree) a b p same = same-run handed tree a b p same
 
 ---- Runs that end alike
 
@@ -103,7 +103,7 @@ onward-exit None es p = refl
 onward-exit (Some (None, rest)) es p = refl
 onward-exit (Some (Some n, rest)) es p = refl
 
-module _ (text : List ℕ) (g : Generation) (k : ℕ) where
+module _ (handed : Handed) (g : Generation) (k : ℕ) where
   abbrev worker : Name
   worker = name.Worker g k
 
@@ -113,18 +113,18 @@ module _ (text : List ℕ) (g : Generation) (k : ℕ) where
   -- the exit before a call that passes the worker by, and behind it
   module _ (by : ℕ) (order : Order) (set : List ℕ) (branches : Branches) (p : Progress) (passes : passes_by (call_of order (lacked_by by p.lacked)) worker ≡ true) where
     abbrev plain : Stepped
-    plain = step_with text by (call_of order (lacked_by by p.lacked)) None p.table
+    plain = step_with handed by (call_of order (lacked_by by p.lacked)) None p.table
 
-    step-same : stepped text by order set branches p leaving ≡ exited_step g k plain
-    step-same = (passed g k text by (call_of order (lacked_by by p.lacked)) p.table passes).same
+    step-same : stepped handed by order set branches p leaving ≡ exited_step g k plain
+    step-same = (passed g k handed by (call_of order (lacked_by by p.lacked)) p.table passes).same
 
-    found-same : found text by order set branches p leaving ≡ found text by order set branches p quiet
+    found-same : found handed by order set branches p leaving ≡ found handed by order set branches p quiet
     found-same = ap (λ (s : Stepped). branch branches (reply_of set s.answer)) step-same
 
     losses-same : p.losses + losses_of (worker ∷ []) p.table ≡ (p.losses + losses_of [] p.table) + losses_of (worker ∷ []) plain.table
-    losses-same = omega (arith, no-losses p.table, same-losses g k text by (call_of order (lacked_by by p.lacked)) p.table passes)
+    losses-same = omega (arith, no-losses p.table, same-losses g k handed by (call_of order (lacked_by by p.lacked)) p.table passes)
 
-    further-same : further text by order set branches p leaving ≡ after_moment (worker ∷ []) (further text by order set branches p quiet)
+    further-same : further handed by order set branches p leaving ≡ after_moment (worker ∷ []) (further handed by order set branches p quiet)
     further-same =
         let middle = after_moment (worker ∷ []) p in
         let on = after_call by order set (exited_step g k plain) middle in
@@ -134,21 +134,21 @@ module _ (text : List ℕ) (g : Generation) (k : ℕ) where
 
   -- From there on the run in which it has exited is that in which it exits next.
   joined : (rest : Option Tree) (ls : List Lack) (e : Entry) (x : Progress) (a b : Pattern) → Asks rest ls e → a (x.calls + 1) ≡ quiet → b (x.calls + 1) ≡ leaving →
-      ((m : ℕ) → x.calls + 1 < m → a m ≡ b m) → EndsAlike (rest_run text rest a (after_moment (worker ∷ []) x)) (rest_run text rest b x)
+      ((m : ℕ) → x.calls + 1 < m → a m ≡ b m) → EndsAlike (rest_run handed rest a (after_moment (worker ∷ []) x)) (rest_run handed rest b x)
   joined None ls e x a b asks here there behind = absurd asks
   joined (Some (Ends end)) ls e x a b asks here there behind = absurd asks
   joined (Some (Does by order set branches)) ls e x a b asks here there behind =
       let tree = Does by order set branches in
       let y = after_moment (worker ∷ []) x in
-      let rest = rest_after (found text by order set branches x leaving) in
-      let on = further text by order set branches x leaving in
-      let same : further text by order set branches y quiet ≡ on =
-      ap (λ (z : Progress). onward (found text by order set branches x leaving) (after_call by order set (stepped text by order set branches x leaving) z)) (no-exit y) in
-      let calls = further-calls text by order set branches x leaving in
-      let one = behind-entry _ _ _ (run_with text tree a y) (rest_run text rest a (further text by order set branches y quiet)) (runs-on text by order set branches y a quiet here) in
-      let two = behind-entry _ _ _ (run_with text tree b x) (rest_run text rest b on) (runs-on text by order set branches x b leaving there) in
-      let between : rest_run text rest a (further text by order set branches y quiet) ≡ rest_run text rest b on =
-      ap (rest_run text rest a) same ∙ same-rest text rest a b on (λ m lt. behind m (omega (arith, lt, calls))) in
+      let rest = rest_after (found handed by order set branches x leaving) in
+      let on = further handed by order set branches x leaving in
+      let same : further handed by order set branches y quiet ≡ on =
+      ap (λ (z : Progress). onward (found handed by order set branches x leaving) (after_call by order set (stepped handed by order set branches x leaving) z)) (no-exit y) in
+      let calls = further-calls handed by order set branches x leaving in
+      let one = behind-entry _ _ _ (run_with handed tree a y) (rest_run handed rest a (further handed by order set branches y quiet)) (runs-on handed by order set branches y a quiet here) in
+      let two = behind-entry _ _ _ (run_with handed tree b x) (rest_run handed rest b on) (runs-on handed by order set branches x b leaving there) in
+      let between : rest_run handed rest a (further handed by order set branches y quiet) ≡ rest_run handed rest b on =
+      ap (rest_run handed rest a) same ∙ same-rest handed rest a b on (λ m lt. behind m (omega (arith, lt, calls))) in
       alike-on _ _ _ (alike-on _ _ _ one (alike _ _ between)) (alike-back _ _ two)
 
 ---- Runs of a target
@@ -158,30 +158,30 @@ quiet-but e m not = other e (λ _. quiet) m not
 
 -- The run in which a worker exits before a call that passes it by is that in which it exits before the next call.
 later-exit : (r : Record) (to : Target) (turns : List Turn) (t : Table) (n : ℕ) (heirs : List ℕ) (rest : Option Tree) (p : Progress) (e : Entry) (ls : List Lack) (next : Entry) (g : Generation) (k q : ℕ) →
-    HasCome r to turns t (pattern_of NothingTried) n rest heirs p → Asks rest p.lacked e → passes_by e.call (name.Worker g k) ≡ true → Asks (rest_moved (text_handed r to) rest quiet p) ls next →
+    HasCome r to turns t (pattern_of NothingTried) n rest heirs p → Asks rest p.lacked e → passes_by e.call (name.Worker g k) ≡ true → Asks (rest_moved (handover_for r to) rest quiet p) ls next →
     report_under r to turns t (One (event_at (n + 1) (Exit (name.Worker g k) q))) ≡ report_under r to turns t (One (event_at (n + 1 + 1) (Exit (name.Worker g k) q)))
 later-exit r to turns t n heirs None p e ls next g k q come asks passes more = absurd asks
 later-exit r to turns t n heirs (Some (Ends end)) p e ls next g k q come asks passes more = absurd asks
 later-exit r to turns t n heirs (Some (Does by order set branches)) p e ls next g k q come asks passes more =
-    let text = text_handed r to in
+    let handed = handover_for r to in
     let tree = Does by order set branches in
     let first = event_at (n + 1) (Exit (name.Worker g k) q) in
     let second = event_at (n + 1 + 1) (Exit (name.Worker g k) q) in
     let a = pattern_of (One first) in
     let b = pattern_of (One second) in
-    let x = further text by order set branches p quiet in
-    let rest = rest_after (found text by order set branches p quiet) in
+    let x = further handed by order set branches p quiet in
+    let rest = rest_after (found handed by order set branches p quiet) in
     let passes' : passes_by (call_of order (lacked_by by p.lacked)) (name.Worker g k) ≡ true = ap (λ (c : Call). passes_by c (name.Worker g k)) (sym asks.1) ∙ passes in
-    let calls = further-calls text by order set branches p quiet in
-    let at-first : a (p.calls + 1) ≡ leaving text g k = at-event first (λ _. quiet) (p.calls + 1) (omega (arith, come.calls)) in
+    let calls = further-calls handed by order set branches p quiet in
+    let at-first : a (p.calls + 1) ≡ leaving handed g k = at-event first (λ _. quiet) (p.calls + 1) (omega (arith, come.calls)) in
     let before : b (p.calls + 1) ≡ quiet = quiet-but second (p.calls + 1) (omega (arith, come.calls)) in
     let one = alike-on _ _ _ (come.ends a (same-before first (λ _. quiet) n (omega arith)))
-    (behind-entry _ _ _ (run_with text tree a p) _ (runs-on text by order set branches p a (leaving text g k) at-first)) in
+    (behind-entry _ _ _ (run_with handed tree a p) _ (runs-on handed by order set branches p a (leaving handed g k) at-first)) in
     let two = alike-on _ _ _ (come.ends b (same-before second (λ _. quiet) n (omega arith)))
-    (behind-entry _ _ _ (run_with text tree b p) _ (runs-on text by order set branches p b quiet before)) in
-    let onto : rest_run text (rest_after (found text by order set branches p (leaving text g k))) a (further text by order set branches p (leaving text g k)) ≡ rest_run text rest a (after_moment (name.Worker g k ∷ []) x) =
-    λ i. rest_run text (rest_after (found-same text g k by order set branches p passes' i)) a (further-same text g k by order set branches p passes' i) in
-    let join = joined text g k rest ls next x a b more (quiet-but first (x.calls + 1) (omega (arith, calls, come.calls))) (at-event second (λ _. quiet) (x.calls + 1) (omega (arith, calls, come.calls)))
+    (behind-entry _ _ _ (run_with handed tree b p) _ (runs-on handed by order set branches p b quiet before)) in
+    let onto : rest_run handed (rest_after (found handed by order set branches p (leaving handed g k))) a (further handed by order set branches p (leaving handed g k)) ≡ rest_run handed rest a (after_moment (name.Worker g k ∷ []) x) =
+    λ i. rest_run handed (rest_after (found-same handed g k by order set branches p passes' i)) a (further-same handed g k by order set branches p passes' i) in
+    let join = joined handed g k rest ls next x a b more (quiet-but first (x.calls + 1) (omega (arith, calls, come.calls))) (at-event second (λ _. quiet) (x.calls + 1) (omega (arith, calls, come.calls)))
     (λ m lt. quiet-but first m (omega (arith, lt, calls, come.calls)) ∙ sym (quiet-but second m (omega (arith, lt, calls, come.calls)))) in
     reports (sides_of r to) _ _ (alike-on _ _ _ (alike-on _ _ _ one (alike _ _ onto)) (alike-on _ _ _ join (alike-back _ _ two)))
 
@@ -195,7 +195,7 @@ known-later run due after p by call (name.Worker g k) q at asks tried is next pa
     let T = trail_on run.course in
     let e : Entry = record { by = due.by; call = due.call; answer = answer.Fine } in
     let here : Asks T.rest p.lacked e = subst (λ ks. Asks T.rest ks e) (sym (ap (λ (t : Trail). t.lacked) at.trail)) (asks answer.Fine) in
-    let there : Asks (rest_moved (text_handed r to) T.rest quiet p) (trail_on after.course).lacked (record { by = by; call = call; answer = answer.Fine }) =
+    let there : Asks (rest_moved (handover_for r to) T.rest quiet p) (trail_on after.course).lacked (record { by = by; call = call; answer = answer.Fine }) =
     subst (λ rest. Asks rest (trail_on after.course).lacked (record { by = by; call = call; answer = answer.Fine })) (is.rest p at) (next answer.Fine) in
     let come = subst (λ (x : Tried). HasCome r to (turns_of run.course) run.first.now.table (pattern_of x) run.made T.rest (listed run.heir) p) tried at.come in
     later-exit r to (turns_of run.course) run.first.now.table run.made (listed run.heir) T.rest p e _ _ g k q come here passes there

@@ -10,8 +10,8 @@ use Rattle.vocabulary.specs.declared.calls.Call.TheVariants.{OpenAt, CloseAt, Fo
 use Rattle.definitions.specs.Table.{FilePath, Hold, Starting, Process, Master, Worker, Foreign, Table, number_of, is_active, is_starting, is_exited, is_any, is_draining, is_named, is_worker, is_held, is_live_master, Caller, live_master, owner_at}
 use Rattle.definitions.specs.Exits.{change, made_exited, kept_if, without_exited, caller_exits, exited, all_exited, after_exits}
 use Rattle.definitions.specs.Calls.{Fate, Stepped, with_holds, made_ready, made_draining, drop_where, without_master, with_new_row, lacks_address, put_hold, lowest_free, shared, suits, has_process_room, is_row, is_of, is_exited_of, is_image, is_of_image, moved_if, asked_alive, own_step, fault_at, fault_or_own, step_by, step_with}
-use Rattle.definitions.specs.Reading.{reading}
-use Rattle.definitions.specs.Formed.{IsAscending}
+use Rattle.definitions.specs.Table.{IsAscending}
+use Rattle.definitions.specs.Calls.{Handed}
 use Rattle.kernel_table.proofs.Keeping.{Becomes, Becomes-filter_map, Becomes-first_changed, says-change, says-dropped}
 use Rattle.kernel_model.proofs.CallSteps.{ascending-append}
 
@@ -113,7 +113,7 @@ one_of : (b : Bool) (x y : Stepped) → Rises x.table → Rises y.table → (let
 one_of true x y h g = h
 one_of false x y h g = g
 
-module _ (text : List ℕ) (image : ℕ) (c : Caller) (t : Table) (h : Rises t) where
+module _ (handed : Handed) (image : ℕ) (c : Caller) (t : Table) (h : Rises t) where
   row-more : (row : ℕ → Process) → ((n : ℕ) → number_of (row n) ≡ n) → Rises (with_new_row t row)
   row-more row numbered = ascending-append t.rows 0 t.next_process (row t.next_process) (numbered t.next_process) h
 
@@ -125,7 +125,7 @@ module _ (text : List ℕ) (image : ℕ) (c : Caller) (t : Table) (h : Rises t) 
   asks (Some m) i = h
   asks None i = dropped t.next_process t.rows h (is_image i)
 
-  own : (call : Call) → (let z : Stepped = own_step text image c call t in Rises z.table)
+  own : (call : Call) → (let z : Stepped = own_step handed image c call t in Rises z.table)
   own (OpenAt a) =
       one_of (is_held a t.rows) _ _ h
       (one_of (nat_lt (length c.holds) t.limits.descriptors) _ _
@@ -145,7 +145,7 @@ module _ (text : List ℕ) (image : ℕ) (c : Caller) (t : Table) (h : Rises t) 
   own (SpawnMaster i) =
       one_of (list_any (is_image i) t.rows) _ _ h
       (one_of (has_process_room t) _ _ (row-more (λ n. Master n c.number i true c.holds) (λ n. refl)) h)
-  own Adopt = one_of (suits (reading text) image c.holds) _ _ h h
+  own Adopt = one_of (suits handed image c.holds) _ _ h h
   own (WritePid path) = h
   own (MovePid from to) = moves (owner_at from t.files) from to
   own (RemovePid path) = h
@@ -155,13 +155,13 @@ module _ (text : List ℕ) (image : ℕ) (c : Caller) (t : Table) (h : Rises t) 
   own (Ask n) = h
   own (TermMaster i) = dropped t.next_process t.rows h (is_of_image i t.rows)
 
-  faulted : (a : Option Answer) (call : Call) → (let z : Stepped = fault_or_own a text image c call t in Rises z.table)
+  faulted : (a : Option Answer) (call : Call) → (let z : Stepped = fault_or_own a handed image c call t in Rises z.table)
   faulted None call = own call
   faulted (Some a) call = h
 
-by-caller : (text : List ℕ) (image : ℕ) (c : Option Caller) (call : Call) (f : Option Fate) (t : Table) → Rises t → (let z : Stepped = step_by text image c call f t in Rises z.table)
-by-caller text image None call f t h = h
-by-caller text image (Some c) call f t h = faulted text image c t h (fault_at c call f t) call
+by-caller : (handed : Handed) (image : ℕ) (c : Option Caller) (call : Call) (f : Option Fate) (t : Table) → Rises t → (let z : Stepped = step_by handed image c call f t in Rises z.table)
+by-caller handed image None call f t h = h
+by-caller handed image (Some c) call f t h = faulted handed image c t h (fault_at c call f t) call
 
-pub rises-step : (text : List ℕ) (image : ℕ) (call : Call) (f : Option Fate) (t : Table) → Rises t → (let z : Stepped = step_with text image call f t in Rises z.table)
-rises-step text image call f t h = by-caller text image (live_master image t.rows) call f t h
+pub rises-step : (handed : Handed) (image : ℕ) (call : Call) (f : Option Fate) (t : Table) → Rises t → (let z : Stepped = step_with handed image call f t in Rises z.table)
+rises-step handed image call f t h = by-caller handed image (live_master image t.rows) call f t h

@@ -11,14 +11,13 @@ use Rattle.vocabulary.specs.declared.calls.Fate.TheVariants as fate
 use Rattle.vocabulary.specs.declared.targets.Target.{Target}
 use Rattle.definitions.specs.Table.{Process, Master, Worker, Foreign, Table, number_of, is_active}
 use Rattle.definitions.specs.Record.{Record}
-use Rattle.definitions.specs.Parts.{Turn}
+use Rattle.definitions.specs.Plans.{Turn}
 use Rattle.definitions.specs.Exits.{after_exits}
-use Rattle.definitions.specs.Calls.{Call, Fate, step_with}
-use Rattle.definitions.specs.Path.{Entry}
-use Rattle.definitions.specs.Run.{Pattern}
-use Rattle.definitions.specs.Target.{text_handed}
+use Rattle.definitions.specs.Calls.{Call, Fate, step_with, Handed}
+use Rattle.definitions.specs.Run.{Entry, Pattern}
+use Rattle.definitions.specs.Target.{handover_for}
 use Rattle.definitions.specs.Claims.{run_of, heirs_of}
-use Rattle.definitions.specs.Formed.{IsFormed, IsAscending}
+use Rattle.definitions.specs.Table.{IsFormed, IsAscending}
 use Rattle.kernel_model.specs.Readers.{row_of}
 use Rattle.explorer.specs.declared.events.Mishap.{Mishap}
 use Rattle.explorer.specs.declared.events.Mishap.TheVariants.{Exit, Fail}
@@ -159,86 +158,86 @@ module _ (heirs : List ℕ) (least : ℕ) where
       at None is rest = lower a (number_of p + 1) (map process_in (exits rows)) (omega (arith, h.0)) rest
       at (Some m) is rest = (omega (arith, h.0, is.1), subst (λ n. RisesFrom (n + 1) (map process_in (exits rows))) (sym is.1) rest)
 
-module _ (text : List ℕ) (by : ℕ) (call : Call) (heirs : List ℕ) (t : Table) where
+module _ (handed : Handed) (by : ℕ) (call : Call) (heirs : List ℕ) (t : Table) where
   abbrev fails : List Fate
-  fails = filter (takes_effect text by call t) all_fates
+  fails = filter (takes_effect handed by call t) all_fates
 
   no-fail : (least : ℕ) (m : Mishap) → IsExitAbove least m → AllByRecursion (λ y. m ≢ y) (map Fail fails)
   no-fail least (Exit n q) is = all-map (λ y. Exit n q ≢ y) Fail fails (everywhere (λ f. Exit n q ≢ Fail f) (λ f same. cc) fails)
   no-fail least (Fail f) is = absurd is
 
-  mishaps-differ : (least : ℕ) → Rises t → Differ (mishaps_at text by call heirs least t)
+  mishaps-differ : (least : ℕ) → Rises t → Differ (mishaps_at handed by call heirs least t)
   mishaps-differ least h =
       let gone = exits heirs least t.rows in
       differ-append gone (map Fail fails) (differ-rising process_in 0 gone (exits-rise heirs least t.rows 0 t.next_process h))
-      (differ-map Fail (λ x y same. cc) fails (differ-filter (takes_effect text by call t) all_fates fates-differ))
+      (differ-map Fail (λ x y same. cc) fails (differ-filter (takes_effect handed by call t) all_fates fates-differ))
       (weaken (IsExitAbove least) (λ m. AllByRecursion (λ y. m ≢ y) (map Fail fails)) (no-fail least) gone (are-exits heirs least t.rows))
 
-  beside-differ : (m : Mishap) → Rises t → Differ (beside text by call heirs m t)
+  beside-differ : (m : Mishap) → Rises t → Differ (beside handed by call heirs m t)
   beside-differ (Exit n q) h = mishaps-differ q h
   beside-differ (Fail f) h = tt
 
-  open-differ : (last : Option Event) (n : ℕ) → Rises t → Differ (open_at text by call heirs last n t)
+  open-differ : (last : Option Event) (n : ℕ) → Rises t → Differ (open_at handed by call heirs last n t)
   open-differ None n h = mishaps-differ 0 h
   open-differ (Some e) n h =
-      cond_both (nat_lt n e.number) [] (cond (n == e.number) (beside text by call heirs e.mishap t) (mishaps_at text by call heirs 0 t)) Differ (λ is. tt)
-      (λ is. cond_both (n == e.number) (beside text by call heirs e.mishap t) (mishaps_at text by call heirs 0 t) Differ (λ at. beside-differ e.mishap h) (λ off. mishaps-differ 0 h))
+      cond_both (nat_lt n e.number) [] (cond (n == e.number) (beside handed by call heirs e.mishap t) (mishaps_at handed by call heirs 0 t)) Differ (λ is. tt)
+      (λ is. cond_both (n == e.number) (beside handed by call heirs e.mishap t) (mishaps_at handed by call heirs 0 t) Differ (λ at. beside-differ e.mishap h) (λ off. mishaps-differ 0 h))
 
   above-exit : (n : Name) (q : ℕ) (m : Mishap) → IsExitAbove q m → IsBeside (Exit n q) m
   above-exit n q (Exit k p) is = is
   above-exit n q (Fail f) is = absurd is
 
-  are-beside : (m : Mishap) → AllByRecursion (IsBeside m) (beside text by call heirs m t)
+  are-beside : (m : Mishap) → AllByRecursion (IsBeside m) (beside handed by call heirs m t)
   are-beside (Exit n q) =
       all-append (IsBeside (Exit n q)) (exits heirs q t.rows) (map Fail fails)
       (weaken (IsExitAbove q) (IsBeside (Exit n q)) (above-exit n q) (exits heirs q t.rows) (are-exits heirs q t.rows))
       (all-map (IsBeside (Exit n q)) Fail fails (everywhere (λ f. IsBeside (Exit n q) (Fail f)) (λ f. tt) fails))
   are-beside (Fail f) = tt
 
-  open-behind : (e : Event) (n : ℕ) → AllByRecursion (λ m. IsBehind e (event_at n m)) (open_at text by call heirs (Some e) n t)
+  open-behind : (e : Event) (n : ℕ) → AllByRecursion (λ m. IsBehind e (event_at n m)) (open_at handed by call heirs (Some e) n t)
   open-behind e n =
       let P : Mishap → Type 0 = λ m. IsBehind e (event_at n m) in
-      cond_both (nat_lt n e.number) [] (cond (n == e.number) (beside text by call heirs e.mishap t) (mishaps_at text by call heirs 0 t)) (AllByRecursion P) (λ is. tt)
-      (λ from. cond_both (n == e.number) (beside text by call heirs e.mishap t) (mishaps_at text by call heirs 0 t) (AllByRecursion P)
-      (λ at. weaken (IsBeside e.mishap) P (λ m is. inr (sym (eqb-true n e.number at), is)) (beside text by call heirs e.mishap t) (are-beside e.mishap))
-      (λ off. everywhere P (λ m. inl (omega (arith, ltb-false n e.number from, eqb-false n e.number off))) (mishaps_at text by call heirs 0 t)))
+      cond_both (nat_lt n e.number) [] (cond (n == e.number) (beside handed by call heirs e.mishap t) (mishaps_at handed by call heirs 0 t)) (AllByRecursion P) (λ is. tt)
+      (λ from. cond_both (n == e.number) (beside handed by call heirs e.mishap t) (mishaps_at handed by call heirs 0 t) (AllByRecursion P)
+      (λ at. weaken (IsBeside e.mishap) P (λ m is. inr (sym (eqb-true n e.number at), is)) (beside handed by call heirs e.mishap t) (are-beside e.mishap))
+      (λ off. everywhere P (λ m. inl (omega (arith, ltb-false n e.number from, eqb-false n e.number off))) (mishaps_at handed by call heirs 0 t)))
 
 ---- What a run meets
 
 abbrev IsLater : ℕ → Event → Type 0
 IsLater n e = n < e.number
 
-met-differ : (text : List ℕ) (last : Option Event) (q : Pattern) (heirs : List ℕ) (n : ℕ) (t : Table) (entries : List Entry) → Rises t →
-    Differ (met text last q heirs n t entries) × AllByRecursion (IsLater n) (met text last q heirs n t entries)
-met-differ text last q heirs n t [] h = (tt, tt)
-met-differ text last q heirs n t (e ∷ es) h =
+met-differ : (handed : Handed) (last : Option Event) (q : Pattern) (heirs : List ℕ) (n : ℕ) (t : Table) (entries : List Entry) → Rises t →
+    Differ (met handed last q heirs n t entries) × AllByRecursion (IsLater n) (met handed last q heirs n t entries)
+met-differ handed last q heirs n t [] h = (tt, tt)
+met-differ handed last q heirs n t (e ∷ es) h =
     let moment = q (n + 1) in
     let middle = after_exits moment.exits t in
     let rises = rises-exits moment.exits t h in
     let waits = waiting e.call heirs in
-    let here = open_at text e.by e.call waits last (n + 1) middle in
-    let next : Table = (step_with text e.by e.call moment.fate middle).table in
-    let behind = met text last q waits (n + 1) next es in
-    let rest = met-differ text last q waits (n + 1) next es (rises-step text e.by e.call moment.fate middle rises) in
+    let here = open_at handed e.by e.call waits last (n + 1) middle in
+    let next : Table = (step_with handed e.by e.call moment.fate middle).table in
+    let behind = met handed last q waits (n + 1) next es in
+    let rest = met-differ handed last q waits (n + 1) next es (rises-step handed e.by e.call moment.fate middle rises) in
     let apart : (m : Mishap) → AllByRecursion (λ y. event_at (n + 1) m ≢ y) behind =
     λ m. weaken (IsLater (n + 1)) (λ y. event_at (n + 1) m ≢ y) (λ y lt same. omega (arith, lt, ap (λ (x : Event). x.number) same)) behind rest.1 in (
-      differ-append (map (event_at (n + 1)) here) behind (differ-map (event_at (n + 1)) (λ x y same. ap (λ (v : Event). v.mishap) same) here (open-differ text e.by e.call waits middle last (n + 1) rises)) rest.0
+      differ-append (map (event_at (n + 1)) here) behind (differ-map (event_at (n + 1)) (λ x y same. ap (λ (v : Event). v.mishap) same) here (open-differ handed e.by e.call waits middle last (n + 1) rises)) rest.0
           (all-map (λ x. AllByRecursion (λ y. x ≢ y) behind) (event_at (n + 1)) here (everywhere (λ m. AllByRecursion (λ y. event_at (n + 1) m ≢ y) behind) apart here)),
       all-append (IsLater n) (map (event_at (n + 1)) here) behind (all-map (IsLater n) (event_at (n + 1)) here (everywhere (λ m. IsLater n (event_at (n + 1) m)) (λ m. omega arith) here))
           (weaken (IsLater (n + 1)) (IsLater n) (λ y lt. omega (arith, lt)) behind rest.1),
     )
 
-met-behind : (text : List ℕ) (first : Event) (q : Pattern) (heirs : List ℕ) (n : ℕ) (t : Table) (entries : List Entry) → AllByRecursion (IsBehind first) (met text (Some first) q heirs n t entries)
-met-behind text first q heirs n t [] = tt
-met-behind text first q heirs n t (e ∷ es) =
+met-behind : (handed : Handed) (first : Event) (q : Pattern) (heirs : List ℕ) (n : ℕ) (t : Table) (entries : List Entry) → AllByRecursion (IsBehind first) (met handed (Some first) q heirs n t entries)
+met-behind handed first q heirs n t [] = tt
+met-behind handed first q heirs n t (e ∷ es) =
     let moment = q (n + 1) in
     let middle = after_exits moment.exits t in
     let waits = waiting e.call heirs in
-    let here = open_at text e.by e.call waits (Some first) (n + 1) middle in
-    let next : Table = (step_with text e.by e.call moment.fate middle).table in
-    let behind = met text (Some first) q waits (n + 1) next es in
-    all-append (IsBehind first) (map (event_at (n + 1)) here) behind (all-map (IsBehind first) (event_at (n + 1)) here (open-behind text e.by e.call waits middle first (n + 1)))
-    (met-behind text first q waits (n + 1) next es)
+    let here = open_at handed e.by e.call waits (Some first) (n + 1) middle in
+    let next : Table = (step_with handed e.by e.call moment.fate middle).table in
+    let behind = met handed (Some first) q waits (n + 1) next es in
+    all-append (IsBehind first) (map (event_at (n + 1)) here) behind (all-map (IsBehind first) (event_at (n + 1)) here (open-behind handed e.by e.call waits middle first (n + 1)))
+    (met-behind handed first q waits (n + 1) next es)
 
 ---- All runs of a target
 
@@ -278,7 +277,7 @@ module _ (r : Record) (target : Target) (turns : List Turn) (t : Table) (pairs :
         (λ is. (
           all-map (λ y. One e ≢ y) (Two e) es (everywhere (λ f. One e ≢ Two e f) (λ f same. cc) es),
           differ-map (Two e) (λ x y same. cc) es
-              (met-differ (text_handed r target) (Some e) (pattern_of (One e)) (heirs_of r target) 0 t (run_of r target turns (pattern_of (One e)) t).entries rises).0,
+              (met-differ (handover_for r target) (Some e) (pattern_of (One e)) (heirs_of r target) 0 t (run_of r target turns (pattern_of (One e)) t).entries rises).0,
         ))
         (λ is. (tt, tt))
 
@@ -293,13 +292,13 @@ module _ (r : Record) (target : Target) (turns : List Turn) (t : Table) (pairs :
 
     all-differ : Differ (all_tried r target turns t pairs)
     all-differ =
-        let first = met-differ (text_handed r target) None (pattern_of Nothing) (heirs_of r target) 0 t (run_of r target turns (pattern_of Nothing) t).entries rises in (
+        let first = met-differ (handover_for r target) None (pattern_of Nothing) (heirs_of r target) 0 t (run_of r target turns (pattern_of Nothing) t).entries rises in (
           each-all (λ y. Nothing ≢ y) (λ e. with-all (λ y. Nothing ≢ y) e (λ same. cc) (everywhere (λ f. Nothing ≢ Two e f) (λ f same. cc) (second e))) (events_after r target turns t Nothing),
           each-differ (events_after r target turns t Nothing) first.0,
         )
 
   ordered : (e : Event) → AllByRecursion IsInOrder (with_pairs r target turns t pairs e)
-  ordered e = with-all IsInOrder e tt (met-behind (text_handed r target) e (pattern_of (One e)) (heirs_of r target) 0 t (run_of r target turns (pattern_of (One e)) t).entries)
+  ordered e = with-all IsInOrder e tt (met-behind (handover_for r target) e (pattern_of (One e)) (heirs_of r target) 0 t (run_of r target turns (pattern_of (One e)) t).entries)
 
 few : (r : Record) (target : Target) (turns : List Turn) (t : Table) (pairs : Bool) (e : Event) → AllByRecursion (λ x. events_in x ≤ most_events pairs) (with_pairs r target turns t pairs e)
 few r target turns t true e =

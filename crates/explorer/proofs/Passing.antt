@@ -11,6 +11,7 @@ use Rattle.vocabulary.specs.declared.table.Stance.TheVariants.{Starting, Ready, 
 use Rattle.definitions.specs.Table.{Process, Master, Worker, Foreign, Table, Caller, caller_if, live_master, bears, same_generation, with_rows, is_own, is_any, is_active, is_starting, is_exited, is_named, is_worker}
 use Rattle.definitions.specs.Exits.{change, made_exited, after_exits, losses_of, is_active_worker}
 use Rattle.definitions.specs.Calls.{Stepped, Answer, Call, OpenAt, CloseAt, Fork, AwaitReady, Quit, Kill, Census, AwaitGone, SpawnMaster, Adopt, WritePid, MovePid, RemovePid, Alive, Leave, Usr1, TermMaster, Ask, step_with, step_by, own_step, gives, each_row, drop_where, made_ready, made_draining, has_process_room, with_new_row, shared}
+use Rattle.definitions.specs.Calls.{Handed}
 use Rattle.vocabulary.specs.declared.calls.Answer.TheVariants as answer
 use Rattle.table_laws.proofs.Rows.{one, worth, weigh, change-same, count-weigh, weigh-append, every-any, both-true}
 use Rattle.call_laws.proofs.Choices.{pick, and-left, and-right}
@@ -260,49 +261,49 @@ module _ (g : Generation) (k : ℕ) where
   positive true e = sym e
   positive false e = refl
 
-  own : (text : List ℕ) (image : ℕ) (c : Caller) (call : Call) (t : Table) → passes_by call (name.Worker g k) ≡ true → Passes (own_step text image c call) t
-  own text image c (OpenAt a) t e = absurd (cc e)
-  own text image c (CloseAt a) t e = absurd (cc e)
-  own text image c (Fork h j fds) t e =
+  own : (handed : Handed) (image : ℕ) (c : Caller) (call : Call) (t : Table) → passes_by call (name.Worker g k) ≡ true → Passes (own_step handed image c call) t
+  own handed image c (OpenAt a) t e = absurd (cc e)
+  own handed image c (CloseAt a) t e = absurd (cc e)
+  own handed image c (Fork h j fds) t e =
       let other = positive (bears g k h j) e in
       waits c h j other (gives answer.Again) (λ t. if has_process_room t then gives answer.Forked (with_new_row t (new_row c h j other fds)) else gives answer.Again t) t (stands c h j other answer.Again t) (forks c h j other fds t)
-  own text image c (AwaitReady h j) t e =
+  own handed image c (AwaitReady h j) t e =
       let other = positive (bears g k h j) e in
       waits c h j other _ _ t (changes c h j other is_starting made_ready answer.IsReady t (renames-ready c h j other)) (drops c h j other is_exited answer.Gone t)
-  own text image c (Quit h j) t e =
+  own handed image c (Quit h j) t e =
       let other = positive (bears g k h j) e in
       changes c h j other is_active made_draining answer.Fine t (renames-draining c h j other)
-  own text image c (Kill h j) t e = drops c h j (positive (bears g k h j) e) is_any answer.Fine t
-  own text image c (Census h) t e = absurd (cc e)
-  own text image c (AwaitGone h j) t e =
+  own handed image c (Kill h j) t e = drops c h j (positive (bears g k h j) e) is_any answer.Fine t
+  own handed image c (Census h) t e = absurd (cc e)
+  own handed image c (AwaitGone h j) t e =
       let other = positive (bears g k h j) e in
       waits c h j other (gives answer.Late) _ t (stands c h j other answer.Late t) (drops c h j other is_any answer.Gone t)
-  own text image c (SpawnMaster i) t e = absurd (cc e)
-  own text image c Adopt t e = absurd (cc e)
-  own text image c (WritePid path) t e = absurd (cc e)
-  own text image c (MovePid from to) t e = absurd (cc e)
-  own text image c (RemovePid path) t e = absurd (cc e)
-  own text image c (Alive i) t e = absurd (cc e)
-  own text image c Leave t e = absurd (cc e)
-  own text image c (Usr1 h j) t e = stands c h j (positive (bears g k h j) e) answer.Fine t
-  own text image c (TermMaster i) t e = absurd (cc e)
-  own text image c (Ask q) t e = absurd (cc e)
+  own handed image c (SpawnMaster i) t e = absurd (cc e)
+  own handed image c Adopt t e = absurd (cc e)
+  own handed image c (WritePid path) t e = absurd (cc e)
+  own handed image c (MovePid from to) t e = absurd (cc e)
+  own handed image c (RemovePid path) t e = absurd (cc e)
+  own handed image c (Alive i) t e = absurd (cc e)
+  own handed image c Leave t e = absurd (cc e)
+  own handed image c (Usr1 h j) t e = stands c h j (positive (bears g k h j) e) answer.Fine t
+  own handed image c (TermMaster i) t e = absurd (cc e)
+  own handed image c (Ask q) t e = absurd (cc e)
 
-  pub passed : (text : List ℕ) (image : ℕ) (call : Call) (t : Table) → passes_by call (name.Worker g k) ≡ true → Passes (step_with text image call None) t
-  passed text image call t e =
+  pub passed : (handed : Handed) (image : ℕ) (call : Call) (t : Table) → passes_by call (name.Worker g k) ≡ true → Passes (step_with handed image call None) t
+  passed handed image call t e =
       let by = own_or (live_master image t.rows) in
       record {
-        same = ap (λ (o : Option Caller). step_by text image o call None (exit t)) (same-master image t.rows) ∙ by.same;
+        same = ap (λ (o : Option Caller). step_by handed image o call None (exit t)) (same-master image t.rows) ∙ by.same;
         stake = by.stake;
       }
     where
-      own_or : (o : Option Caller) → Passes (λ t. step_by text image o call None t) t
+      own_or : (o : Option Caller) → Passes (λ t. step_by handed image o call None t) t
       own_or None = record { same = refl; stake = refl }
       own_or (Some c) =
-          let p = own text image c call t e in
+          let p = own handed image c call t e in
           record { same = p.same; stake = p.stake }
 
 -- What a step's call loses is lost before it or behind it.
-pub same-losses : (g : Generation) (k : ℕ) (text : List ℕ) (image : ℕ) (call : Call) (t : Table) → passes_by call (name.Worker g k) ≡ true → losses_of (name.Worker g k ∷ []) (step_with text image call None t).table ≡ losses_of (name.Worker g k ∷ []) t
-same-losses g k text image call t e =
-    losses-at-stake g k (step_with text image call None t).table ∙ (passed g k text image call t e).stake ∙ sym (losses-at-stake g k t)
+pub same-losses : (g : Generation) (k : ℕ) (handed : Handed) (image : ℕ) (call : Call) (t : Table) → passes_by call (name.Worker g k) ≡ true → losses_of (name.Worker g k ∷ []) (step_with handed image call None t).table ≡ losses_of (name.Worker g k ∷ []) t
+same-losses g k handed image call t e =
+    losses-at-stake g k (step_with handed image call None t).table ∙ (passed g k handed image call t e).stake ∙ sym (losses-at-stake g k t)

@@ -2,9 +2,8 @@
 use Rattle.std.specs.Prelude.{◌≡◌, ◌+◌, Bool, List, map}
 use Rattle.std.specs.List.{AllByRecursion}
 use Rattle.definitions.specs.Exits.{after_exits}
-use Rattle.definitions.specs.Path.{Report}
-use Rattle.definitions.specs.Run.{quiet}
-use Rattle.definitions.specs.Target.{text_handed}
+use Rattle.definitions.specs.Run.{Report, quiet}
+use Rattle.definitions.specs.Target.{handover_for}
 use Rattle.plan_walk.specs.Course.{turns_of, trail_on}
 use Rattle.plan_walk.specs.Walk.{AsksFor}
 use Rattle.plan_executor.specs.Naming.{listed}
@@ -62,7 +61,7 @@ abbrev pub beside_here : BranchPoint → Mishap → List Mishap
 beside_here point m =
     let run = point.run.now in
     let due = point.due.now in
-    beside (text_handed run.state.now run.target.now) due.by due.call (waiting due.call (listed run.heir)) m (after_exits (with_mishap m quiet).exits run.kernel.table)
+    beside (handover_for run.state.now run.target.now) due.by due.call (waiting due.call (listed run.heir)) m (after_exits (with_mishap m quiet).exits run.kernel.table)
 
 -- The pairs of an event at the call with what more can go wrong there.
 abbrev pub pairs_beside : BranchPoint → Event → List Tried

@@ -5,12 +5,11 @@ use Rattle.listener_set.specs.Numbers.{is_in}
 use Rattle.vocabulary.specs.declared.names.Name.TheVariants as name
 use Rattle.definitions.specs.Table.{Table, is_active}
 use Rattle.definitions.specs.Exits.{after_exits}
-use Rattle.definitions.specs.Calls.{Call, Fate, step_with}
+use Rattle.definitions.specs.Calls.{Call, Fate, step_with, Handed}
 use Rattle.vocabulary.specs.Fates.{all_fates}
-use Rattle.definitions.specs.Path.{Entry}
+use Rattle.definitions.specs.Run.{Entry, Moment, Pattern, quiet}
 use Rattle.definitions.specs.Tree.{reply_of, same_reply}
 use Rattle.definitions.specs.Manner.{is_leave_call}
-use Rattle.definitions.specs.Run.{Moment, Pattern, quiet}
 use Rattle.kernel_pattern.specs.Pattern.{with_exit, with_fate}
 use Rattle.kernel_model.specs.Readers.{row_of}
 use Rattle.kernel_rows.specs.declared.process.Row.{Row}
@@ -45,8 +44,8 @@ events_in (Two e f) = 2
 ---- What can go wrong at a call
 
 -- A fate takes effect where the call is answered otherwise than by itself.
-abbrev pub takes_effect : List ℕ → ℕ → Call → Table → Fate → Bool
-takes_effect text by call t f = not (same_reply (reply_of [] (step_with text by call (Some f) t).answer) (reply_of [] (step_with text by call None t).answer))
+abbrev pub takes_effect : Handed → ℕ → Call → Table → Fate → Bool
+takes_effect handed by call t f = not (same_reply (reply_of [] (step_with handed by call (Some f) t).answer) (reply_of [] (step_with handed by call None t).answer))
 
 -- Whose exit matters, of processes with a higher number than this: a Starting or Ready worker's, and that of a live master of
 -- one of these images.
@@ -56,20 +55,20 @@ exit_of heirs above (row.Master n q i live) = if live && is_in heirs i && nat_lt
 exit_of heirs above (row.Foreign n) = None
 
 -- The exits before a call that matter, and the fates of the call that take effect.
-abbrev pub mishaps_at : List ℕ → ℕ → Call → List ℕ → ℕ → Table → List Mishap
-mishaps_at text by call heirs above t = filter_map (exit_of heirs above) (map row_of t.rows) ++ map Fail (filter (takes_effect text by call t) all_fates)
+abbrev pub mishaps_at : Handed → ℕ → Call → List ℕ → ℕ → Table → List Mishap
+mishaps_at handed by call heirs above t = filter_map (exit_of heirs above) (map row_of t.rows) ++ map Fail (filter (takes_effect handed by call t) all_fates)
 
 -- What more can go wrong at the call of a mishap, where the table is the one after it: of two exits before one call the process
 -- with the lower number exits first, and a call fails in one way.
-abbrev pub beside : List ℕ → ℕ → Call → List ℕ → Mishap → Table → List Mishap
-beside text by call heirs (Exit n q) t = mishaps_at text by call heirs q t
-beside text by call heirs (Fail f) t = []
+abbrev pub beside : Handed → ℕ → Call → List ℕ → Mishap → Table → List Mishap
+beside handed by call heirs (Exit n q) t = mishaps_at handed by call heirs q t
+beside handed by call heirs (Fail f) t = []
 
 -- What can go wrong at call number n, behind an event where there is one.
-abbrev pub open_at : List ℕ → ℕ → Call → List ℕ → Option Event → ℕ → Table → List Mishap
-open_at text by call heirs None n t = mishaps_at text by call heirs 0 t
-open_at text by call heirs (Some e) n t =
-    if nat_lt n e.number then [] else if n == e.number then beside text by call heirs e.mishap t else mishaps_at text by call heirs 0 t
+abbrev pub open_at : Handed → ℕ → Call → List ℕ → Option Event → ℕ → Table → List Mishap
+open_at handed by call heirs None n t = mishaps_at handed by call heirs 0 t
+open_at handed by call heirs (Some e) n t =
+    if nat_lt n e.number then [] else if n == e.number then beside handed by call heirs e.mishap t else mishaps_at handed by call heirs 0 t
 
 -- Who has yet to take over, at a call and after it: nobody from the old master's Leave on.
 abbrev pub waiting : Call → List ℕ → List ℕ
@@ -80,10 +79,10 @@ event_at n m = record { number = n; mishap = m }
 
 -- The events that these calls meet under a pattern, behind an event where there is one: the first call is number n + 1, and this
 -- is the table before it.
-abbrev pub met : List ℕ → Option Event → Pattern → List ℕ → ℕ → Table → List Entry → List Event
-met text last pattern heirs n t [] = []
-met text last pattern heirs n t (e ∷ entries) =
+abbrev pub met : Handed → Option Event → Pattern → List ℕ → ℕ → Table → List Entry → List Event
+met handed last pattern heirs n t [] = []
+met handed last pattern heirs n t (e ∷ entries) =
     let moment = pattern (n + 1) in
     let middle = after_exits moment.exits t in
-    map (event_at (n + 1)) (open_at text e.by e.call (waiting e.call heirs) last (n + 1) middle)
-    ++ met text last pattern (waiting e.call heirs) (n + 1) (step_with text e.by e.call moment.fate middle).table entries
+    map (event_at (n + 1)) (open_at handed e.by e.call (waiting e.call heirs) last (n + 1) middle)
+    ++ met handed last pattern (waiting e.call heirs) (n + 1) (step_with handed e.by e.call moment.fate middle).table entries

@@ -3,15 +3,17 @@ use Rattle.std.specs.Prelude.{ℕ, ◌≡◌, ◌≤◌, ◌<◌, ◌+◌, ◌^�
 use Rattle.vocabulary.specs.declared.names.Name.{Name}
 use Rattle.vocabulary.specs.declared.plans.PidNote.{PidNote}
 use Rattle.vocabulary.specs.declared.targets.Target.{Target}
+use Rattle.handover_text.specs.Reading.{handed_by}
 use Rattle.definitions.specs.Table.{Table}
 use Rattle.definitions.specs.Record.{Record}
 use Rattle.definitions.specs.Exits.{after_exits}
 use Rattle.plan_walk.specs.Path.{rest_after}
 use Rattle.definitions.specs.Tree.{Tree, Ends, Does, branch, reply_of}
-use Rattle.definitions.specs.Parts.{Turn}
-use Rattle.definitions.specs.Target.{sides_of, text_handed}
+use Rattle.definitions.specs.Plans.{Turn}
+use Rattle.definitions.specs.Target.{sides_of, handover_for}
 use Rattle.definitions.specs.Run.{Moment, quiet, Pattern, Progress, start_at, Ran, Lost, ends_at, run_with, after_moment, after_call, answered, noted}
 use Rattle.definitions.specs.Claims.{run_of, heirs_of}
+use Rattle.definitions.specs.Calls.{Handed}
 use Rattle.kernel_pattern.specs.Pattern.{with_exit}
 use Rattle.plan_walk.specs.Fit.{height_next}
 use Rattle.plan_walk.specs.Course.{turns_of, trail_on, sides_on}
@@ -25,9 +27,9 @@ use Rattle.explorer.specs.Explored.{events_after}
 use Rattle.explorer.specs.Events.{pattern_of, open_at, event_at, met, waiting}
 
 -- The run of what is left of a plan, under a pattern, from here.
-abbrev pub rest_run : List ℕ → Option Tree → Pattern → Progress → Ran
-rest_run text None pattern p = ends_at Lost p
-rest_run text (Some tree) pattern p = run_with text tree pattern p
+abbrev pub rest_run : Handed → Option Tree → Pattern → Progress → Ran
+rest_run handed None pattern p = ends_at Lost p
+rest_run handed (Some tree) pattern p = run_with handed tree pattern p
 
 -- The second pattern is the first one up to the n-th call.
 abbrev pub IsSameUpTo : ℕ → Pattern → Pattern → Type 0
@@ -45,10 +47,10 @@ pub record EndsAlike (a b : Ran) : Type 0 where
 -- each run that is the same so far goes on from here, and meets the same events.
 pub record HasCome (r : Record) (target : Target) (turns : List Turn) (t : Table) (pattern : Pattern) (n : ℕ) (rest : Option Tree) (heirs : List ℕ) (p : Progress) : Type 0 where
   pub calls : p.calls ≡ n
-  pub ends : (q : Pattern) → IsSameUpTo n pattern q → EndsAlike (run_of r target turns q t) (rest_run (text_handed r target) rest q p)
+  pub ends : (q : Pattern) → IsSameUpTo n pattern q → EndsAlike (run_of r target turns q t) (rest_run (handover_for r target) rest q p)
   pub meets : (q : Pattern) (e : Event) → IsSameUpTo n pattern q → n < e.number →
-      met (text_handed r target) (Some e) q (heirs_of r target) 0 t (run_of r target turns q t).entries
-      ≡ met (text_handed r target) (Some e) q heirs n p.table (rest_run (text_handed r target) rest q p).entries
+      met (handover_for r target) (Some e) q (heirs_of r target) 0 t (run_of r target turns q t).entries
+      ≡ met (handover_for r target) (Some e) q heirs n p.table (rest_run (handover_for r target) rest q p).entries
 
 -- There is room for all calls that can be left.
 pub record IsFit (run : Position) : Type 0 where
@@ -59,15 +61,15 @@ pub record IsFit (run : Position) : Type 0 where
 pub record IsAt (run : Position) (p : Progress) : Type 0 where
   pub trail : trail_at (trail_on run.course).rest p ≡ trail_on run.course
   pub table : p.table ≡ run.kernel.table
-  pub text : run.text.now ≡ text_handed run.state.now run.target.now
+  pub handed : handed_by run.text.now ≡ handover_for run.state.now run.target.now
   pub sides : sides_on run.course ≡ sides_of run.state.now run.target.now
   pub come : HasCome run.state.now run.target.now (turns_of run.course) run.first.now.table (pattern_of run.tried) run.made (trail_on run.course).rest (listed run.heir) p
 
 -- The events that are left for it to meet, behind an event where there is one.
 abbrev pub left : Position → Progress → Option Event → List Event
 left run p last =
-    let text = text_handed run.state.now run.target.now in
-    met text last (pattern_of run.tried) (listed run.heir) run.made run.kernel.table (rest_run text (trail_on run.course).rest (pattern_of run.tried) p).entries
+    let handed = handover_for run.state.now run.target.now in
+    met handed last (pattern_of run.tried) (listed run.heir) run.made run.kernel.table (rest_run handed (trail_on run.course).rest (pattern_of run.tried) p).entries
 
 ---- One call more
 
@@ -76,28 +78,28 @@ onward None p = p
 onward (Some edge) p = noted edge.0 p
 
 -- how far it has come after the call that is due, in this moment
-abbrev pub moved : List ℕ → Option Tree → Moment → Progress → Progress
-moved text None moment p = p
-moved text (Some (Ends end)) moment p = p
-moved text (Some (Does by order set branches)) moment p =
+abbrev pub moved : Handed → Option Tree → Moment → Progress → Progress
+moved handed None moment p = p
+moved handed (Some (Ends end)) moment p = p
+moved handed (Some (Does by order set branches)) moment p =
     let middle = after_moment moment.exits p in
-    let s = answered text by order moment.fate middle in
+    let s = answered handed by order moment.fate middle in
     onward (branch branches (reply_of set s.answer)) (after_call by order set s middle)
 
 -- what is left of the plan then
-abbrev pub rest_moved : List ℕ → Option Tree → Moment → Progress → Option Tree
-rest_moved text None moment p = None
-rest_moved text (Some (Ends end)) moment p = None
-rest_moved text (Some (Does by order set branches)) moment p =
-    rest_after (branch branches (reply_of set (answered text by order moment.fate (after_moment moment.exits p)).answer))
+abbrev pub rest_moved : Handed → Option Tree → Moment → Progress → Option Tree
+rest_moved handed None moment p = None
+rest_moved handed (Some (Ends end)) moment p = None
+rest_moved handed (Some (Does by order set branches)) moment p =
+    rest_after (branch branches (reply_of set (answered handed by order moment.fate (after_moment moment.exits p)).answer))
 
 abbrev pub after_due : Position → Moment → Progress → Progress
-after_due run moment p = moved (text_handed run.state.now run.target.now) (trail_on run.course).rest moment p
+after_due run moment p = moved (handover_for run.state.now run.target.now) (trail_on run.course).rest moment p
 
 -- what can go wrong at the call that is due, in this moment
 abbrev pub open_now : Position → Due → Moment → Option Event → List Event
 open_now run due moment last =
-    map (event_at (run.made + 1)) (open_at (text_handed run.state.now run.target.now) due.by due.call (waiting due.call (listed run.heir)) last (run.made + 1) (after_exits moment.exits run.kernel.table))
+    map (event_at (run.made + 1)) (open_at (handover_for run.state.now run.target.now) due.by due.call (waiting due.call (listed run.heir)) last (run.made + 1) (after_exits moment.exits run.kernel.table))
 
 -- The same run, after the call that was due, in this moment.
 pub record IsLater (before : Position) (due : Due) (moment : Moment) (after : Position) : Type 0 where
@@ -109,7 +111,7 @@ pub record IsLater (before : Position) (due : Due) (moment : Moment) (after : Po
   pub made : after.made ≡ before.made + 1
   pub fit : IsFit after
   pub lower : height_next (trail_on after.course).rest + 1 ≤ height_next (trail_on before.course).rest
-  pub rest : (p : Progress) → IsAt before p → (trail_on after.course).rest ≡ rest_moved (text_handed before.state.now before.target.now) (trail_on before.course).rest moment p
+  pub rest : (p : Progress) → IsAt before p → (trail_on after.course).rest ≡ rest_moved (handover_for before.state.now before.target.now) (trail_on before.course).rest moment p
   pub at : (p : Progress) → IsAt before p → IsAt after (after_due before moment p)
   pub left : (p : Progress) (last : Option Event) → IsAt before p → left before p last ≡ open_now before due moment last ++ left after (after_due before moment p) last
 

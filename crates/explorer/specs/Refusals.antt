@@ -1,6 +1,6 @@
 -- Why runs are not all counted.
 use Rattle.std.specs.Prelude.{List}
-use Rattle.definitions.specs.Parts.{Turn}
+use Rattle.definitions.specs.Plans.{Turn}
 use Rattle.definitions.specs.Run.{Pattern}
 use Rattle.plan_executor.specs.Refusals.{IsRefused}
 use Rattle.plan_executor.specs.declared.enactment.EnactRefusal.{EnactRefusal}

@@ -1,7 +1,7 @@
 -- How runs are counted by their ends.
 use Rattle.std.specs.Prelude.{◌+◌, max, nat_lt, Option, Some, None, if◌then◌else◌}
 use Rattle.std.specs.List.{sum}
-use Rattle.definitions.specs.Path.{Outcome}
+use Rattle.definitions.specs.Run.{Outcome}
 use Rattle.vocabulary.specs.declared.reports.Outcome.TheVariants as outcome
 use Rattle.vocabulary.specs.declared.plans.Side.TheVariants as side
 use Rattle.explorer.specs.Events.{events_in}

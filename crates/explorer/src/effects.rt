@@ -3,6 +3,7 @@ ghost use Rattle.std.specs.Prelude.{◌≡◌, ◌++◌, ◌∷◌, [], map, IfO
 ghost use Rattle.std.specs.List.{filter, filter_map};
 ghost use Rattle.definitions.specs.Table.{is_active};
 ghost use Rattle.definitions.specs.Exits.{after_exits};
+ghost use Rattle.handover_text.specs.Reading.{handed_by};
 ghost use Rattle.kernel_model.specs.Readers.{row_of};
 ghost use Rattle.plan_executor.specs.Naming.{listed};
 ghost use Rattle.vocabulary.specs.Fates.{all_fates};
@@ -37,7 +38,7 @@ fn takes_effect(
     text: &[u8],
     fate: Fate,
 ) -> Result<bool, AllocError>
-    ensures { IfOk result (λ yes. yes ≡ takes_effect text.now by call.now kernel.now.table fate) }
+    ensures { IfOk result (λ yes. yes ≡ takes_effect (handed_by text.now) by call.now kernel.now.table fate) }
 {
     let mut copy = copied(kernel, 1)?;
     let moment = Moment {
@@ -136,7 +137,7 @@ fn add_fates(
     text: &[u8],
     mishaps: &mut Vec<Mishap>,
 ) -> Result<(), AllocError>
-    ensures { OnOk result (mishaps.new.items ≡ mishaps.old.items ++ map Mishap.Fail (filter (takes_effect text.now by call.now kernel.now.table) all_fates)) }
+    ensures { OnOk result (mishaps.new.items ≡ mishaps.old.items ++ map Mishap.Fail (filter (takes_effect (handed_by text.now) by call.now kernel.now.table) all_fates)) }
 {
     for fate in &Fate::ALL {
         if takes_effect(kernel, by, call, text, *fate)? {
@@ -155,7 +156,7 @@ pub(crate) fn mishaps_at(
     heir: Option<u32>,
     above: u32,
 ) -> Result<Vec<Mishap>, AllocError>
-    ensures { IfOk result (λ mishaps. mishaps.items ≡ mishaps_at text.now due.now.by due.now.call (listed heir) above kernel.now.table) }
+    ensures { IfOk result (λ mishaps. mishaps.items ≡ mishaps_at (handed_by text.now) due.now.by due.now.call (listed heir) above kernel.now.table) }
 {
     let mut mishaps = Vec::new(alloc);
     add_exits(kernel, heir, above, &mut mishaps)?;

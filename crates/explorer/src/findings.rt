@@ -2,7 +2,7 @@
 ghost use Rattle.std.specs.Prelude.{◌≡◌, ◌-◌, ◌^◌, false, nat_lt, min, map, None, IfOk, OnOk};
 ghost use Rattle.std.specs.List.{sum_by};
 ghost use Rattle.std.specs.Ordering.{is_eq};
-ghost use Rattle.definitions.specs.After.{lacks_generation};
+ghost use Rattle.service_state.specs.Targets.{lacks_generation};
 ghost use Rattle.kernel_service.specs.Served.{seen_count, seen_served};
 ghost use Rattle.kernel_service.specs.Services.{address_cmp};
 ghost use Rattle.explorer.specs.Tallies.{nothing_counted};

@@ -4,9 +4,10 @@ ghost use Rattle.definitions.specs.Exits.{after_exits};
 ghost use Rattle.definitions.specs.Calls.{step_with};
 ghost use Rattle.call_replies.specs.Replies.{is_listed};
 ghost use Rattle.plan_walk.specs.Path.{IsOver};
-ghost use Rattle.definitions.specs.Formed.{IsFormed};
+ghost use Rattle.definitions.specs.Table.{IsFormed};
 ghost use Rattle.definitions.specs.Plans.{plan_length};
 ghost use Rattle.definitions.specs.Run.{Progress};
+ghost use Rattle.handover_text.specs.Reading.{handed_by};
 ghost use Rattle.kernel_model.specs.Room.{LacksNumbers};
 ghost use Rattle.plan_walk.specs.Course.{trail_on};
 ghost use Rattle.plan_walk.specs.Walk.{AsksFor};
@@ -87,7 +88,7 @@ impl<'a> Position<'a> {
         due: &Due,
         above: u32,
     ) -> Result<Vec<Mishap>, AllocError>
-        ensures { IfOk result (λ mishaps. mishaps.items ≡ mishaps_at self.now.text.now due.now.by due.now.call (waiting due.now.call (listed self.now.heir)) above self.now.kernel.table) }
+        ensures { IfOk result (λ mishaps. mishaps.items ≡ mishaps_at (handed_by self.now.text.now) due.now.by due.now.call (waiting due.now.call (listed self.now.heir)) above self.now.kernel.table) }
     {
         let heir = effects::waiting(&due.call, self.heir);
         effects::mishaps_at(alloc, &self.kernel, due, self.text, heir, above)
@@ -163,7 +164,7 @@ fn answered(
 ) -> Entry
     requires { 1 ≤ kernel.old.room }
     ensures entry { result ≡ record { by = due.now.by; call = due.now.call; answer = result.answer } }
-    ensures step { record { answer = result.answer; table = kernel.new.table } ≡ step_with text.now due.now.by due.now.call fate (after_exits exits.now kernel.old.table) }
+    ensures step { record { answer = result.answer; table = kernel.new.table } ≡ step_with (handed_by text.now) due.now.by due.now.call fate (after_exits exits.now kernel.old.table) }
     ensures listed { IsTrue (is_listed due.now.call result.answer) }
     ensures room { kernel.new.room + 1 ≡ kernel.old.room }
 {

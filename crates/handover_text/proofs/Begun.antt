@@ -21,8 +21,10 @@ use Rattle.vocabulary.specs.declared.handover.HandoverRefusal.TheVariants as ref
 use Rattle.vocabulary.specs.declared.table.Listener.{Listener}
 use Rattle.definitions.specs.Table.{Address}
 use Rattle.definitions.specs.After.{listens_on}
-use Rattle.definitions.specs.Handover.{Handover, HandoverVersion, One, Two, line_of, version_line, listener_line, want_line, workers_line, group_line, pid_file_line, group_lines}
-use Rattle.definitions.specs.Reading.{Reached, AtVersion, AtOldPid, AtGeneration, AtFirstListener, AtListeners, AtWants, AtGroup, AtPidFile, AtEnd, Over, Read, nothing_read, is_space, is_address, is_above, listener_read, one_more, joined, with_old_pid, with_generation, with_listener, with_want, with_groups, with_workers, can_begin, with_group, read_wanted, read_behind, read_pid_file, read_end, read_if, read_line, then_read, read_rest, read_pieces, reading}
+use Rattle.definitions.specs.Calls.{Handover}
+use Rattle.handover_text.specs.Spelling.{HandoverVersion, One, Two, line_of, version_line, listener_line, want_line, workers_line, group_line, pid_file_line, group_lines}
+use Rattle.handover_text.specs.Reading.{Reached, AtVersion, AtOldPid, AtGeneration, AtFirstListener, AtListeners, AtWants, AtGroup, AtPidFile, AtEnd, Over, Read, nothing_read, is_space, is_address, listener_read, one_more, joined, with_old_pid, with_generation, with_listener, with_want, with_groups, with_workers, can_begin, with_group, read_wanted, read_behind, read_pid_file, read_end, read_if, read_line, then_read, read_rest, read_pieces, reading}
+use Rattle.master_listeners.specs.Listeners.{is_above}
 use Rattle.plain_text.specs.Cuts.{after_prefix}
 use Rattle.handover_text.specs.Ranges.{IsUnasked, IsBegun, IsAsked, AreParts, IsReadTo}
 use Rattle.handover_text.specs.Faults.{Begins, IsFull, IsFaultless, lines_before}

@@ -6,8 +6,9 @@ use Rattle.std.proofs.lemmas.Result.{IfOk-at_ok}
 use Rattle.std.proofs.lemmas.List.Splits.{length-slice_split}
 use Rattle.vocabulary.specs.declared.handover.HandoverRefusal.{HandoverRefusal}
 use Rattle.vocabulary.specs.declared.handover.HandoverRefusal.TheVariants as refusal
-use Rattle.definitions.specs.Handover.{Handover, HandoverVersion, spelled}
-use Rattle.definitions.specs.Reading.{Reached, AtVersion, AtOldPid, AtGeneration, AtFirstListener, AtListeners, AtWants, AtGroup, AtPidFile, AtEnd, Over, Read, nothing_read, read_line, then_read, read_rest, read_pieces, reading}
+use Rattle.definitions.specs.Calls.{Handover}
+use Rattle.handover_text.specs.Spelling.{HandoverVersion, spelled}
+use Rattle.handover_text.specs.Reading.{Reached, AtVersion, AtOldPid, AtGeneration, AtFirstListener, AtListeners, AtWants, AtGroup, AtPidFile, AtEnd, Over, Read, nothing_read, read_line, then_read, read_rest, read_pieces, reading}
 use Rattle.handover_text.specs.Ranges.{IsHandover, IsTold}
 use Rattle.handover_text.proofs.SoFar.{is_newline, reading_in_range}
 use Rattle.handover_text.proofs.Spelled.{spelling-reading}

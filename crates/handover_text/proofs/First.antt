@@ -6,8 +6,9 @@ use Rattle.std.proofs.lemmas.List.Splits.{slice_split_at}
 use Rattle.std.proofs.lemmas.List.Sums.{AllPass-from_list_all}
 use Rattle.vocabulary.specs.declared.handover.HandoverRefusal.{HandoverRefusal}
 use Rattle.vocabulary.specs.declared.handover.HandoverRefusal.TheVariants as refusal
-use Rattle.definitions.specs.Handover.{Handover, line_of}
-use Rattle.definitions.specs.Reading.{Reached, AtVersion, Read, nothing_read, read_line, then_read, read_pieces, reading}
+use Rattle.definitions.specs.Calls.{Handover}
+use Rattle.handover_text.specs.Spelling.{line_of}
+use Rattle.handover_text.specs.Reading.{Reached, AtVersion, Read, nothing_read, read_line, then_read, read_pieces, reading}
 use Rattle.handover_text.specs.Faults.{BeginsNone, lines_to}
 use Rattle.handover_text.proofs.SoFar.{is_newline}
 use Rattle.handover_text.proofs.Begun.{IfFault, NamesLine, Named, names-it, line-names, rest-names}

@@ -13,8 +13,10 @@ use Rattle.listener_set.specs.AddressList.{has}
 use Rattle.plain_text.proofs.NumberTextLemmas.{decimal-number_of, decimal-number_within}
 use Rattle.vocabulary.specs.declared.table.Listener.{Listener}
 use Rattle.definitions.specs.After.{listens_on}
-use Rattle.definitions.specs.Handover.{Handover, HandoverVersion}
-use Rattle.definitions.specs.Reading.{Reached, AtListeners, passes, is_space, is_address, is_above, listener_if, listener_read, with_listener, with_want}
+use Rattle.definitions.specs.Calls.{Handover}
+use Rattle.handover_text.specs.Spelling.{HandoverVersion}
+use Rattle.handover_text.specs.Reading.{Reached, AtListeners, passes, is_space, is_address, listener_if, listener_read, with_listener, with_want}
+use Rattle.master_listeners.specs.Listeners.{is_above}
 
 ---- Values
 

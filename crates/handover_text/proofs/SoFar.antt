@@ -6,7 +6,7 @@ use Rattle.std.specs.Char.{is_ascii_graphic}
 use Rattle.std.proofs.lemmas.Bool.{and_parts, cond_both, ltb-true, not-true, not-false, both_ways, and_from, leb-true}
 use Rattle.std.proofs.lemmas.List.{length-append, get_or_default}
 use Rattle.std.proofs.lemmas.List.Folds.{list_all-append}
-use Rattle.std.proofs.lemmas.List.Sums.{fails_before_first}
+use Rattle.std.proofs.lemmas.List.Sums.{fails_before_first, sum_by_push}
 use Rattle.std.proofs.lemmas.List.Splits.{slice_split_first, slice_split_none, length-slice_split}
 use Rattle.std.proofs.lemmas.List.Quantifiers.{all_pairs_push}
 use Rattle.plain_text.specs.NumberText.{number_of, number_within}
@@ -17,8 +17,10 @@ use Rattle.listener_set.proofs.AddressLists.{has_address}
 use Rattle.vocabulary.specs.declared.handover.HandoverRefusal.{HandoverRefusal}
 use Rattle.vocabulary.specs.declared.table.Listener.{Listener}
 use Rattle.definitions.specs.After.{listens_on}
-use Rattle.definitions.specs.Handover.{Handover, HandoverVersion, One, Two}
-use Rattle.definitions.specs.Reading.{Reached, AtVersion, AtOldPid, AtGeneration, AtFirstListener, AtListeners, AtWants, AtGroup, AtPidFile, AtEnd, Over, Read, nothing_read, then_read, read_rest, read_pieces, reading, is_space, is_address, is_above, listener_read, one_more, joined, with_old_pid, with_generation, with_listener, with_want, with_groups, with_workers, can_begin, with_group, with_pid_file, read_wanted, read_behind, read_pid_file, read_end, read_if, read_line}
+use Rattle.definitions.specs.Calls.{Handover}
+use Rattle.handover_text.specs.Spelling.{HandoverVersion, One, Two}
+use Rattle.handover_text.specs.Reading.{Reached, AtVersion, AtOldPid, AtGeneration, AtFirstListener, AtListeners, AtWants, AtGroup, AtPidFile, AtEnd, Over, Read, nothing_read, then_read, read_rest, read_pieces, reading, is_space, is_address, listener_read, one_more, joined, with_old_pid, with_generation, with_listener, with_want, with_groups, with_workers, can_begin, with_group, with_pid_file, read_wanted, read_behind, read_pid_file, read_end, read_if, read_line}
+use Rattle.master_listeners.specs.Listeners.{is_above}
 use Rattle.plain_text.specs.Cuts.{after_prefix}
 use Rattle.vocabulary.specs.Settings.{HasSuffixRoom}
 use Rattle.handover_text.specs.Reader.{read_to}
@@ -28,7 +30,6 @@ use Rattle.worker_groups.specs.declared.groups.GroupRefusal.{GroupRefusal}
 use Rattle.worker_groups.specs.Groups.{AreGroups, addresses_in, workers_in, group_refused}
 use Rattle.worker_groups.proofs.GroupShares.{fits-where, groups-more}
 use Rattle.std.proofs.lemmas.Option.{none-some, same_Some}
-use Rattle.std.proofs.lemmas.List.Sums.{sum_by_push}
 use Rattle.master_listeners.proofs.Listed.{AreListedFrom-push, length-listed}
 use Rattle.handover_text.proofs.LinesRead.{number_most, listener_bounds}
 

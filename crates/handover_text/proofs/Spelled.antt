@@ -5,11 +5,10 @@ use Rattle.std.specs.Fmt.{decimal}
 use Rattle.std.specs.List.{flat_map, before_first, after_first, slice_split, join_with_byte, position_or_len}
 use Rattle.std.specs.Cmp.Lexicographic.{same_text}
 use Rattle.std.proofs.lemmas.Bool.{cond_both, cases_lt, both_ways}
-use Rattle.std.proofs.lemmas.List.Sums.{sum_by-cons}
+use Rattle.std.proofs.lemmas.List.Sums.{sum_by-cons, split_at_first, passes_at_first}
 use Rattle.std.proofs.lemmas.Option.{none-some}
 use Rattle.std.proofs.lemmas.Bool.Decides.{eqb_tells}
 use Rattle.std.proofs.lemmas.List.{flat_map_more, append-nil, drop_all, take_all, take-append-le, drop-append-le, length-append, length-drop}
-use Rattle.std.proofs.lemmas.List.Sums.{split_at_first, passes_at_first}
 use Rattle.std.proofs.lemmas.List.Splits.{join_with_byte-slice_split}
 use Rattle.plain_text.specs.NumberText.{number_of, number_within}
 use Rattle.listener_set.specs.PathText.{is_path}
@@ -18,8 +17,10 @@ use Rattle.plain_text.proofs.NumberTextLemmas.{decimal-number_of, decimal-number
 use Rattle.vocabulary.specs.declared.handover.HandoverRefusal.{HandoverRefusal}
 use Rattle.vocabulary.specs.declared.table.Listener.{Listener}
 use Rattle.definitions.specs.After.{listens_on}
-use Rattle.definitions.specs.Handover.{Handover, HandoverVersion, One, Two, line_of, version_line, listener_line, want_line, workers_line, group_line, pid_file_line, group_lines, wanted_lines, spelled}
-use Rattle.definitions.specs.Reading.{Reached, AtVersion, AtOldPid, AtGeneration, AtFirstListener, AtListeners, AtWants, AtGroup, AtPidFile, AtEnd, Over, Read, nothing_read, is_space, is_address, is_above, listener_if, listener_read, one_more, joined, with_old_pid, with_generation, with_listener, with_want, with_groups, with_workers, can_begin, with_group, with_pid_file, read_wanted, read_behind, read_pid_file, read_end, read_if, read_line, then_read, read_rest, read_pieces, reading}
+use Rattle.definitions.specs.Calls.{Handover}
+use Rattle.handover_text.specs.Spelling.{HandoverVersion, One, Two, line_of, version_line, listener_line, want_line, workers_line, group_line, pid_file_line, group_lines, wanted_lines, spelled}
+use Rattle.handover_text.specs.Reading.{Reached, AtVersion, AtOldPid, AtGeneration, AtFirstListener, AtListeners, AtWants, AtGroup, AtPidFile, AtEnd, Over, Read, nothing_read, is_space, is_address, listener_if, listener_read, one_more, joined, with_old_pid, with_generation, with_listener, with_want, with_groups, with_workers, can_begin, with_group, with_pid_file, read_wanted, read_behind, read_pid_file, read_end, read_if, read_line, then_read, read_rest, read_pieces, reading}
+use Rattle.master_listeners.specs.Listeners.{is_above}
 use Rattle.plain_text.specs.Cuts.{after_prefix}
 use Rattle.definitions.specs.Table.{Address}
 use Rattle.worker_groups.specs.declared.groups.Group.{Group}

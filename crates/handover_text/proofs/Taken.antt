@@ -22,10 +22,11 @@ use Rattle.listener_set.proofs.AddressGrammar.{graphic_from_reading, digit_apart
 use Rattle.vocabulary.specs.declared.handover.HandoverRefusal.TheVariants as refusal
 use Rattle.vocabulary.specs.declared.table.Listener.{Listener}
 use Rattle.definitions.specs.After.{listens_on}
-use Rattle.definitions.specs.Handover.{Handover, HandoverVersion, One, Two, line_of, version_line, listener_line, want_line, workers_line, group_line, pid_file_line, group_lines, wanted_lines, spelled}
-use Rattle.definitions.specs.Reading.{Reached, AtVersion, AtOldPid, AtGeneration, AtFirstListener, AtListeners, AtWants, AtGroup, AtPidFile, AtEnd, Over, nothing_read, passes, is_space, is_address, is_above, listener_if, listener_read, one_more, joined, with_old_pid, with_generation, with_listener, with_want, with_groups, with_workers, can_begin, with_group, read_behind, read_pid_file, read_if, read_line, then_read, read_pieces, reading}
+use Rattle.definitions.specs.Calls.{Handover}
+use Rattle.handover_text.specs.Spelling.{HandoverVersion, One, Two, line_of, version_line, listener_line, want_line, workers_line, group_line, pid_file_line, group_lines, wanted_lines, spelled}
+use Rattle.handover_text.specs.Reading.{Reached, AtVersion, AtOldPid, AtGeneration, AtFirstListener, AtListeners, AtWants, AtGroup, AtPidFile, AtEnd, Over, nothing_read, passes, is_space, is_address, listener_if, listener_read, one_more, joined, with_old_pid, with_generation, with_listener, with_want, with_groups, with_workers, can_begin, with_group, read_behind, read_pid_file, read_if, read_line, then_read, read_pieces, reading}
+use Rattle.master_listeners.specs.Listeners.{is_above, AreListedFrom}
 use Rattle.plain_text.specs.Cuts.{after_prefix}
-use Rattle.master_listeners.specs.Listeners.{AreListedFrom}
 use Rattle.worker_groups.specs.declared.groups.Group.{Group}
 use Rattle.worker_groups.specs.Groups.{AreGroups, addresses_in, workers_in}
 use Rattle.worker_groups.proofs.GroupShares.{Fits, none-where}

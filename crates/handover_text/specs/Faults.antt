@@ -1,8 +1,9 @@
 -- What stands before a faulty line, and what it ends.
 use Rattle.std.specs.Prelude.{ℕ, ◌≡◌, ◌-◌, ◌==◌, true, ◌⊎◌, List, ◌++◌, length, take, None, codes}
 use Rattle.std.specs.List.{flat_map, slice_split}
-use Rattle.definitions.specs.Handover.{Handover, HandoverVersion, Two, line_of, group_line, spelled}
-use Rattle.definitions.specs.Reading.{can_begin}
+use Rattle.definitions.specs.Calls.{Handover}
+use Rattle.handover_text.specs.Spelling.{HandoverVersion, Two, line_of, group_line, spelled}
+use Rattle.handover_text.specs.Reading.{can_begin}
 use Rattle.handover_text.specs.Ranges.{IsHandover, IsTold}
 
 -- the lines up to the nth one, which count from 1

@@ -7,8 +7,9 @@ use Rattle.worker_groups.specs.declared.groups.Group.{Group}
 use Rattle.worker_groups.specs.Groups.{AreGroups, addresses_in, workers_in}
 use Rattle.vocabulary.specs.Settings.{HasSuffixRoom}
 use Rattle.definitions.specs.Table.{FilePath}
-use Rattle.definitions.specs.Handover.{Handover, HandoverVersion, One, Two, spelled}
-use Rattle.definitions.specs.Reading.{Reached, AtVersion, AtOldPid, AtGeneration, AtFirstListener, AtListeners, AtWants, AtGroup, AtPidFile, AtEnd, Over, is_address}
+use Rattle.definitions.specs.Calls.{Handover}
+use Rattle.handover_text.specs.Spelling.{HandoverVersion, One, Two, spelled}
+use Rattle.handover_text.specs.Reading.{Reached, AtVersion, AtOldPid, AtGeneration, AtFirstListener, AtListeners, AtWants, AtGroup, AtPidFile, AtEnd, Over, is_address}
 use Rattle.master_listeners.specs.Listeners.{AreListed}
 
 -- a process number of at least 1, at least one listener, groups that take all addresses that are wanted, and a pid file's path of

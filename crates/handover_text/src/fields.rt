@@ -1,7 +1,7 @@
 //! The values in a line of a handover.
 ghost use Rattle.std.specs.Prelude.{◌≡◌};
 ghost use Rattle.plain_text.specs.NumberText.{number_within};
-ghost use Rattle.definitions.specs.Reading.{listener_read};
+ghost use Rattle.handover_text.specs.Reading.{listener_read};
 
 use listener_set::Address;
 use plain_text::{around, number_within};

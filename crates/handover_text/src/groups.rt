@@ -1,6 +1,6 @@
 //! Groups that are read one after another.
 ghost use Rattle.std.specs.Prelude.{◌≡◌, []};
-ghost use Rattle.definitions.specs.Reading.{joined, can_begin};
+ghost use Rattle.handover_text.specs.Reading.{joined, can_begin};
 ghost use Rattle.handover_text.specs.Reader.{groups_in};
 
 use listener_set::{MOST_LISTENERS, WORKER_LIMIT};

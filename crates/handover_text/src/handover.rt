@@ -23,7 +23,7 @@ pub struct Handover {
 }
 
 impl Model for Handover {
-    ghost use Rattle.definitions.specs.Handover.{Handover as Told};
+    ghost use Rattle.definitions.specs.Calls.{Handover as Told};
     ghost use Rattle.handover_text.specs.Ranges.{IsInRange};
 
     ghost Value = { Told };

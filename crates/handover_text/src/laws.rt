@@ -1,7 +1,8 @@
 //! What holds of the texts of handovers.
 ghost use Rattle.std.specs.Prelude.{◌≡◌, ◌++◌, ◌∷◌, [], ℕ, List, Ok, Err, IfOk};
-ghost use Rattle.definitions.specs.Handover.{Handover as Told, HandoverVersion as Version, spelled};
-ghost use Rattle.definitions.specs.Reading.{reading};
+ghost use Rattle.definitions.specs.Calls.{Handover as Told};
+ghost use Rattle.handover_text.specs.Spelling.{HandoverVersion as Version, spelled};
+ghost use Rattle.handover_text.specs.Reading.{reading};
 ghost use Rattle.vocabulary.specs.declared.handover.HandoverRefusal.{HandoverRefusal};
 ghost use Rattle.handover_text.specs.Ranges.{IsHandover, IsTold, IsSpelling};
 ghost use Rattle.handover_text.specs.Faults.{BeginsNone, IsFaultless, lines_before, lines_to};

@@ -1,7 +1,7 @@
 //! Reading a handover line by line.
 ghost use Rattle.std.specs.Prelude.{◌≡◌, ◌≤◌, ℕ, codes};
 ghost use Rattle.plain_text.specs.NumberText.{number_within};
-ghost use Rattle.definitions.specs.Reading.{AtVersion, AtOldPid, AtGeneration, AtFirstListener, AtListeners, AtWants, AtGroup, AtPidFile, AtEnd, Over, nothing_read, read_version, with_old_pid, with_generation, with_listener, with_want, with_workers, with_group, with_pid_file, one_more, joined, read_end, read_line, read_wanted, read_behind, read_pid_file, listener_read, read_rest};
+ghost use Rattle.handover_text.specs.Reading.{AtVersion, AtOldPid, AtGeneration, AtFirstListener, AtListeners, AtWants, AtGroup, AtPidFile, AtEnd, Over, nothing_read, read_version, with_old_pid, with_generation, with_listener, with_want, with_workers, with_group, with_pid_file, one_more, joined, read_end, read_line, read_wanted, read_behind, read_pid_file, listener_read, read_rest};
 ghost use Rattle.handover_text.specs.Ranges.{IsReadTo};
 ghost use Rattle.handover_text.specs.Reader.{read_to, place_of};
 
@@ -48,8 +48,8 @@ pub(crate) struct HandoverReader {
 }
 
 impl Model for HandoverReader {
-    ghost use Rattle.definitions.specs.Handover.{Handover as Told};
-    ghost use Rattle.definitions.specs.Reading.{Reached};
+    ghost use Rattle.definitions.specs.Calls.{Handover as Told};
+    ghost use Rattle.handover_text.specs.Reading.{Reached};
     ghost use Rattle.handover_text.specs.Reader.{place_of, groups_in};
 
     ghost Value = { Reached × Told };

@@ -1,6 +1,6 @@
 //! Reading a handover.
 ghost use Rattle.std.specs.Prelude.{◌≡◌, IfOk};
-ghost use Rattle.definitions.specs.Reading.{reading};
+ghost use Rattle.handover_text.specs.Reading.{reading};
 ghost use Rattle.handover_text.specs.Ranges.{IsHandover, IsSpelling};
 
 use crate::Handover;

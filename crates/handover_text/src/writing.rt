@@ -5,8 +5,8 @@ ghost use Rattle.std.specs.Fmt.{decimal};
 ghost use Rattle.std.specs.List.{flat_map, list_all};
 ghost use Rattle.listener_set.specs.AddressList.{AreDistinct};
 ghost use Rattle.vocabulary.specs.Settings.{HasSuffixRoom};
-ghost use Rattle.definitions.specs.Handover.{line_of, listener_line, want_line, group_line, group_lines, pid_file_line, spelling};
-ghost use Rattle.definitions.specs.Reading.{reading, is_address};
+ghost use Rattle.handover_text.specs.Spelling.{line_of, listener_line, want_line, group_line, group_lines, pid_file_line, spelling};
+ghost use Rattle.handover_text.specs.Reading.{reading, is_address};
 ghost use Rattle.master_listeners.specs.Listeners.{AreListed};
 ghost use Rattle.handover_text.specs.Ranges.{is_path_if};
 

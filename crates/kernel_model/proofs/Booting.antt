@@ -13,16 +13,15 @@ use Rattle.vocabulary.specs.declared.table.Limits.{Limits}
 use Rattle.definitions.specs.Table.{Address, FilePath, Generation, same_generation, Hold, Process, Master, is_active, is_worker}
 use Rattle.worker_groups.specs.Crews.{first_posts}
 use Rattle.definitions.specs.Crew.{Posts, Group, fds_of}
-use Rattle.definitions.specs.Record.{first_generation}
+use Rattle.call_laws.specs.Start.{first_generation, holds_from, first_worker, first_rows, first_files, booted}
 use Rattle.definitions.specs.Calls.{is_image}
-use Rattle.definitions.specs.Formed.{IsQuiet, HasParent, IsAscending}
+use Rattle.definitions.specs.Table.{IsQuiet, HasParent, IsAscending}
 use Rattle.kernel_rows.specs.Holds.{address_of, seen_hold, seen_holds}
 use Rattle.kernel_table.specs.declared.store.Store.{Store}
 use Rattle.kernel_rows.specs.Seen.{seen_rows}
 use Rattle.kernel_table.specs.Seen.{seen_file, seen}
 use Rattle.kernel_table.specs.Room.{HasSockets, IsKept, IsSound}
 use Rattle.kernel_table.specs.Names.{KnowsNames}
-use Rattle.call_laws.specs.Start.{holds_from, first_worker, first_rows, first_files, booted}
 use Rattle.kernel_model.specs.Boot.{first_pairs}
 use Rattle.kernel_rows.proofs.Lists.{list_any-map, map-push}
 use Rattle.kernel_model.proofs.CallSteps.{all-append, ascending-append, count-append, and-both, within-shared}

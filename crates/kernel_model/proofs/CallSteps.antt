@@ -10,7 +10,7 @@ use Rattle.vocabulary.specs.declared.table.Stance.TheVariants.{Starting}
 use Rattle.definitions.specs.Table.{Generation, same_generation, Hold, Process, Master, Worker, Foreign, number_of, holds_of, is_active, is_worker, is_live_master, Caller, live_master, caller_if}
 use Rattle.definitions.specs.Exits.{change}
 use Rattle.definitions.specs.Calls.{is_image, with_holds, put_hold, is_row, shared}
-use Rattle.definitions.specs.Formed.{IsQuiet, HasParent, IsAscending}
+use Rattle.definitions.specs.Table.{IsQuiet, HasParent, IsAscending}
 use Rattle.kernel_table.specs.Room.{HasSockets}
 use Rattle.kernel_table.proofs.Keeping.{AreKept, Follows, AreKept-becomes, Becomes-filter_map, says-change}
 use Rattle.kernel_model.proofs.Steps.{filter-within, KeepsMasters, HasParent-up, live-change, same-holds}

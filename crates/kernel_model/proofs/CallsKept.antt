@@ -10,7 +10,7 @@ use Rattle.vocabulary.specs.declared.names.Name.{Name}
 use Rattle.definitions.specs.Table.{Address, FilePath, File, owner_at, Generation, Hold, Process, Master, Worker, Table, with_rows, is_active, is_starting, is_exited, is_any, is_worker, is_held, Caller, live_master}
 use Rattle.definitions.specs.Exits.{after_exits}
 use Rattle.definitions.specs.Calls.{is_image, opened, forked, spawned, awaited, killed, moved_if, asked_alive, suits, with_files, Stepped, made_ready, made_draining, with_holds, lacks_address, lowest_free, is_of, is_exited_of, has_process_room, with_new_row, shared, with_new_socket, own_step, fault_at, fault_or_own, step_by, step_with}
-use Rattle.definitions.specs.Reading.{reading}
+use Rattle.definitions.specs.Calls.{Handed}
 use Rattle.kernel_table.specs.Room.{IsKept}
 use Rattle.kernel_table.proofs.Keeping.{AreKept}
 use Rattle.kernel_model.proofs.Steps.{same-draining, same-ready, same-holds, worker-named, worker-of, kept-change, kept-dropped, drains_so, ready_so, closes_so, kept-all_exited}
@@ -38,7 +38,7 @@ one_of : (b : Bool) (x y : Stepped) → (b ≡ true → IsKept x.table) → (b �
 one_of true x y h g = h refl
 one_of false x y h g = g refl
 
-module _ (text : List ℕ) (image : ℕ) (c : Caller) (t : Table) (h : IsKept t) (found : live_master image t.rows ≡ Some c) where
+module _ (handed : Handed) (image : ℕ) (c : Caller) (t : Table) (h : IsKept t) (found : live_master image t.rows ≡ Some c) where
   kept : AreKept t.rows t.next_process t.next_socket
   kept = kept-table t h
 
@@ -90,7 +90,7 @@ module _ (text : List ℕ) (image : ℕ) (c : Caller) (t : Table) (h : IsKept t)
   alive-kept (Some m) i e = h
   alive-kept None i e = with-rows _ (kept-reaped i t.next_process t.next_socket t.rows kept e)
 
-  pub own_step-kept : (call : Call) → (let z : Stepped = own_step text image c call t in IsKept z.table)
+  pub own_step-kept : (call : Call) → (let z : Stepped = own_step handed image c call t in IsKept z.table)
   own_step-kept (OpenAt a) = open-kept a
   own_step-kept (CloseAt a) =
       with-rows _ (kept-change t.next_process t.next_socket t.rows kept (is_of c.number) (with_holds (lacks_address a)) (same-holds (lacks_address a)) (λ rows' up p e. closes_so t.rows rows' t.next_socket up a p))
@@ -104,7 +104,7 @@ module _ (text : List ℕ) (image : ℕ) (c : Caller) (t : Table) (h : IsKept t)
   own_step-kept (AwaitGone g k) =
       one_of (list_any (is_worker is_active c.number g k) t.rows) _ _ (λ e. h) (λ e. kill-kept g k)
   own_step-kept (SpawnMaster i) = spawn-kept i
-  own_step-kept Adopt = one_of (suits (reading text) image c.holds) _ _ (λ e. h) (λ e. h)
+  own_step-kept Adopt = one_of (suits handed image c.holds) _ _ (λ e. h) (λ e. h)
   own_step-kept (WritePid path) = with-files _
   own_step-kept (MovePid from to) = move-kept (owner_at from t.files) from to
   own_step-kept (RemovePid path) = with-files _
@@ -114,14 +114,14 @@ module _ (text : List ℕ) (image : ℕ) (c : Caller) (t : Table) (h : IsKept t)
   own_step-kept (Ask n) = h
   own_step-kept (TermMaster i) = with-rows _ (kept-terminated t.next_process t.next_socket t.rows kept i)
 
-  faulted-kept : (a : Option Answer) (call : Call) → (let z : Stepped = fault_or_own a text image c call t in IsKept z.table)
+  faulted-kept : (a : Option Answer) (call : Call) → (let z : Stepped = fault_or_own a handed image c call t in IsKept z.table)
   faulted-kept None call = own_step-kept call
   faulted-kept (Some a) call = h
 
-step_by-kept : (text : List ℕ) (image : ℕ) (c : Option Caller) (call : Call) (f : Option Fate) (t : Table) → IsKept t → live_master image t.rows ≡ c → (let z : Stepped = step_by text image c call f t in IsKept z.table)
-step_by-kept text image None call f t h e = h
-step_by-kept text image (Some c) call f t h e = faulted-kept text image c t h e (fault_at c call f t) call
+step_by-kept : (handed : Handed) (image : ℕ) (c : Option Caller) (call : Call) (f : Option Fate) (t : Table) → IsKept t → live_master image t.rows ≡ c → (let z : Stepped = step_by handed image c call f t in IsKept z.table)
+step_by-kept handed image None call f t h e = h
+step_by-kept handed image (Some c) call f t h e = faulted-kept handed image c t h e (fault_at c call f t) call
 
 -- A call keeps what every table keeps.
-pub IsKept-step : (text : List ℕ) (image : ℕ) (call : Call) (f : Option Fate) (t : Table) → IsKept t → (let z : Stepped = step_with text image call f t in IsKept z.table)
-IsKept-step text image call f t h = step_by-kept text image (live_master image t.rows) call f t h refl
+pub IsKept-step : (handed : Handed) (image : ℕ) (call : Call) (f : Option Fate) (t : Table) → IsKept t → (let z : Stepped = step_with handed image call f t in IsKept z.table)
+IsKept-step handed image call f t h = step_by-kept handed image (live_master image t.rows) call f t h refl

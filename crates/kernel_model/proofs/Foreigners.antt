@@ -5,7 +5,7 @@ use Rattle.std.proofs.lemmas.Bool.Decides.{nat_tests}
 use Rattle.std.proofs.lemmas.List.Folds.{list_any-append}
 use Rattle.definitions.specs.Table.{Address, Process, Foreign, Table, holds_of, is_active, is_worker, is_live_master}
 use Rattle.definitions.specs.Calls.{is_image}
-use Rattle.definitions.specs.Formed.{IsQuiet, HasParent}
+use Rattle.definitions.specs.Table.{IsQuiet, HasParent}
 use Rattle.kernel_table.specs.declared.store.Store.{Store}
 use Rattle.kernel_table.specs.Seen.{seen}
 use Rattle.kernel_table.specs.Room.{GrowsByOne, HasMemoryFor, LacksNumbers, HasSockets, IsKept, IsSound}

@@ -8,7 +8,7 @@ use Rattle.std.proofs.lemmas.List.Folds.{list_any-append}
 use Rattle.definitions.specs.Table.{Hold, Process, Master, Worker, Foreign, is_active, is_worker, is_live_master, live_master, caller_if}
 use Rattle.definitions.specs.Exits.{kept_if, without_exited}
 use Rattle.definitions.specs.Calls.{drop_where, is_image, is_image_row, is_of_image, without_master}
-use Rattle.definitions.specs.Formed.{IsQuiet, HasParent}
+use Rattle.definitions.specs.Table.{IsQuiet, HasParent}
 use Rattle.kernel_table.specs.Room.{HasSockets}
 use Rattle.kernel_table.proofs.Keeping.{AreKept, Follows, AreKept-becomes, Becomes-filter_map}
 use Rattle.kernel_model.proofs.Steps.{KeepsMasters, HasParent-up, kept-without, exit_says}

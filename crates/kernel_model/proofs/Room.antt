@@ -5,7 +5,7 @@ use Rattle.vocabulary.specs.declared.calls.Call.{Call}
 use Rattle.vocabulary.specs.declared.calls.Fate.{Fate}
 use Rattle.definitions.specs.Table.{Table}
 use Rattle.definitions.specs.Exits.{after_exits}
-use Rattle.definitions.specs.Calls.{Stepped, step_with}
+use Rattle.definitions.specs.Calls.{Stepped, step_with, Handed}
 use Rattle.kernel_table.specs.declared.store.Store.{Store}
 use Rattle.kernel_table.specs.Seen.{seen}
 use Rattle.kernel_table.specs.Room.{EditsRows, GrowsByOne, HasMemoryFor, HasRoomFor, IsKept, IsSound}
@@ -76,5 +76,5 @@ module _ (a b : Store) (es : List Name) (exits : seen b ≡ after_exits es (seen
   pub kept-middle : IsKept (seen b)
   kept-middle = subst IsKept (sym exits) (IsKept-exits es (seen a) kept)
 
-  pub kept-after : (text : List ℕ) (image : ℕ) (call : Call) (f : Option Fate) (z : Stepped) → z ≡ step_with text image call f (seen b) → IsKept z.table
-  kept-after text image call f z e = subst (λ (x : Stepped). IsKept x.table) (sym e) (IsKept-step text image call f (seen b) kept-middle)
+  pub kept-after : (handed : Handed) (image : ℕ) (call : Call) (f : Option Fate) (z : Stepped) → z ≡ step_with handed image call f (seen b) → IsKept z.table
+  kept-after handed image call f z e = subst (λ (x : Stepped). IsKept x.table) (sym e) (IsKept-step handed image call f (seen b) kept-middle)

@@ -10,7 +10,7 @@ use Rattle.std.proofs.lemmas.List.Folds.{list_any_more}
 use Rattle.std.proofs.lemmas.List.Sums.{sum_by-cons, count_by-le-length}
 use Rattle.definitions.specs.Table.{Address, Generation, Hold, Process, Master, Worker, Foreign, same_generation, has_address, number_of, Table}
 use Rattle.definitions.specs.Service.{is_live_with, is_serving, service, IsSame}
-use Rattle.definitions.specs.Formed.{IsAscending}
+use Rattle.definitions.specs.Table.{IsAscending}
 use Rattle.kernel_rows.specs.declared.process.Holder.{Holder}
 use Rattle.kernel_rows.specs.declared.process.Row.{Row}
 use Rattle.kernel_rows.specs.declared.process.Row.TheVariants as row

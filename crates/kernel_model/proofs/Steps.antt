@@ -11,7 +11,7 @@ use Rattle.vocabulary.specs.declared.names.Name.TheVariants as name
 use Rattle.definitions.specs.Table.{Address, Generation, Hold, Process, Master, Worker, Foreign, is_active, is_starting, is_draining, is_named, is_worker, is_live_master, is_at, Caller, live_master}
 use Rattle.definitions.specs.Exits.{change, made_exited, worker_exits, draining_exits, kept_if, without_exited, caller_exits, exited, all_exited, first_changed}
 use Rattle.definitions.specs.Calls.{drop_where, made_ready, made_draining, with_holds, lacks_address, is_exited_of}
-use Rattle.definitions.specs.Formed.{HasParent}
+use Rattle.definitions.specs.Table.{HasParent}
 use Rattle.kernel_table.proofs.Keeping.{AreKept, Follows, AreKept-becomes, Becomes-filter_map, Becomes-first_changed, says-change, says-dropped}
 
 -- each live master is one afterwards

@@ -3,6 +3,7 @@ ghost use Rattle.std.specs.Prelude.{◌≡◌, ℕ, List};
 ghost use Rattle.std.specs.List.{list_any};
 ghost use Rattle.definitions.specs.Table.{Table, Caller as LiveMaster, is_worker};
 ghost use Rattle.definitions.specs.Calls.{opened, closed, forked, awaited, quitted, killed, counted, awaited_gone, written, moved, unlinked, own_step, fault_if, fault_of, step_with};
+ghost use Rattle.handover_text.specs.Reading.{handed_by};
 ghost use Rattle.kernel_rows.specs.Seen.{seen_caller, has_stance};
 ghost use Rattle.kernel_table.specs.Seen.{seen};
 ghost use Rattle.kernel_table.specs.Room.{GrowsByOne, HasRoomFor, IsKept};
@@ -166,7 +167,7 @@ fn own_answer(store: &mut Store, image: u32, caller: &Caller, call: &Call, text:
     requires kept { IsKept (seen store.old) }
     requires names { KnowsNames store.old }
     requires own { IsOwn store.old caller.now }
-    ensures outcome { record { answer = result; table = seen store.new } ≡ own_step text.now image (seen_caller store.old.addresses.items caller.now) call.now (seen store.old) }
+    ensures outcome { record { answer = result; table = seen store.new } ≡ own_step (handed_by text.now) image (seen_caller store.old.addresses.items caller.now) call.now (seen store.old) }
     ensures grows { GrowsByOne store.old store.new }
 {
     match call {
@@ -295,7 +296,7 @@ pub fn answered(
     requires room { HasRoomFor 1 store.old }
     requires kept { IsKept (seen store.old) }
     requires names { KnowsNames store.old }
-    ensures outcome { record { answer = result; table = seen store.new } ≡ step_with text.now image call.now fate (seen store.old) }
+    ensures outcome { record { answer = result; table = seen store.new } ≡ step_with (handed_by text.now) image call.now fate (seen store.old) }
     ensures grows { GrowsByOne store.old store.new }
 {
     let Some(caller) = store.caller(image) else {

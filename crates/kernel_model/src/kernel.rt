@@ -1,10 +1,10 @@
 //! The modelled kernel.
 ghost use Rattle.std.specs.Prelude.{true, false, ◌≡◌, ◌≤◌, ◌+◌, ◌↔◌, length, max, IsTrue, OnOk, OnErr, IfOk, IsErrOf};
 ghost use Rattle.std.specs.Option.{option_map};
-ghost use Rattle.definitions.specs.Table.{is_held, live_master};
+ghost use Rattle.definitions.specs.Table.{is_held, live_master, IsFormed};
 ghost use Rattle.definitions.specs.Exits.{after_exits};
 ghost use Rattle.definitions.specs.Calls.{step_with};
-ghost use Rattle.definitions.specs.Formed.{IsFormed};
+ghost use Rattle.handover_text.specs.Reading.{handed_by};
 ghost use Rattle.call_laws.specs.Start.{booted};
 ghost use Rattle.kernel_model.specs.Alone.{LeavesOthersAlone};
 ghost use Rattle.kernel_model.specs.Boot.{AreBadLimits};
@@ -170,7 +170,7 @@ impl Kernel {
     /// masters and their workers alone.
     pub fn call(&mut self, by: Actor, call: &Call, text: &[u8], moment: &Moment<'_>) -> Answer
         requires { 1 ≤ self.old.room }
-        ensures step { record { answer = result; table = self.new.table } ≡ step_with text.now by call.now moment.now.fate (after_exits moment.now.exits.now self.old.table) }
+        ensures step { record { answer = result; table = self.new.table } ≡ step_with (handed_by text.now) by call.now moment.now.fate (after_exits moment.now.exits.now self.old.table) }
         ensures room { self.new.room + 1 ≡ self.old.room }
         ensures formed { IsFormed self.new.table }
         ensures alone { LeavesOthersAlone by call.now (after_exits moment.now.exits.now self.old.table) self.new.table }

@@ -2,7 +2,7 @@
 ghost use Rattle.std.specs.Prelude.{◌≡◌};
 ghost use Rattle.definitions.specs.Table.{live_master};
 ghost use Rattle.definitions.specs.Calls.{spawned, suits, adopted, asked_alive, departed, terminated};
-ghost use Rattle.definitions.specs.Reading.{reading};
+ghost use Rattle.handover_text.specs.Reading.{handed_by};
 ghost use Rattle.kernel_rows.specs.Holds.{seen_holds};
 ghost use Rattle.kernel_rows.specs.Seen.{seen_caller};
 ghost use Rattle.kernel_table.specs.Seen.{seen};
@@ -31,7 +31,7 @@ pub fn spawn(store: &mut Store, caller: &Caller, image: u32) -> Answer
 
 /// Whether the text is a handover to the caller's image, with exactly the caller's descriptors and addresses.
 fn is_suitable(store: &Store, image: u32, caller: &Caller, text: &[u8]) -> bool
-    ensures { result ≡ suits (reading text.now) image (seen_holds store.now.addresses.items caller.now.holds) }
+    ensures { result ≡ suits (handed_by text.now) image (seen_holds store.now.addresses.items caller.now.holds) }
 {
     match handover_text::read(text) {
         Ok(handover) => {
@@ -48,7 +48,7 @@ fn is_suitable(store: &Store, image: u32, caller: &Caller, text: &[u8]) -> bool
 
 /// Adopted where the text is a handover to the caller's image, with exactly the caller's descriptors and addresses.
 pub fn adopt(store: &Store, image: u32, caller: &Caller, text: &[u8]) -> Answer
-    ensures { record { answer = result; table = seen store.now } ≡ adopted text.now image (seen_caller store.now.addresses.items caller.now) (seen store.now) }
+    ensures { record { answer = result; table = seen store.now } ≡ adopted (handed_by text.now) image (seen_caller store.now.addresses.items caller.now) (seen store.now) }
 {
     if is_suitable(store, image, caller, text) {
         Answer::Adopted

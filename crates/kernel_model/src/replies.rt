@@ -5,6 +5,7 @@ ghost use Rattle.std.specs.Option.{option_map};
 ghost use Rattle.definitions.specs.Table.{is_active, is_worker, live_master};
 ghost use Rattle.definitions.specs.Calls.{opened, forked, spawned, adopted, moved, asked_alive, census_of, own_step, step_with};
 ghost use Rattle.definitions.specs.Tree.{reply_of};
+ghost use Rattle.handover_text.specs.Reading.{handed_by};
 ghost use Rattle.kernel_rows.specs.Seen.{seen_caller};
 ghost use Rattle.kernel_table.specs.Seen.{seen};
 ghost use Rattle.kernel_table.specs.Names.{KnowsNames};
@@ -74,7 +75,7 @@ fn worker_reply(
 }
 
 fn adopt_reply(store: &Store, image: u32, caller: &Caller, text: &[u8]) -> Reply
-    ensures { result ≡ reply_of [] (adopted text.now image (seen_caller store.now.addresses.items caller.now) (seen store.now)).answer }
+    ensures { result ≡ reply_of [] (adopted (handed_by text.now) image (seen_caller store.now.addresses.items caller.now) (seen store.now)).answer }
 {
     match master_calls::adopt(store, image, caller, text) {
         Answer::Adopted => Reply::Adopted,
@@ -104,7 +105,7 @@ fn alive_reply(store: &Store, image: u32) -> Reply
 /// What an edge tells apart of the call's own answer, to a caller that lives.
 fn own_reply(store: &Store, image: u32, caller: &Caller, call: &Call, text: &[u8]) -> Reply
     requires { KnowsNames store.now }
-    ensures { result ≡ reply_of [] (own_step text.now image (seen_caller store.now.addresses.items caller.now) call.now (seen store.now)).answer }
+    ensures { result ≡ reply_of [] (own_step (handed_by text.now) image (seen_caller store.now.addresses.items caller.now) call.now (seen store.now)).answer }
 {
     match call {
         Call::OpenAt(address) => open_reply(store, caller, address),
@@ -146,7 +147,7 @@ impl Kernel {
     /// What an edge tells apart of the answer that a call would have by itself: no exit comes before it, and no fate
     /// makes it fail. A census is full.
     pub fn own_reply(&self, by: Actor, call: &Call, text: &[u8]) -> Reply
-        ensures { result ≡ reply_of [] (step_with text.now by call.now None self.now.table).answer }
+        ensures { result ≡ reply_of [] (step_with (handed_by text.now) by call.now None self.now.table).answer }
     {
         match self.store.live_master(by.0) {
             Some(caller) => own_reply(&self.store, by.0, &caller, call, text),

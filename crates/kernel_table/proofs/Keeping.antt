@@ -7,7 +7,7 @@ use Rattle.std.proofs.lemmas.List.Sums.{sum_by-cons}
 use Rattle.definitions.specs.Table.{Generation, Process, number_of, is_active, is_worker}
 use Rattle.definitions.specs.Exits.{change, first_changed}
 use Rattle.definitions.specs.Calls.{drop_where, is_image}
-use Rattle.definitions.specs.Formed.{IsQuiet, HasParent, IsAscending}
+use Rattle.definitions.specs.Table.{IsQuiet, HasParent, IsAscending}
 use Rattle.kernel_table.specs.Room.{HasSockets}
 
 -- Rows of a table, with the next process and the next socket number.

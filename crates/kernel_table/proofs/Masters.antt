@@ -6,7 +6,7 @@ use Rattle.std.proofs.lemmas.Bool.Decides.{nat_tests}
 use Rattle.definitions.specs.Table.{Address, Hold, Process, Master, Worker, Foreign, Caller, caller_if, live_master, number_of, holds_of}
 use Rattle.definitions.specs.Exits.{change, kept_if, without_exited}
 use Rattle.definitions.specs.Calls.{is_row, is_image, with_holds, put_hold}
-use Rattle.definitions.specs.Formed.{IsAscending}
+use Rattle.definitions.specs.Table.{IsAscending}
 use Rattle.kernel_rows.specs.declared.process.Holder.{Holder}
 use Rattle.kernel_rows.specs.Seen.{seen_holder, seen_rows}
 use Rattle.kernel_rows.proofs.Lone.{more, passing, failing}

@@ -1,9 +1,8 @@
 -- Room for calls: memory and numbers.
 use Rattle.std.specs.Prelude.{ℕ, ◌≡◌, ◌+◌, ◌≤◌, ◌<◌, ◌^◌, ◌⊎◌, count_by, length, vec_len, vec_capacity}
 use Rattle.std.specs.List.{AllByRecursion}
-use Rattle.definitions.specs.Table.{Hold, Process, Table, holds_of}
+use Rattle.definitions.specs.Table.{Hold, Process, Table, holds_of, IsFormed}
 use Rattle.definitions.specs.Calls.{is_image}
-use Rattle.definitions.specs.Formed.{IsFormed}
 use Rattle.kernel_table.specs.declared.store.Store.{Store}
 use Rattle.kernel_table.specs.Seen.{seen}
 use Rattle.kernel_table.specs.Names.{KnowsNames}

@@ -15,10 +15,9 @@ use Rattle.listener_set.specs.Descriptors.{IsDescriptor}
 use Rattle.listener_set.specs.Numbers.{with_number, AreBelow}
 use Rattle.listener_set.proofs.Rising.{with_number-above}
 use Rattle.vocabulary.specs.declared.table.Listener.{Listener}
-use Rattle.definitions.specs.Record.{listeners_from}
+use Rattle.vocabulary.specs.Settings.{listeners_from}
 use Rattle.definitions.specs.After.{listens_on, listener_at, opened_from, added, with_added, all_opened}
-use Rattle.definitions.specs.Reading.{is_above}
-use Rattle.master_listeners.specs.Listeners.{AreKept, AreListed, AreListedFrom, blank_listener}
+use Rattle.master_listeners.specs.Listeners.{AreKept, AreListed, AreListedFrom, blank_listener, is_above}
 
 pub blanks_kept : (a : List ℕ) → a ≡ codes "0.0.0.0:8080" → AreKept (replicate 64 (record { descriptor = 3; address = a })) 0
 unfolding blank_listener blank

@@ -1,5 +1,6 @@
 -- The listeners of a running master.
-use Rattle.std.specs.Prelude.{◌≡◌, ℕ, ◌+◌, ◌<◌, ◌≤◌, false, List, [], ◌∷◌, take, filter}
+use Rattle.std.specs.Prelude.{◌≡◌, ℕ, ◌+◌, ◌<◌, ◌≤◌, Bool, false, List, [], ◌∷◌, take, filter, nat_lt}
+use Rattle.std.specs.List.{list_all}
 use Rattle.listener_set.specs.Padded.{IsPadded}
 use Rattle.listener_set.specs.AddressList.{blank}
 use Rattle.listener_set.specs.Numbers.{is_in}
@@ -27,3 +28,7 @@ pub record AreKept (items : List Listener) (len : ℕ) : Type 0 where
 -- the listeners whose descriptors are in a set
 abbrev pub only_under : List ℕ → List Listener → List Listener
 only_under fds ls = filter (λ (l : Listener). is_in fds l.descriptor) ls
+
+-- a descriptor is above those of all listeners
+abbrev pub is_above : ℕ → List Listener → Bool
+is_above fd listeners = list_all (λ l. nat_lt l.descriptor fd) listeners

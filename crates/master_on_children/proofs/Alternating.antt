@@ -1,6 +1,6 @@
 -- Turns that are added one after another.
 use Rattle.std.proofs.Common.{◌≡◌, ℕ, zero, suc, ◌+◌, List, [], ◌∷◌, ◌++◌, refl, ap, ◌∙◌, append_assoc, arith}
-use Rattle.definitions.specs.Parts.{Turn, New, Old}
+use Rattle.definitions.specs.Plans.{Turn, New, Old}
 use Rattle.master_on_children.specs.TakingTurns.{in_turn}
 
 -- one turn more of each, behind the others

@@ -1,8 +1,10 @@
 -- A target carried out on real children.
 use Rattle.std.specs.Prelude.{ℕ, ◌≡◌, true, List, Option}
 use Rattle.definitions.specs.Record.{Record}
-use Rattle.definitions.specs.Target.{sides_of, text_handed}
-use Rattle.definitions.specs.After.{lacks_generation, record_after}
+use Rattle.definitions.specs.Target.{handover_for, sides_of}
+use Rattle.handover_text.specs.Spelling.{text_handed}
+use Rattle.definitions.specs.After.{record_after}
+use Rattle.service_state.specs.Targets.{lacks_generation}
 use Rattle.definitions.specs.Plans.{plan_tree}
 use Rattle.plan_walk.specs.Path.{KeepsPathLaw}
 use Rattle.vocabulary.specs.declared.targets.Target.{Target}
@@ -24,7 +26,7 @@ pub record IsUnplanned (r : Record) (target : Target) (code : List ℕ) : Type 0
 
 -- what the edge knows before the first call: the handover's text too
 abbrev pub handed : State → Record → Target → State
-handed s r target = record s { text = text_handed r target }
+handed s r target = record s { text = text_handed (handover_for r target) }
 
 module _ {F I L : Type 0} {f : Ghosts F} (remaining : I → Option (List ℕ)) where
   -- The target's plan was carried out: the entries are a path of its tree and the report is theirs. In an upgrade the masters go turns

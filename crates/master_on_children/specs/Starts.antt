@@ -2,7 +2,8 @@
 use Rattle.std.specs.Prelude.{ℕ, ◌≡◌, true, List, [], Option, Some, None, Result}
 use Rattle.std.specs.Io.KnownBytes.{Keeps}
 use Rattle.vocabulary.specs.Settings.{Settings}
-use Rattle.definitions.specs.Record.{Record, started}
+use Rattle.definitions.specs.Record.{Record}
+use Rattle.call_laws.specs.Start.{started}
 use Rattle.child_family.specs.Told.{Told, Tells, wrote}
 use Rattle.child_family.specs.declared.family.Family.{Ghosts}
 use Rattle.child_edge.specs.Edge.{begun_by}

@@ -1,6 +1,6 @@
 -- How two masters that act side by side take turns, on real children.
 use Rattle.std.specs.Prelude.{ℕ, zero, suc, ◌+◌, ◌*◌, List, [], ◌∷◌}
-use Rattle.definitions.specs.Parts.{Turn, New, Old}
+use Rattle.definitions.specs.Plans.{Turn, New, Old}
 
 -- one after the other, the new master first: as many turns of each
 abbrev pub in_turn : ℕ → List Turn

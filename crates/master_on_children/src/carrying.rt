@@ -1,6 +1,6 @@
 //! Targets carried out on real children.
 ghost use Rattle.std.specs.Prelude.{◌≡◌, IfOk, IfErr, IsErrOf, OnErr};
-ghost use Rattle.definitions.specs.Target.{IsTarget};
+ghost use Rattle.service_state.specs.Targets.{IsTarget};
 ghost use Rattle.word_runner.specs.Enactors.{HasCode};
 ghost use Rattle.upgrade_planner.specs.Planned.{HasPlan};
 ghost use Rattle.master_on_children.specs.Carried.{IsUnplanned, IsCarriedOut};

@@ -2,7 +2,7 @@
 ghost use Rattle.std.specs.Prelude.{◌≤◌, ◌≡◌, ◌∷◌, [], Some, None, IfOk};
 ghost use Rattle.std.specs.Io.KnownBytes.{Keeps};
 ghost use Rattle.std.specs.Option.{option_copied};
-ghost use Rattle.definitions.specs.Record.{started};
+ghost use Rattle.call_laws.specs.Start.{started};
 ghost use Rattle.child_edge.specs.State.{state_of};
 ghost use Rattle.child_edge.specs.Edge.{begun_by};
 ghost use Rattle.master_on_children.specs.Inbox.{unread};

@@ -3,7 +3,7 @@ use Rattle.std.specs.Prelude.{◌≡◌, Bool, List, [], ◌∷◌, Option, Some
 use Rattle.vocabulary.specs.declared.targets.Target.{Target}
 use Rattle.definitions.specs.Table.{Table}
 use Rattle.definitions.specs.Record.{Record}
-use Rattle.definitions.specs.Parts.{Turn}
+use Rattle.definitions.specs.Plans.{Turn}
 use Rattle.definitions.specs.Run.{Pattern}
 use Rattle.control_words.specs.declared.words.Word.{Word}
 use Rattle.worker_table.specs.Beats.{Workers}

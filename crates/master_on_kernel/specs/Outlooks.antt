@@ -4,8 +4,7 @@ use Rattle.definitions.specs.Record.{Record}
 use Rattle.reload_planner.specs.Codes.{plan_code}
 use Rattle.reload_planner.specs.declared.refusal.PlanRefusal.{PlanRefusal}
 use Rattle.upgrade_planner.specs.Planned.{HasPlan, HasNoPlan}
-use Rattle.definitions.specs.Parts.{Turn}
-use Rattle.definitions.specs.Plans.{plan_tree}
+use Rattle.definitions.specs.Plans.{Turn, plan_tree}
 use Rattle.vocabulary.specs.declared.targets.Target.{Target}
 use Rattle.rollback_plan.specs.declared.plan.Plan.{Plan}
 use Rattle.rollback_plan.specs.Plans.{tree_under, length_of, parts_of, steps_of}

@@ -4,7 +4,7 @@ use Rattle.listener_set.specs.AddressText.{reading}
 use Rattle.listener_set.specs.declared.address.AddressRefusal.{AddressRefusal}
 use Rattle.definitions.specs.Table.{Table, is_held}
 use Rattle.definitions.specs.Record.{Record}
-use Rattle.definitions.specs.Path.{Entry}
+use Rattle.definitions.specs.Run.{Entry}
 use Rattle.vocabulary.specs.declared.targets.Target.{Target}
 use Rattle.kernel_table.specs.Foreign.{with_foreign}
 use Rattle.kernel_table.specs.Room.{LacksNumbers}

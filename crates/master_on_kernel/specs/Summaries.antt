@@ -1,6 +1,6 @@
 -- What is said of runs that were counted, and the status that goes with it.
 use Rattle.std.specs.Prelude.{◌≡◌, ℕ, nat_eq, nat_lt, Bool, false, true, ◌&&◌, ◌||◌, List, Option, Some, None, is_some, if◌then◌else◌}
-use Rattle.definitions.specs.Parts.{Turn}
+use Rattle.definitions.specs.Plans.{Turn}
 use Rattle.order_explorer.specs.declared.totals.OrderedLeast.{OrderedLeast}
 use Rattle.order_explorer.specs.declared.totals.Totals.{Totals}
 use Rattle.exploration_text.specs.SummaryText.{summary_text}

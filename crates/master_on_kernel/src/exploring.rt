@@ -1,6 +1,6 @@
 //! How a target ends whatever goes wrong, from a kernel as it is.
 ghost use Rattle.std.specs.Prelude.{IfOk};
-ghost use Rattle.definitions.specs.Target.{IsTarget};
+ghost use Rattle.service_state.specs.Targets.{IsTarget};
 ghost use Rattle.master_on_kernel.specs.Explorations.{AreCounted};
 
 use explorer::Unexplored;

@@ -1,6 +1,6 @@
 //! `plan`: what a control word would do.
 ghost use Rattle.std.specs.Prelude.{◌≡◌, IfOk, IfErr};
-ghost use Rattle.definitions.specs.Target.{IsTarget};
+ghost use Rattle.service_state.specs.Targets.{IsTarget};
 ghost use Rattle.faults.specs.Faults.{IsDue};
 ghost use Rattle.master_on_kernel.specs.Outlooks.{shown, Tells, IsPlanned, IsForeseen};
 ghost use Rattle.master_on_kernel.specs.Starts.{record_at};

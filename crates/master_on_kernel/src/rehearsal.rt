@@ -8,7 +8,7 @@ ghost use Rattle.certifier.specs.Blocks.{AreTaken, StopsAtBlock};
 ghost use Rattle.faults.specs.Faults.{IsDue};
 ghost use Rattle.master_on_kernel.specs.Starts.{IsStarted, record_at};
 ghost use Rattle.faults.specs.declared.fault.Fault.TheVariants.{Memory, Orders};
-ghost use Rattle.definitions.specs.Target.{IsTarget};
+ghost use Rattle.service_state.specs.Targets.{IsTarget};
 ghost use Rattle.master_on_kernel.specs.Explorations.{IsExplored, HasOrders};
 ghost use Rattle.order_explorer.specs.Choosing.{IsChosen};
 ghost use Rattle.master_on_kernel.specs.Rehearsals.{Held, IsOfHeld, IsRehearsed, IsShownOf, IsShownBy};

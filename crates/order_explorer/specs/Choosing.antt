@@ -1,8 +1,7 @@
 -- Which orders of a plan there are.
 use Rattle.std.specs.Prelude.{ℕ, ◌≡◌, ◌-◌, ◌*◌, ◌⊎◌, min, Bool, List, Option, Some, None}
 use Rattle.vocabulary.specs.declared.targets.Target.{Target}
-use Rattle.definitions.specs.Parts.{Turn}
-use Rattle.definitions.specs.Plans.{plan_tree}
+use Rattle.definitions.specs.Plans.{Turn, plan_tree}
 use Rattle.definitions.specs.Record.{Record}
 use Rattle.plan_steps.specs.declared.parts.Parts.{Parts}
 use Rattle.rollback_plan.specs.declared.plan.Plan.{Plan}

@@ -1,6 +1,6 @@
 //! Which orders of turns a target is explored by.
 ghost use Rattle.std.specs.Prelude.{◌≡◌, ◌∷◌, [], IfOk};
-ghost use Rattle.definitions.specs.Target.{IsTarget};
+ghost use Rattle.service_state.specs.Targets.{IsTarget};
 ghost use Rattle.order_explorer.specs.Choosing.{olds_in, news_in, most_olds, AreOrdersOf, IsChosen};
 
 use plan_executor::{EnactRefusal, plan_of};

@@ -1,6 +1,6 @@
 //! A target, explored by one order after another.
 ghost use Rattle.std.specs.Prelude.{◌≡◌, ◌⊎◌, OnOk, IsErrOf};
-ghost use Rattle.definitions.specs.Target.{IsTarget};
+ghost use Rattle.service_state.specs.Targets.{IsTarget};
 ghost use Rattle.plan_executor.specs.declared.enactment.EnactRefusal.{EnactRefusal as Refusal};
 ghost use Rattle.order_explorer.specs.Exploring.{IsSearched, AreSearched, IsHopelessly, IsNeverRefused};
 

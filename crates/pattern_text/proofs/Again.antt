@@ -11,7 +11,7 @@ use Rattle.vocabulary.specs.declared.names.Name.TheVariants as name
 use Rattle.vocabulary.specs.declared.calls.Fate.{Fate}
 use Rattle.vocabulary.specs.declared.calls.Fate.TheVariants as fate
 use Rattle.definitions.specs.Run.{Moment, quiet, Pattern}
-use Rattle.definitions.specs.Parts.{Turn, New, Old}
+use Rattle.definitions.specs.Plans.{Turn, New, Old}
 use Rattle.kernel_pattern.specs.declared.section.Section.{Section}
 use Rattle.kernel_pattern.specs.Pattern.{moment_at, with_exit, with_fate, RiseFrom}
 use Rattle.plain_text.specs.NumberText.{count_of}

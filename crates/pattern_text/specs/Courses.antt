@@ -1,7 +1,7 @@
 -- Sections by what they decide.
 use Rattle.std.specs.Prelude.{List}
 use Rattle.definitions.specs.Run.{Pattern}
-use Rattle.definitions.specs.Parts.{Turn}
+use Rattle.definitions.specs.Plans.{Turn}
 use Rattle.kernel_pattern.specs.Pattern.{moment_at}
 use Rattle.kernel_pattern.specs.declared.section.Section.{Section}
 

@@ -1,7 +1,7 @@
 -- The line of turns: one letter for each.
 use Rattle.std.specs.Prelude.{ℕ, ◌==◌, List, [], ◌∷◌, ◌++◌, Option, Some, None, option_map, option_and_then, codes, if◌then◌else◌}
 use Rattle.plain_text.specs.Cuts.{after_prefix}
-use Rattle.definitions.specs.Parts.{Turn, New, Old}
+use Rattle.definitions.specs.Plans.{Turn, New, Old}
 
 ---- Written
 

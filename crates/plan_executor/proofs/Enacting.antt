@@ -1,10 +1,12 @@
 -- What is carried out ends as it reports.
-use Rattle.std.proofs.Common.{◌≡◌, ℕ, ◌+◌, true, false, Bool, List, [], ◌∷◌, length, Option, Some, None, refl, sym, ◌∙◌, ap, subst}
+use Rattle.std.proofs.Common.{◌≡◌, ℕ, ◌+◌, true, false, List, [], ◌∷◌, length, Option, Some, None, refl, sym, ◌∙◌, ap, subst}
 use Rattle.std.specs.Prelude.{is_some, is_none}
 use Rattle.std.proofs.lemmas.Bool.{false≢true}
+use Rattle.handover_text.specs.Reading.{handed_by}
 use Rattle.definitions.specs.Table.{Table, Generation}
 use Rattle.definitions.specs.Record.{Record}
-use Rattle.definitions.specs.Target.{IsTarget, sides_of, text_handed}
+use Rattle.definitions.specs.Target.{sides_of, handover_for}
+use Rattle.service_state.specs.Targets.{IsTarget}
 use Rattle.vocabulary.specs.declared.targets.Target.{Target}
 use Rattle.vocabulary.specs.declared.targets.Target.TheVariants.{Workers, Mend, Reopen, Reload, Upgrade, Attended, Stop}
 use Rattle.definitions.specs.Tree.{Tree}
@@ -15,10 +17,9 @@ use Rattle.vocabulary.specs.declared.reports.Report.{Report}
 use Rattle.kernel_model.specs.State.{State}
 use Rattle.plan_walk.specs.Log.{Told}
 use Rattle.rollback_plan.specs.declared.plan.Plan.{Plan}
-use Rattle.definitions.specs.Plans.{plan_tree, plan_length}
+use Rattle.definitions.specs.Plans.{plan_tree, plan_length, Turn}
 use Rattle.definitions.specs.Run.{Pattern}
 use Rattle.plan_executor.specs.Replays.{Replays}
-use Rattle.definitions.specs.Parts.{Turn}
 use Rattle.rollback_plan.specs.Plans.{tree_under, note_of, sides_told, text_of}
 use Rattle.plan_walk.specs.Path.{KeepsPathLaw}
 use Rattle.definitions.specs.After.{next_record, next_config, next_image}
@@ -70,11 +71,11 @@ keeps headline parts target within range t r turns pattern start ds plan spared 
 -- The calls follow the target's plan from the one table to the other under the pattern, and the report is theirs.
 pub record IsMade (first : Table) (r : Record) (target : Target) (turns : List Turn) (pattern : Pattern) (entries : List Entry) (last : Table) (report : Report) : Type 0 where
   pub law : KeepsPathLaw (plan_tree r target turns) r.note (sides_of r target) entries report
-  pub replays : Replays (text_handed r target) pattern 0 first entries last
+  pub replays : Replays (handover_for r target) pattern 0 first entries last
 
 -- what is executed of a target's plan
 pub made : (r : Record) (target : Target) (plan : Plan) (turns : List Turn) (pattern : Pattern) (first last : Table) (entries : List Entry) (report : Report) →
-    IsPlanFor r target plan → KeepsPathLaw (tree_under plan turns) (note_of plan) (sides_told plan) entries report → Replays (text_of plan) pattern 0 first entries last →
+    IsPlanFor r target plan → KeepsPathLaw (tree_under plan turns) (note_of plan) (sides_told plan) entries report → Replays (handed_by (text_of plan)) pattern 0 first entries last →
     IsMade first r target turns pattern entries last report
 made r target plan turns pattern first last entries report is law replays =
     record {
@@ -82,7 +83,7 @@ made r target plan turns pattern first last entries report is law replays =
           subst (λ (tree : Tree). KeepsPathLaw tree r.note (sides_of r target) entries report) (is.tree turns)
           (subst (λ (note : PidNote). KeepsPathLaw (tree_under plan turns) note (sides_of r target) entries report) is.note
           (subst (λ (sides : Sides). KeepsPathLaw (tree_under plan turns) (note_of plan) sides entries report) is.sides law));
-      replays = subst (λ handed. Replays handed pattern 0 first entries last) is.text replays;
+      replays = subst (λ handed. Replays handed pattern 0 first entries last) is.hands.read replays;
     }
 
 -- What is found among the calls is so of the run.

@@ -1,16 +1,14 @@
 -- At most one refusal fits, and none where a target is carried out.
 use Rattle.std.proofs.Common.{◌≡◌, ◌⊎◌, inl, inr, List, Result, Ok, Err, refl, sym, ◌∙◌, ap, subst}
-use Rattle.std.specs.Prelude.{◌↔◌}
+use Rattle.std.specs.Prelude.{◌↔◌, true}
 use Rattle.std.specs.Result.{IsErrOf}
 use Rattle.std.proofs.lemmas.Option.{none-some, same_Some}
 use Rattle.definitions.specs.Table.{Table}
 use Rattle.definitions.specs.Record.{Record, Agrees}
 use Rattle.vocabulary.specs.declared.targets.Target.{Target}
-use Rattle.definitions.specs.Parts.{Turn}
-use Rattle.definitions.specs.Plans.{plan_length}
-use Rattle.definitions.specs.After.{lacks_generation}
+use Rattle.definitions.specs.Plans.{Turn, plan_length}
+use Rattle.service_state.specs.Targets.{lacks_generation}
 use Rattle.std.proofs.lemmas.Bool.{false≢true}
-use Rattle.std.specs.Prelude.{true}
 use Rattle.definitions.specs.Run.{Pattern}
 use Rattle.kernel_model.specs.Room.{LacksNumbers}
 use Rattle.kernel_model.specs.State.{State}

@@ -8,14 +8,14 @@ use Rattle.vocabulary.specs.declared.reports.Entry.{Entry}
 use Rattle.vocabulary.specs.declared.targets.Target.{Target}
 use Rattle.vocabulary.specs.declared.targets.Target.TheVariants.{Workers, Mend, Reopen, Reload, Upgrade, Attended, Stop}
 use Rattle.definitions.specs.Table.{Table, FilePath}
-use Rattle.definitions.specs.Calls.{Call, SpawnMaster, MovePid}
+use Rattle.definitions.specs.Calls.{Call, SpawnMaster, MovePid, Handed}
 use Rattle.definitions.specs.Crew.{Crew}
 use Rattle.definitions.specs.Record.{Record, PidNote, InPlace, AtOldbin, OldbinLeft, Left, NoFile, oldbin, crew_of, addresses_of}
-use Rattle.definitions.specs.Target.{sides_of, text_handed}
+use Rattle.definitions.specs.Target.{sides_of, handover_for}
 use Rattle.definitions.specs.Tree.{Tree, Ends, Does, Branches, Nothing, Branch, End, Done, Split, JoinReady, JoinBack, Reply, among, branch, reply_of}
 use Rattle.vocabulary.specs.declared.calls.Reply.TheVariants as reply
-use Rattle.definitions.specs.Path.{Sides, Lack, lacked_after}
-use Rattle.definitions.specs.Parts.{Turn, weave, joined}
+use Rattle.definitions.specs.Run.{Sides, Lack, lacked_after}
+use Rattle.definitions.specs.Plans.{Turn, weave, joined}
 use Rattle.definitions.specs.After.{crew_wanted}
 use Rattle.definitions.specs.Plans.{does, on, spawn_edges, move_aside, new_part, new_calls, old_part, tries_all, taken_over, back_from, back_alone, settle, upgrade_tree, plan_tree}
 use Rattle.definitions.specs.Run.{Pattern, Progress, Ending, At, Lost, Ran, run_with, goes_with, noted, start_at, outcome_of}
@@ -31,29 +31,29 @@ noted-lacked None p = refl
 noted-lacked (Some n) p = refl
 
 -- what is found behind a reply, and the run from there
-abbrev pub GoesOn : List ℕ → Branches → Reply → Pattern → Progress → End → Type 0
-GoesOn text bs r pattern p end =
-    (edge : Option PidNote × Tree) × (branch bs r ≡ Some edge) × WalksAll edge.1 p.lacked (goes_with text bs r pattern p).entries (Ends end)
+abbrev pub GoesOn : Handed → Branches → Reply → Pattern → Progress → End → Type 0
+GoesOn handed bs r pattern p end =
+    (edge : Option PidNote × Tree) × (branch bs r ≡ Some edge) × WalksAll edge.1 p.lacked (goes_with handed bs r pattern p).entries (Ends end)
 
 mutual
-  whole-walk : (text : List ℕ) (tree : Tree) (pattern : Pattern) (p : Progress) (end : End) → (run_with text tree pattern p).ending ≡ At end → WalksAll tree p.lacked (run_with text tree pattern p).entries (Ends end)
-  whole-walk text (Ends other) pattern p end is = let same : other ≡ end = cc in ap Ends same
-  whole-walk text (Does by order set branches) pattern p end is =
-      let g = whole-goes text branches _ pattern _ end is in (refl, refl, g.0, g.1, g.2)
+  whole-walk : (handed : Handed) (tree : Tree) (pattern : Pattern) (p : Progress) (end : End) → (run_with handed tree pattern p).ending ≡ At end → WalksAll tree p.lacked (run_with handed tree pattern p).entries (Ends end)
+  whole-walk handed (Ends other) pattern p end is = let same : other ≡ end = cc in ap Ends same
+  whole-walk handed (Does by order set branches) pattern p end is =
+      let g = whole-goes handed branches _ pattern _ end is in (refl, refl, g.0, g.1, g.2)
 
-  whole-goes : (text : List ℕ) (bs : Branches) (r : Reply) (pattern : Pattern) (p : Progress) (end : End) → (goes_with text bs r pattern p).ending ≡ At end → GoesOn text bs r pattern p end
-  whole-goes text Nothing r pattern p end is = cc
-  whole-goes text (Branch replies said rest more) r pattern p end is =
+  whole-goes : (handed : Handed) (bs : Branches) (r : Reply) (pattern : Pattern) (p : Progress) (end : End) → (goes_with handed bs r pattern p).ending ≡ At end → GoesOn handed bs r pattern p end
+  whole-goes handed Nothing r pattern p end is = cc
+  whole-goes handed (Branch replies said rest more) r pattern p end is =
       elim (among replies r) as (λ b.
-      (elim b as (λ _. Ran) [ true ↦ run_with text rest pattern (noted said p) | false ↦ goes_with text more r pattern p ]).ending ≡ At end →
+      (elim b as (λ _. Ran) [ true ↦ run_with handed rest pattern (noted said p) | false ↦ goes_with handed more r pattern p ]).ending ≡ At end →
       (edge : Option PidNote × Tree) × (elim b as (λ _. Option (Option PidNote × Tree)) [ true ↦ Some (said, rest) | false ↦ branch more r ] ≡ Some edge)
-      × WalksAll edge.1 p.lacked (elim b as (λ _. Ran) [ true ↦ run_with text rest pattern (noted said p) | false ↦ goes_with text more r pattern p ]).entries (Ends end)) [
+      × WalksAll edge.1 p.lacked (elim b as (λ _. Ran) [ true ↦ run_with handed rest pattern (noted said p) | false ↦ goes_with handed more r pattern p ]).entries (Ends end)) [
         | true ↦ λ is. (
           (said, rest),
           refl,
-          subst (λ (lacked : List Lack). WalksAll rest lacked (run_with text rest pattern (noted said p)).entries (Ends end)) (noted-lacked said p) (whole-walk text rest pattern (noted said p) end is),
+          subst (λ (lacked : List Lack). WalksAll rest lacked (run_with handed rest pattern (noted said p)).entries (Ends end)) (noted-lacked said p) (whole-walk handed rest pattern (noted said p) end is),
         )
-        | false ↦ λ is. whole-goes text more r pattern p end is
+        | false ↦ λ is. whole-goes handed more r pattern p end is
       ] is
 
 ---- What leads to the parts
@@ -200,7 +200,7 @@ run-walk : (t : Table) (r : Record) (target : Target) (turns : List Turn) (patte
 run-walk t r target turns pattern ends =
     let ran = run_of r target turns pattern t in
     let at = at-end t r target ran.last.table (sides_of r target) ran.ending ran.last.lacking ends.says in
-    (at.0, whole-walk (text_handed r target) (plan_tree r target turns) pattern (start_at t r.note) at.0 at.1)
+    (at.0, whole-walk (handover_for r target) (plan_tree r target turns) pattern (start_at t r.note) at.0 at.1)
 
 -- the next image is another
 later-image : (n : ℕ) → n + 1 ≢ n

@@ -5,15 +5,13 @@ use Rattle.vocabulary.specs.declared.reports.Report.{Report}
 use Rattle.vocabulary.specs.declared.reports.Outcome.{Outcome}
 use Rattle.definitions.specs.Table.{Table}
 use Rattle.definitions.specs.Tree.{Tree, Ends, Does}
-use Rattle.definitions.specs.Parts.{Turn}
-use Rattle.definitions.specs.Path.{Sides}
+use Rattle.definitions.specs.Plans.{Turn, plan_tree}
+use Rattle.definitions.specs.Run.{Sides, Pattern, Ran, start_at, outcome_of, report_of}
 use Rattle.plan_walk.specs.Path.{Trail, begin, trail_after, IsOver, IsOutcome, Reports, KeepsPathLaw}
-use Rattle.definitions.specs.Run.{Pattern, Ran, start_at, outcome_of, report_of}
 use Rattle.plan_executor.specs.Replays.{Replays}
 use Rattle.definitions.specs.Record.{Record}
 use Rattle.vocabulary.specs.declared.targets.Target.{Target}
-use Rattle.definitions.specs.Target.{sides_of, text_handed}
-use Rattle.definitions.specs.Plans.{plan_tree}
+use Rattle.definitions.specs.Target.{sides_of, handover_for}
 use Rattle.definitions.specs.Claims.{run_of}
 use Rattle.plan_executor.specs.Lawful.{ending_of, IsRun, IsWholeRun}
 use Rattle.plan_executor.proofs.Running.{runs-as}
@@ -38,8 +36,8 @@ reported sides t entries last ran report is h =
     λ i. record { outcome = outcome i; cause = cause i; note = note i; ready = ready i }
 
 -- the run of the target's plan
-pub whole-run : (r : Record) (target : Target) (turns : List Turn) (pattern : Pattern) (first last : Table) (entries : List Entry) (report : Report) → KeepsPathLaw (plan_tree r target turns) r.note (sides_of r target) entries report → Replays (text_handed r target) pattern 0 first entries last → IsWholeRun r target turns pattern first entries last report
+pub whole-run : (r : Record) (target : Target) (turns : List Turn) (pattern : Pattern) (first last : Table) (entries : List Entry) (report : Report) → KeepsPathLaw (plan_tree r target turns) r.note (sides_of r target) entries report → Replays (handover_for r target) pattern 0 first entries last → IsWholeRun r target turns pattern first entries last report
 whole-run r target turns pattern first last entries report law replays =
     let t = trail_after (begin (plan_tree r target turns) r.note) entries in
-    let is = runs-as (text_handed r target) entries (plan_tree r target turns) pattern (start_at first r.note) last law.path (over (sides_of r target) t.rest t.lacking report.outcome law.report_is.outcome) replays in
+    let is = runs-as (handover_for r target) entries (plan_tree r target turns) pattern (start_at first r.note) last law.path (over (sides_of r target) t.rest t.lacking report.outcome law.report_is.outcome) replays in
     record { entries_are = is.entries_are; table = is.table; report_is = reported (sides_of r target) t entries last (run_of r target turns pattern first) report is law.report_is }

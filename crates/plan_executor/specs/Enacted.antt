@@ -3,8 +3,7 @@ use Rattle.std.specs.Prelude.{◌≡◌, ◌+◌, List, length, None}
 use Rattle.vocabulary.specs.declared.targets.Target.{Target}
 use Rattle.definitions.specs.Table.{Table}
 use Rattle.definitions.specs.Record.{Record, Agrees}
-use Rattle.definitions.specs.Parts.{Turn}
-use Rattle.definitions.specs.Plans.{plan_length}
+use Rattle.definitions.specs.Plans.{Turn, plan_length}
 use Rattle.definitions.specs.Run.{Pattern, Ran}
 use Rattle.definitions.specs.After.{next_record}
 use Rattle.definitions.specs.Claims.{IsStart, HasDescriptors, KeepsPromise, run_of, refusal_of}

@@ -3,7 +3,7 @@ use Rattle.std.specs.Prelude.{◌≡◌, Option, Some, None, List}
 use Rattle.definitions.specs.Table.{Table}
 use Rattle.definitions.specs.Tree.{Tree, Ends, Does}
 use Rattle.vocabulary.specs.declared.reports.Entry.{Entry}
-use Rattle.definitions.specs.Parts.{Turn}
+use Rattle.definitions.specs.Plans.{Turn}
 use Rattle.plan_walk.specs.Path.{Trail}
 use Rattle.vocabulary.specs.declared.reports.Report.{Report}
 use Rattle.definitions.specs.Run.{Pattern, Progress, Ending, At, Lost, Ran, report_of}

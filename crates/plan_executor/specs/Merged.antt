@@ -9,7 +9,7 @@ use Rattle.definitions.specs.Crew.{Crew}
 use Rattle.definitions.specs.Record.{Record, addresses_of, crew_of}
 use Rattle.definitions.specs.Tree.{Tree, Ends, End, Done, Split}
 use Rattle.definitions.specs.After.{crew_wanted}
-use Rattle.definitions.specs.Parts.{Turn, joined}
+use Rattle.definitions.specs.Plans.{Turn, joined}
 use Rattle.definitions.specs.Plans.{does, spawn_edges, move_aside, new_part, old_part, taken_over, back_from}
 use Rattle.theorems.specs.Apart.{WalksAll, IsWalkedApart}
 

@@ -5,6 +5,7 @@ use Rattle.vocabulary.specs.declared.reports.Entry.{Entry}
 use Rattle.plan_executor.specs.Replays.{Replays}
 use Rattle.kernel_model.specs.Pattern.{moment_at}
 use Rattle.plan_executor.specs.declared.patterned.Patterned.{Patterned}
+use Rattle.handover_text.specs.Reading.{handed_by}
 
 -- These calls led from the one state to the other, on the same kernel: each had the one answer that it can give there under the
 -- pattern, and each took one room.
@@ -14,7 +15,7 @@ pub record CallsLed (first : Patterned) (entries : List Entry) (last : Patterned
   pub text : last.text.now ≡ first.text.now
   pub number : last.number ≡ first.number + length entries
   pub room : last.kernel.now.room + length entries ≡ first.kernel.now.room
-  pub replays : Replays first.text.now (moment_at first.pattern.now) first.number first.kernel.now.table entries last.kernel.now.table
+  pub replays : Replays (handed_by first.text.now) (moment_at first.pattern.now) first.number first.kernel.now.table entries last.kernel.now.table
 
 -- where no call was made, nothing changed
 pub CallsLed-none : (p : Patterned) → CallsLed p [] p

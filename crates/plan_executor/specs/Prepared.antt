@@ -2,14 +2,14 @@
 use Rattle.std.specs.Prelude.{◌≡◌, List, []}
 use Rattle.vocabulary.specs.declared.targets.Target.{Target}
 use Rattle.definitions.specs.Record.{Record}
-use Rattle.definitions.specs.Target.{sides_of, text_handed}
-use Rattle.definitions.specs.Plans.{plan_tree, plan_length}
+use Rattle.definitions.specs.Target.{sides_of, handover_for}
+use Rattle.handover_text.specs.Reading.{Hands}
+use Rattle.definitions.specs.Plans.{plan_tree, plan_length, Turn}
 use Rattle.definitions.specs.Claims.{IsStart, HasDescriptors}
 use Rattle.kernel_model.specs.Room.{LacksNumbers}
 use Rattle.kernel_model.specs.State.{State}
 use Rattle.plan_walk.specs.Log.{Told}
 use Rattle.rollback_plan.specs.declared.plan.Plan.{Plan}
-use Rattle.definitions.specs.Parts.{Turn}
 use Rattle.rollback_plan.specs.Plans.{tree_under, length_of, note_of, sides_told, text_of}
 use Rattle.plan_executor.specs.Refusals.{HasPlan}
 
@@ -20,7 +20,7 @@ pub record IsPlanFor (r : Record) (target : Target) (plan : Plan) : Type 0 where
   pub longest : length_of plan ≡ plan_length r target
   pub note : note_of plan ≡ r.note
   pub sides : sides_told plan ≡ sides_of r target
-  pub text : text_of plan ≡ text_handed r target
+  pub hands : Hands (text_of plan) (handover_for r target)
 
 -- The record is true of the kernel, the plan is the target's, and there are numbers and room for its longest path, in the kernel
 -- and in a log that is empty.

@@ -3,14 +3,14 @@ use Rattle.std.specs.Prelude.{◌≡◌, ℕ, ◌+◌, List, [], ◌∷◌}
 use Rattle.vocabulary.specs.declared.reports.Entry.{Entry}
 use Rattle.definitions.specs.Table.{Table}
 use Rattle.definitions.specs.Exits.{after_exits}
-use Rattle.definitions.specs.Calls.{step_with}
+use Rattle.definitions.specs.Calls.{step_with, Handed}
 use Rattle.definitions.specs.Run.{Pattern}
 
 -- From one table to another by these calls, each of which is handed the text, the first being number n + 1 of the
 -- pattern: before each the exits of its moment, and each with the one answer that it can have there.
-abbrev pub Replays : List ℕ → Pattern → ℕ → Table → List Entry → Table → Type 0
-Replays text pattern n t [] last = t ≡ last
-Replays text pattern n t (e ∷ entries) last =
+abbrev pub Replays : Handed → Pattern → ℕ → Table → List Entry → Table → Type 0
+Replays handed pattern n t [] last = t ≡ last
+Replays handed pattern n t (e ∷ entries) last =
     let moment = pattern (n + 1) in
-    let s = step_with text e.by e.call moment.fate (after_exits moment.exits t) in
-    (s.answer ≡ e.answer) × Replays text pattern (n + 1) s.table entries last
+    let s = step_with handed e.by e.call moment.fate (after_exits moment.exits t) in
+    (s.answer ≡ e.answer) × Replays handed pattern (n + 1) s.table entries last

@@ -3,7 +3,8 @@ ghost use Rattle.std.specs.Prelude.{◌≡◌, ◌+◌, ◌≤◌, [], None, len
 ghost use Rattle.definitions.specs.Claims.{refusal_of};
 ghost use Rattle.plan_walk.specs.Path.{KeepsPathLaw};
 ghost use Rattle.plan_executor.specs.Replays.{Replays};
-ghost use Rattle.definitions.specs.Target.{IsTarget};
+ghost use Rattle.service_state.specs.Targets.{IsTarget};
+ghost use Rattle.handover_text.specs.Reading.{handed_by};
 ghost use Rattle.kernel_model.specs.Pattern.{moment_at};
 ghost use Rattle.rollback_plan.specs.Plans.{tree_under, length_of, note_of, sides_told, text_of};
 ghost use Rattle.plan_executor.specs.Enacted.{IsEnacted};
@@ -32,7 +33,7 @@ pub(crate) fn run(
     requires room { length_of plan.now ≤ log.old.room }
     requires empty { log.old.entries ≡ [] }
     ensures path_law { KeepsPathLaw (tree_under plan.now section.now.turns) (note_of plan.now) (sides_told plan.now) log.new.entries result }
-    ensures replays { Replays (text_of plan.now) (moment_at section.now.pattern) 0 kernel.old.table log.new.entries kernel.new.table }
+    ensures replays { Replays (handed_by (text_of plan.now)) (moment_at section.now.pattern) 0 kernel.old.table log.new.entries kernel.new.table }
     ensures room_left { kernel.new.room + length log.new.entries ≡ kernel.old.room }
 {
     let mut calls = Patterned::new(kernel, &section.pattern, plan.text());

@@ -1,18 +1,18 @@
 //! A target, planned and carried out on the modelled kernel.
 ghost use Rattle.std.specs.Prelude.{◌≡◌, ◌≤◌, ◌↔◌, ◌⊎◌, List, None, OnOk, OnErr, IfOk, IfErr, IsErrOf, IsTrue};
 ghost use Rattle.definitions.specs.Claims.{refusal_of};
-ghost use Rattle.definitions.specs.Formed.{IsFormed};
+ghost use Rattle.definitions.specs.Table.{IsFormed};
 ghost use Rattle.definitions.specs.Record.{Agrees};
-ghost use Rattle.definitions.specs.Parts.{Turn};
-ghost use Rattle.definitions.specs.Plans.{plan_tree, plan_length};
-ghost use Rattle.definitions.specs.Target.{IsTarget, sides_of, text_handed};
+ghost use Rattle.definitions.specs.Plans.{Turn, plan_tree, plan_length};
+ghost use Rattle.definitions.specs.Target.{handover_for, sides_of};
+ghost use Rattle.service_state.specs.Targets.{IsTarget, lacks_generation};
 ghost use Rattle.kernel_model.specs.Pattern.{moment_at};
 ghost use Rattle.kernel_model.specs.Room.{LacksNumbers};
 ghost use Rattle.rollback_plan.specs.Plans.{tree_under, length_of, note_of, sides_told, text_of};
 ghost use Rattle.reload_planner.specs.declared.refusal.PlanRefusal.{PlanRefusal as Unplannable};
 ghost use Rattle.plan_executor.specs.Enacted.{IsEnacted};
 ghost use Rattle.plan_executor.specs.Prepared.{IsReady};
-ghost use Rattle.definitions.specs.After.{lacks_generation};
+ghost use Rattle.handover_text.specs.Reading.{Hands};
 ghost use Rattle.plan_executor.specs.Refusals.{HasPlan, HasNoPlan, IsPlannable, IsRefused};
 ghost use Rattle.plan_executor.specs.declared.enactment.EnactRefusal.{EnactRefusal as Refusal};
 
@@ -140,7 +140,7 @@ pub fn plan_of(alloc: Global, state: &Record, target: &Target) -> Result<Plan, E
     ensures longest { IfOk result (λ plan. length_of plan ≡ plan_length state.now target.now) }
     ensures note { IfOk result (λ plan. note_of plan ≡ state.now.note) }
     ensures sides { IfOk result (λ plan. sides_told plan ≡ sides_of state.now target.now) }
-    ensures text { IfOk result (λ plan. text_of plan ≡ text_handed state.now target.now) }
+    ensures text { IfOk result (λ plan. Hands (text_of plan) (handover_for state.now target.now)) }
     ensures refused { IfErr result (λ why.
         (why ≡ EnactRefusal.Memory) ⊎ ((refusal : Unplannable) × (why ≡ EnactRefusal.Plan refusal) × HasNoPlan state.now target.now refusal)) }
     ensures numbered { IsErrOf result (EnactRefusal.Plan Unplannable.NoGeneration) ↔ IsTrue (lacks_generation state.now target.now) }

@@ -1,6 +1,6 @@
 //! How the runs of targets end.
 ghost use Rattle.vocabulary.specs.Settings.{IsInRange};
-ghost use Rattle.definitions.specs.Target.{IsTarget};
+ghost use Rattle.service_state.specs.Targets.{IsTarget};
 ghost use Rattle.plan_executor.specs.Enacted.{EndsSo};
 ghost use Rattle.plan_executor.specs.Range.{HasRange};
 

@@ -9,7 +9,7 @@ use Rattle.vocabulary.specs.declared.plans.End.TheVariants.{Done, RolledBack, Sh
 use Rattle.definitions.specs.Tree.{Tree, Branches, Ends, Does, Nothing, Branch, branch, among, height, highest}
 use Rattle.plan_steps.specs.Fit.{is_fit, are_fit, short_after}
 use Rattle.call_replies.specs.Replies.{order_replies}
-use Rattle.definitions.specs.Parts.{Turn, New, Old, graft, graft_all, beside, beside_all, weave, weave_all, joined}
+use Rattle.definitions.specs.Plans.{Turn, New, Old, graft, graft_all, beside, beside_all, weave, weave_all, joined}
 use Rattle.plan_steps.specs.declared.parts.Parts.{Parts}
 use Rattle.plan_steps.specs.declared.step.Next.TheVariants.{To}
 use Rattle.plan_steps.specs.declared.step.Step.{Step}

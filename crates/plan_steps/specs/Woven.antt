@@ -5,7 +5,7 @@ use Rattle.vocabulary.specs.declared.plans.End.{End}
 use Rattle.vocabulary.specs.declared.plans.End.TheVariants.{Split}
 use Rattle.definitions.specs.Tree.{Tree, Branches, Ends, Does, Nothing, Branch, branch, height}
 use Rattle.call_replies.specs.Replies.{order_replies}
-use Rattle.definitions.specs.Parts.{Turn, graft, weave, joined}
+use Rattle.definitions.specs.Plans.{Turn, graft, weave, joined}
 use Rattle.plan_steps.specs.declared.parts.Parts.{Parts}
 use Rattle.plan_steps.specs.declared.step.Next.{Next}
 use Rattle.plan_steps.specs.declared.step.Next.TheVariants.{To}

@@ -13,7 +13,7 @@ pub struct Turns {
 
 impl Model for Turns {
     ghost use Rattle.std.specs.Prelude.{List};
-    ghost use Rattle.definitions.specs.Parts.{Turn};
+    ghost use Rattle.definitions.specs.Plans.{Turn};
 
     ghost Value = { List Turn };
 

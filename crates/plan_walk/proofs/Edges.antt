@@ -20,7 +20,7 @@ use Rattle.vocabulary.specs.declared.reports.Entry.{Entry}
 use Rattle.definitions.specs.Tree.{Tree, Ends, Does, Branches, Nothing, Branch, branch}
 use Rattle.definitions.specs.Tree.{among, same_reply, reply_of, full_or_short, replies_to, height, highest, call_of}
 use Rattle.call_replies.specs.Replies.{is_listed, order_replies}
-use Rattle.definitions.specs.Path.{ready_after, lacking_after, Lack, lacked_by, lacked_after, first_cause, went_wrong}
+use Rattle.definitions.specs.Run.{ready_after, lacking_after, Lack, lacked_by, lacked_after, first_cause, went_wrong}
 use Rattle.plan_walk.specs.Path.{Trail, advance, Asks}
 use Rattle.rollback_plan.specs.Following.{follow}
 use Rattle.plan_steps.specs.declared.step.Step.{Step}

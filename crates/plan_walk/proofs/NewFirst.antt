@@ -1,6 +1,6 @@
 -- A walk where the new master goes on until its part has ended.
 use Rattle.std.proofs.Common.{◌≡◌, List, [], Option, None, Some, IfSome, IfNone, true, false, if◌then◌else◌, refl}
-use Rattle.definitions.specs.Parts.{Turn, New}
+use Rattle.definitions.specs.Plans.{Turn, New}
 use Rattle.plan_walk.specs.Path.{IsOver}
 use Rattle.rollback_plan.specs.declared.cursor.Cursor.{Cursor}
 use Rattle.rollback_plan.specs.Places.{is_both, without_first}

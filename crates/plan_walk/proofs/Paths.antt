@@ -2,7 +2,7 @@
 use Rattle.std.proofs.Common.{◌≡◌, ◌≤◌, List, [], ◌∷◌, ◌++◌, refl, arith, Option, Some, None}
 use Rattle.definitions.specs.Tree.{Tree, Ends, Does}
 use Rattle.vocabulary.specs.declared.reports.Entry.{Entry}
-use Rattle.definitions.specs.Path.{Lack}
+use Rattle.definitions.specs.Run.{Lack}
 use Rattle.plan_walk.specs.Path.{Trail, advance, trail_after, Asks, Follows}
 use Rattle.plan_walk.specs.Fit.{height_next}
 

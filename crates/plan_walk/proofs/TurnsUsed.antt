@@ -4,9 +4,9 @@ use Rattle.vocabulary.specs.declared.calls.Answer.{Answer}
 use Rattle.vocabulary.specs.declared.plans.PidNote.{PidNote}
 use Rattle.vocabulary.specs.declared.reports.Entry.{Entry}
 use Rattle.std.specs.Prelude.{unwrap_or, slice_get}
-use Rattle.definitions.specs.Parts.{Turn, New}
+use Rattle.definitions.specs.Plans.{Turn, New}
 use Rattle.definitions.specs.Tree.{Tree, Ends, Does, height}
-use Rattle.definitions.specs.Path.{Lack}
+use Rattle.definitions.specs.Run.{Lack}
 use Rattle.plan_walk.specs.Path.{Asks, IsOver}
 use Rattle.rollback_plan.specs.Following.{follow}
 use Rattle.plan_steps.specs.Woven.{answers}

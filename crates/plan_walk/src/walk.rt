@@ -1,10 +1,10 @@
 //! How far the execution of a plan has come.
 ghost use Rattle.std.specs.Prelude.{◌≡◌, ◌+◌, ◌<◌, ◌≤◌, ◌^◌, ◌↔◌, true, false, List, IsTrue, IfSome, IfNone, None, is_none};
-ghost use Rattle.definitions.specs.Parts.{Turn};
+ghost use Rattle.definitions.specs.Plans.{Turn};
 ghost use Rattle.vocabulary.specs.declared.calls.Answer.TheVariants.{MasterGone};
 ghost use Rattle.definitions.specs.Crew.{shortfalls_of};
 ghost use Rattle.definitions.specs.Tree.{height};
-ghost use Rattle.definitions.specs.Path.{first_cause};
+ghost use Rattle.definitions.specs.Run.{first_cause};
 ghost use Rattle.rollback_plan.specs.Plans.{tree_under, length_of, note_of, sides_told};
 ghost use Rattle.plan_walk.specs.Fit.{answers_next, height_next};
 ghost use Rattle.plan_walk.specs.Rests.{rest_in};

@@ -2,8 +2,7 @@
 ghost use Rattle.std.specs.Prelude.{◌≡◌, ◌≤◌, ◌<◌, ◌+◌, ◌*◌, ◌↔◌, List, ℕ, [], None, length, reverse, take, IfOk, IfNone, IsErrOf, IsTrue, OnOk};
 ghost use Rattle.definitions.specs.After as after;
 ghost use Rattle.definitions.specs.Tree.{height, Tree};
-ghost use Rattle.definitions.specs.Parts.{Turn};
-ghost use Rattle.definitions.specs.Plans.{census, census_edges, reload_tree};
+ghost use Rattle.definitions.specs.Plans.{Turn, census, census_edges, reload_tree};
 ghost use Rattle.rollback_plan.specs.declared.draft.DraftRefusal.TheVariants.{TooLarge};
 ghost use Rattle.rollback_plan.specs.declared.draft.TheConstants.{MOST_STEPS};
 ghost use Rattle.rollback_plan.specs.Drafts.{trees_of, tree_at, are_places, IsMade, Grows};

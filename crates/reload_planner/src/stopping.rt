@@ -1,9 +1,8 @@
 //! The plan that ends all workers and the master.
 ghost use Rattle.std.specs.Prelude.{◌≡◌, ◌≤◌, ◌<◌, ◌+◌, ◌*◌, List, [], None, length, IfOk, IsErrOf, IsOkUnless, OnOk};
 ghost use Rattle.vocabulary.specs.Settings.{HasSuffixRoom};
-ghost use Rattle.definitions.specs.Parts.{Turn};
+ghost use Rattle.definitions.specs.Plans.{Turn, stop_tree, stopped, removes};
 ghost use Rattle.definitions.specs.Plans as plans;
-ghost use Rattle.definitions.specs.Plans.{stop_tree, stopped, removes};
 ghost use Rattle.rollback_plan.specs.declared.draft.DraftRefusal.TheVariants.{TooLarge};
 ghost use Rattle.rollback_plan.specs.declared.draft.TheConstants.{MOST_STEPS};
 ghost use Rattle.rollback_plan.specs.Drafts.{trees_of, tree_at, IsMade, Grows, GrowsWithin};

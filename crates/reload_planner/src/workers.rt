@@ -1,7 +1,6 @@
 //! The plan that changes the number of workers.
 ghost use Rattle.std.specs.Prelude.{◌≡◌, ◌≤◌, ◌<◌, ◌+◌, ◌*◌, List, [], None, length, reverse, IfOk, IsErrOf, IsOkUnless, OnOk};
-ghost use Rattle.definitions.specs.Parts.{Turn};
-ghost use Rattle.definitions.specs.Plans.{workers_tree};
+ghost use Rattle.definitions.specs.Plans.{Turn, workers_tree};
 ghost use Rattle.rollback_plan.specs.declared.draft.DraftRefusal.TheVariants.{TooLarge};
 ghost use Rattle.rollback_plan.specs.declared.draft.TheConstants.{MOST_STEPS};
 ghost use Rattle.rollback_plan.specs.Drafts.{trees_of, IsMade};

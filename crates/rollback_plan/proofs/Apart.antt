@@ -5,7 +5,7 @@ use Rattle.std.proofs.lemmas.Bool.Decides.{nat_tests}
 use Rattle.std.specs.List.{list_all}
 use Rattle.definitions.specs.Tree.{Tree, Branches, Ends, Does, Nothing, Branch}
 use Rattle.vocabulary.specs.declared.plans.Order.{Order}
-use Rattle.definitions.specs.Parts.{Turn, New, Old}
+use Rattle.definitions.specs.Plans.{Turn, New, Old}
 use Rattle.plan_steps.specs.declared.parts.Parts.{Parts}
 use Rattle.plan_steps.specs.declared.step.Place.{Place}
 use Rattle.plan_steps.specs.declared.step.PlanEdge.{PlanEdge}

@@ -8,7 +8,7 @@ use Rattle.vocabulary.specs.declared.plans.End.TheVariants.{Done, RolledBack, Sh
 use Rattle.vocabulary.specs.declared.plans.PidNote.{PidNote}
 use Rattle.definitions.specs.Tree.{Tree, Branches, Ends, Does, branch, reply_of}
 use Rattle.rollback_plan.specs.Following.{follow}
-use Rattle.definitions.specs.Parts.{Turn, New, Old, graft, graft_all, beside_all, weave, weave_all}
+use Rattle.definitions.specs.Plans.{Turn, New, Old, graft, graft_all, beside_all, weave, weave_all}
 use Rattle.plan_steps.specs.declared.parts.Parts.{Parts}
 use Rattle.plan_steps.specs.declared.step.PlanEdge.{PlanEdge}
 use Rattle.plan_steps.specs.declared.step.Step.{Step}

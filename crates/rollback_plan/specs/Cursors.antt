@@ -5,7 +5,7 @@ use Rattle.std.specs.List.{list_all}
 use Rattle.vocabulary.specs.declared.calls.Answer.{Answer}
 use Rattle.definitions.specs.Tree.{Tree, reply_of}
 use Rattle.rollback_plan.specs.Following.{follow}
-use Rattle.definitions.specs.Parts.{Turn}
+use Rattle.definitions.specs.Plans.{Turn}
 use Rattle.plan_steps.specs.declared.step.Step.{Step}
 use Rattle.plan_steps.specs.declared.step.Next.{Next}
 use Rattle.plan_steps.specs.Steps.{edge_for, is_within}

@@ -1,7 +1,7 @@
 -- What a contract sees of a plan.
 use Rattle.std.specs.Prelude.{ℕ, List, [], Option}
 use Rattle.definitions.specs.Tree.{Tree}
-use Rattle.definitions.specs.Parts.{Turn}
+use Rattle.definitions.specs.Plans.{Turn}
 use Rattle.vocabulary.specs.declared.plans.PidNote.{PidNote}
 use Rattle.vocabulary.specs.declared.plans.Sides.{Sides}
 use Rattle.plan_steps.specs.declared.parts.Parts.{Parts}

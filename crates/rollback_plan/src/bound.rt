@@ -2,8 +2,8 @@
 ghost use Rattle.std.specs.Prelude.{◌≡◌, []};
 ghost use Rattle.definitions.specs.Tree.{call_of};
 ghost use Rattle.definitions.specs.Tree as tree;
-ghost use Rattle.definitions.specs.Path.{ready_after, lacking_after, lacked_by, lacked_after};
-ghost use Rattle.definitions.specs.Path as path;
+ghost use Rattle.definitions.specs.Run.{ready_after, lacking_after, lacked_by, lacked_after};
+ghost use Rattle.definitions.specs.Run as run;
 ghost use Rattle.rollback_plan.specs.Bounds.{newest_of, lacking_in, lacked_in};
 
 use listener_set::Numbers;
@@ -51,7 +51,7 @@ impl Bound {
 
     /// The newest census of another master.
     fn beside(&self, by: Actor) -> Option<Lack>
-        ensures { newest_of result [] ≡ path.beside by (lacked_in self.now) }
+        ensures { newest_of result [] ≡ run.beside by (lacked_in self.now) }
     {
         of_another(self.newest, by).or(of_another(self.older, by))
     }
@@ -107,7 +107,7 @@ impl Bound {
 
 /// What a census lacked, unless it is this master's.
 fn of_another(lack: Option<Lack>, by: Actor) -> Option<Lack>
-    ensures { newest_of result [] ≡ path.beside by (newest_of lack []) }
+    ensures { newest_of result [] ≡ run.beside by (newest_of lack []) }
 {
     match lack {
         Some(other) if other.by != by => Some(other),

@@ -40,8 +40,8 @@ pub struct Way<'a> {
 }
 
 impl Plan {
-    ghost use Rattle.definitions.specs.Parts.{Turn};
-    ghost use Rattle.definitions.specs.Parts.{weave};
+    ghost use Rattle.definitions.specs.Plans.{Turn};
+    ghost use Rattle.definitions.specs.Plans.{weave};
     ghost use Rattle.plan_steps.specs.Steps.{tree_behind};
     ghost use Rattle.rollback_plan.specs.Places.{joined_in, end_at};
     ghost use Rattle.rollback_plan.specs.Cursors.{rest_under};
@@ -105,7 +105,7 @@ impl Plan {
 }
 
 impl<'a> Cursor<'a> {
-    ghost use Rattle.definitions.specs.Parts.{Turn};
+    ghost use Rattle.definitions.specs.Plans.{Turn};
     ghost use Rattle.rollback_plan.specs.Places.{without_first, end_of, IsEnd};
     ghost use Rattle.rollback_plan.specs.Cursors.{rest_under, left_after, led_to, IsTurn, IsNextStep};
 

@@ -1,6 +1,6 @@
 //! A plan out of a draft.
 ghost use Rattle.std.specs.Prelude.{◌≡◌, ◌<◌, ◌≤◌, List, None, IfOk, IsTrue, false, length};
-ghost use Rattle.definitions.specs.Parts.{Turn};
+ghost use Rattle.definitions.specs.Plans.{Turn};
 ghost use Rattle.definitions.specs.Tree.{height};
 ghost use Rattle.plan_steps.specs.Fit.{is_fit};
 ghost use Rattle.plan_steps.specs.Numbering.{IsNumbering};

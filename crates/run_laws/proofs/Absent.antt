@@ -16,12 +16,11 @@ use Rattle.definitions.specs.Table.{Hold, Process, Master, Worker, Foreign, Tabl
 use Rattle.definitions.specs.Table.{is_live_master, is_held, is_worker, is_active, is_starting, is_exited, is_any}
 use Rattle.definitions.specs.Table.{is_draining, is_named}
 use Rattle.definitions.specs.Exits.{change, made_exited, first_changed, caller_exits, without_exited, exited, all_exited, after_exits}
-use Rattle.definitions.specs.Reading.{reading}
 use Rattle.definitions.specs.Calls.{Stepped, gives, each_row, drop_where, suits, moved_if, asked_alive, is_image}
 use Rattle.definitions.specs.Calls.{is_of_image, without_master, with_holds, put_hold, lacks_address, lowest_free}
 use Rattle.definitions.specs.Calls.{with_new_socket, with_new_row, shared, is_row, is_of, is_exited_of, made_ready}
 use Rattle.definitions.specs.Calls.{made_draining, has_process_room, own_step, fault_at, fault_or_own, step_by}
-use Rattle.definitions.specs.Calls.{step_with}
+use Rattle.definitions.specs.Calls.{step_with, Handed}
 use Rattle.table_laws.proofs.Rows.{FitsIn, every-filter_map, every-append}
 use Rattle.call_laws.proofs.Choices.{pick}
 use Rattle.run_laws.proofs.Taken.{IsOther, gone-lasts}
@@ -85,68 +84,68 @@ module _ (n : ℕ) where
   absent-row : (row : ℕ → Process) (t : Table) → IsOther n (row t.next_process) → A t → A (with_new_row t row)
   absent-row row t h a = record { all = every-append (IsOther n) t.rows (row t.next_process) a.all h; below = omega (arith, a.below) }
 
-  own : (text : List ℕ) (by : ℕ) (c : Caller) (call : Call) (t : Table) → A t → A (own_step text by c call t).table
-  own text by c (OpenAt a) t h =
+  own : (handed : Handed) (by : ℕ) (c : Caller) (call : Call) (t : Table) → A t → A (own_step handed by c call t).table
+  own handed by c (OpenAt a) t h =
       let hold : Hold = record { fd = lowest_free c.holds; socket = t.next_socket; address = a } in
       let done = gives (answer.Opened (lowest_free c.holds)) (with_new_socket t c.number hold) in
       pick (λ (st : Stepped). A st.table) (is_held a t.rows) (gives answer.InUse t)
       (if nat_lt (length c.holds) t.limits.descriptors then done else gives answer.TooMany t) (λ e. h)
       (λ e. pick (λ (st : Stepped). A st.table) (nat_lt (length c.holds) t.limits.descriptors) done (gives answer.TooMany t) (λ e. record { all = changed (is_row c.number) (with_holds (put_hold hold)) ((gone-lasts 0 n).keeps (put_hold hold)) t.rows h.all; below = h.below }) (λ e. h))
-  own text by c (CloseAt a) t h =
+  own handed by c (CloseAt a) t h =
       absent-each (change (is_of c.number) (with_holds (lacks_address a))) t
       (changed (is_of c.number) (with_holds (lacks_address a)) ((gone-lasts 0 n).keeps (lacks_address a)) t.rows) h
-  own text by c (Fork g x fds) t h =
+  own handed by c (Fork g x fds) t h =
       let done = gives answer.Forked (with_new_row t (λ k. Worker k c.number g x Starting (shared fds c.holds))) in
       pick (λ (st : Stepped). A st.table) (list_any (is_worker is_active c.number g x) t.rows) (gives answer.Again t)
       (if has_process_room t then done else gives answer.Again t) (λ e. h)
       (λ e. pick (λ (st : Stepped). A st.table) (has_process_room t) done (gives answer.Again t) (λ e. absent-row (λ k. Worker k c.number g x Starting (shared fds c.holds)) t (λ e. absurd (omega (arith, e, h.below))) h) (λ e. h))
-  own text by c (AwaitReady g x) t h =
+  own handed by c (AwaitReady g x) t h =
       pick (λ (st : Stepped). A st.table) (list_any (is_worker is_active c.number g x) t.rows) _ _
       (λ e. absent-each (change (is_worker is_starting c.number g x) made_ready) t (every-filter_map (IsOther n) (IsOther n) (change (is_worker is_starting c.number g x) made_ready) (λ p z. pick (IsOther n) (is_worker is_starting c.number g x p) (made_ready p) p (λ e. (gone-lasts 0 n).readies c.number g x p e z) (λ e. z)) t.rows) h)
       (λ e. absent-each (drop_where (is_worker is_exited c.number g x)) t (fewer (is_worker is_exited c.number g x) t.rows) h)
-  own text by c (Quit g x) t h =
+  own handed by c (Quit g x) t h =
       absent-each (change (is_worker is_active c.number g x) made_draining) t
       (every-filter_map (IsOther n) (IsOther n) (change (is_worker is_active c.number g x) made_draining) (λ p z. pick (IsOther n) (is_worker is_active c.number g x p) (made_draining p) p (λ e. (gone-lasts c.number n).drains g x p tt e z) (λ e. z)) t.rows)
       h
-  own text by c (Kill g x) t h = absent-each (drop_where (is_worker is_any c.number g x)) t (fewer (is_worker is_any c.number g x) t.rows) h
-  own text by c (Census g) t h = absent-each (drop_where (is_exited_of c.number)) t (fewer (is_exited_of c.number) t.rows) h
-  own text by c (AwaitGone g x) t h =
+  own handed by c (Kill g x) t h = absent-each (drop_where (is_worker is_any c.number g x)) t (fewer (is_worker is_any c.number g x) t.rows) h
+  own handed by c (Census g) t h = absent-each (drop_where (is_exited_of c.number)) t (fewer (is_exited_of c.number) t.rows) h
+  own handed by c (AwaitGone g x) t h =
       pick (λ (st : Stepped). A st.table) (list_any (is_worker is_active c.number g x) t.rows) _ _ (λ e. h)
       (λ e. absent-each (drop_where (is_worker is_any c.number g x)) t (fewer (is_worker is_any c.number g x) t.rows) h)
-  own text by c (SpawnMaster i) t h =
+  own handed by c (SpawnMaster i) t h =
       let done = gives answer.Spawned (with_new_row t (λ k. Master k c.number i true c.holds)) in
       pick (λ (st : Stepped). A st.table) (list_any (is_image i) t.rows) (gives answer.Again t)
       (if has_process_room t then done else gives answer.Again t) (λ e. h)
       (λ e. pick (λ (st : Stepped). A st.table) (has_process_room t) done (gives answer.Again t) (λ e. absent-row (λ k. Master k c.number i true c.holds) t (λ e. absurd (omega (arith, e, h.below))) h) (λ e. h))
-  own text by c Adopt t h =
-      pick (λ (st : Stepped). A st.table) (suits (reading text) by c.holds) (gives answer.Adopted t)
+  own handed by c Adopt t h =
+      pick (λ (st : Stepped). A st.table) (suits handed by c.holds) (gives answer.Adopted t)
       (gives answer.Refused t) (λ e. h) (λ e. h)
-  own text by c (WritePid path) t h = record { all = h.all; below = h.below }
-  own text by c (MovePid from to) t h = go (owner_at from t.files)
+  own handed by c (WritePid path) t h = record { all = h.all; below = h.below }
+  own handed by c (MovePid from to) t h = go (owner_at from t.files)
     where
       go : (o : Option ℕ) → A (moved_if o from to t).table
       go None = h
       go (Some owner) = record { all = h.all; below = h.below }
-  own text by c (RemovePid path) t h = record { all = h.all; below = h.below }
-  own text by c (Alive i) t h = go (live_master i t.rows)
+  own handed by c (RemovePid path) t h = record { all = h.all; below = h.below }
+  own handed by c (Alive i) t h = go (live_master i t.rows)
     where
       go : (o : Option Caller) → A (asked_alive o i t).table
       go (Some other) = h
       go None = absent-each (drop_where (is_image i)) t (fewer (is_image i) t.rows) h
-  own text by c Leave t h =
+  own handed by c Leave t h =
       absent-each (without_master c.number) t
       (every-filter_map (IsOther n) (IsOther n) (without_master c.number) (left-row c.number) t.rows) h
-  own text by c (Usr1 g x) t h = h
-  own text by c (TermMaster i) t h = absent-each (drop_where (is_of_image i t.rows)) t (fewer (is_of_image i t.rows) t.rows) h
-  own text by c (Ask n) t h = h
+  own handed by c (Usr1 g x) t h = h
+  own handed by c (TermMaster i) t h = absent-each (drop_where (is_of_image i t.rows)) t (fewer (is_of_image i t.rows) t.rows) h
+  own handed by c (Ask n) t h = h
 
-  pub absent-steps : (text : List ℕ) (by : ℕ) (call : Call) (fate : Option Fate) (t : Table) → A t → A (step_with text by call fate t).table
-  absent-steps text by call fate t h = go (live_master by t.rows)
+  pub absent-steps : (handed : Handed) (by : ℕ) (call : Call) (fate : Option Fate) (t : Table) → A t → A (step_with handed by call fate t).table
+  absent-steps handed by call fate t h = go (live_master by t.rows)
     where
-      or : (o : Option Answer) (c : Caller) → A (fault_or_own o text by c call t).table
+      or : (o : Option Answer) (c : Caller) → A (fault_or_own o handed by c call t).table
       or (Some a) c = h
-      or None c = own text by c call t h
+      or None c = own handed by c call t h
 
-      go : (o : Option Caller) → A (step_by text by o call fate t).table
+      go : (o : Option Caller) → A (step_by handed by o call fate t).table
       go None = h
       go (Some c) = or (fault_at c call fate t) c

@@ -6,7 +6,7 @@ use Rattle.listener_set.specs.Numbers.{is_in}
 use Rattle.listener_set.specs.declared.generation.Generation.{Generation}
 use Rattle.vocabulary.specs.declared.table.Stance.TheVariants.{Starting, Ready, Draining, Exited}
 use Rattle.definitions.specs.Table.{Hold, Process, Master, Worker, Foreign, Table, number_of, bears, same_generation, is_ready}
-use Rattle.definitions.specs.Formed.{IsAscending}
+use Rattle.definitions.specs.Table.{IsAscending}
 use Rattle.definitions.specs.Record.{Record}
 use Rattle.definitions.specs.Manner.{is_ready_as, has_ready, is_active_process}
 use Rattle.definitions.specs.Claims.{IsStart}

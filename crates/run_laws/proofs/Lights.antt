@@ -15,9 +15,9 @@ use Rattle.vocabulary.specs.declared.plans.Order.{Order}
 use Rattle.vocabulary.specs.declared.plans.Order.TheVariants.{Make, ForkLacking, AwaitLacking, KillLacking}
 use Rattle.definitions.specs.Table.{Table, Caller, live_master}
 use Rattle.definitions.specs.Exits.{after_exits}
-use Rattle.definitions.specs.Calls.{gives, each_row, drop_where, is_exited_of, census_of, step_by, step_with}
+use Rattle.definitions.specs.Calls.{gives, each_row, drop_where, is_exited_of, census_of, step_by, step_with, Handed}
 use Rattle.table_laws.proofs.Views.{eqb-refl}
-use Rattle.definitions.specs.Path.{Lack, lacked_by, lacked_after, went_wrong, first_cause}
+use Rattle.definitions.specs.Run.{Lack, lacked_by, lacked_after, went_wrong, first_cause}
 use Rattle.definitions.specs.Tree.{Tree, Branches, Ends, Does, Nothing, Branch, among, reply_of, full_or_short, call_of, lowest}
 use Rattle.definitions.specs.Plans.{settle, round, full_end, short_end, fork_edges, await_any_edges, then_edge, census_edges, census}
 use Rattle.definitions.specs.Manner.{is_leave_call}
@@ -41,25 +41,25 @@ pub record Light (image : ℕ) (mild : Exiting) (due : Asked) : Type 1 where
   -- the worker of the name may be killed
   pub May : Generation → ℕ → Table → Type 0
   pub exits : (es : List Name) (t : Table) → Spares image es → mild es t.rows → Holds t → Holds (after_exits es t)
-  pub steps : (text : List ℕ) (call : Call) (fate : Option Fate) (t : Table) → Gentle call → Holds t → Holds (step_with text image call fate t).table
+  pub steps : (handed : Handed) (call : Call) (fate : Option Fate) (t : Table) → Gentle call → Holds t → Holds (step_with handed image call fate t).table
   pub idles : (call : Call) (t : Table) → Gentle call → Holds t → due call t
   pub forks : (g : Generation) (x : ℕ) (fds : Option (List ℕ)) → Gentle (Fork g x fds)
   pub waits : (g : Generation) (x : ℕ) → Gentle (AwaitReady g x)
   pub censuses : (g : Generation) → Gentle (Census g)
   pub counted :
-      (text : List ℕ) (g : Generation) (fate : Option Fate) (t : Table) → Holds t → step_with text image (Census g) fate
+      (handed : Handed) (g : Generation) (fate : Option Fate) (t : Table) → Holds t → step_with handed image (Census g) fate
       t ≡ gives (answer.Counted (census_of number g t.rows)) (each_row (drop_where (is_exited_of number)) t)
   pub lacking :
       (g : Generation) (S : List ℕ) (t : Table) (x : ℕ) → Fits g S → Holds t → is_in S x ≡ true →
       is_in (census_of number g t.rows) x ≡ false → May g x (each_row (drop_where (is_exited_of number)) t)
   pub may_exits : (es : List Name) (t : Table) (g : Generation) (x : ℕ) → Spares image es → mild es t.rows → Holds t → May g x t → May g x (after_exits es t)
   pub may_steps :
-      (text : List ℕ) (call : Call) (fate : Option Fate) (t : Table) (g : Generation) (x : ℕ) → Gentle call → Holds t →
-      May g x t → May g x (step_with text image call fate t).table
+      (handed : Handed) (call : Call) (fate : Option Fate) (t : Table) (g : Generation) (x : ℕ) → Gentle call → Holds t →
+      May g x t → May g x (step_with handed image call fate t).table
   pub kill_due : (g : Generation) (x : ℕ) (t : Table) → Holds t → May g x t → due (Kill g x) t
   pub kills :
-      (text : List ℕ) (g : Generation) (x : ℕ) (fate : Option Fate) (t : Table) → Holds t → May g x t →
-      Holds (step_with text image (Kill g x) fate t).table
+      (handed : Handed) (g : Generation) (x : ℕ) (fate : Option Fate) (t : Table) → Holds t → May g x t →
+      Holds (step_with handed image (Kill g x) fate t).table
 
 -- the first that a count lacks stands in the set, and not in the count
 pub first-lacks : (S cs : List ℕ) (x : ℕ) (xs : List ℕ) → lacks S cs ≡ x ∷ xs → (is_in S x ≡ true) × (is_in cs x ≡ false)
@@ -94,7 +94,7 @@ module _ (image : ℕ) (mild : Exiting) (due : Asked) (light : Light image mild 
       ((es : List Name) → Spares image es → mild es p.table.rows → Q p.table → Q (after_exits es p.table)) → Q p.table →
       ((q : Progress) → Q q.table → lacked_by image q.lacked ≡ lacked_by image p.lacked → due (call_of order (lacked_by image q.lacked)) q.table)
       →
-      ((q : Progress) (fate : Option Fate) → Q q.table → lacked_by image q.lacked ≡ lacked_by image p.lacked → Edges bs (reply_of set (step_with co.text image (call_of order (lacked_by image q.lacked)) fate q.table).answer) (after_call image order set (step_with co.text image (call_of order (lacked_by image q.lacked)) fate q.table) q))
+      ((q : Progress) (fate : Option Fate) → Q q.table → lacked_by image q.lacked ≡ lacked_by image p.lacked → Edges bs (reply_of set (step_with co.handed image (call_of order (lacked_by image q.lacked)) fate q.table).answer) (after_call image order set (step_with co.handed image (call_of order (lacked_by image q.lacked)) fate q.table) q))
       → Goes (Does image order set bs) p
   light-step order set bs p Q stays exits holds is_due next spared calm =
       let moment = co.pattern (p.calls + 1) in
@@ -107,11 +107,11 @@ module _ (image : ℕ) (mild : Exiting) (due : Asked) (light : Light image mild 
         tt,
         is_due middle kept refl,
         subst
-            (λ (x : Course). Behind no_claim post mild due x bs (reply_of set (answered co.text image order moment.fate middle).answer) (after_call image order set (answered co.text image order moment.fate middle) middle))
+            (λ (x : Course). Behind no_claim post mild due x bs (reply_of set (answered co.handed image order moment.fate middle).answer) (after_call image order set (answered co.handed image order moment.fate middle) middle))
             (sym after) (next middle moment.fate kept refl),
       )
     where
-      go : (b : Bool) → b ≡ false → record { text = co.text; pattern = co.pattern; executing = if b then co.heirs else co.executing; heirs = co.heirs } ≡ co
+      go : (b : Bool) → b ≡ false → record { handed = co.handed; pattern = co.pattern; executing = if b then co.heirs else co.executing; heirs = co.heirs } ≡ co
       go true e = absurd (cc)
       go false e = refl
 
@@ -143,19 +143,19 @@ module _ (image : ℕ) (mild : Exiting) (due : Asked) (light : Light image mild 
 
   fork-lacking :
       (g : Generation) (x : ℕ) (fds : Option (List ℕ)) (fate : Option Fate) (t : Table) (o : Option Caller)
-      (l : List Lack) → lacked_by image (lacked_after image [] (step_by co.text image o (Fork g x fds) fate t).answer l)
+      (l : List Lack) → lacked_by image (lacked_after image [] (step_by co.handed image o (Fork g x fds) fate t).answer l)
       ≡ lacked_by image l
   fork-lacking g x fds fate t None l = refl
   fork-lacking g x fds fate t (Some c) l =
-      fork-cases co.text image c g x fds fate t
+      fork-cases co.handed image c g x fds fate t
       (λ st. lacked_by image (lacked_after image [] st.answer l) ≡ lacked_by image l) refl refl (λ off. refl)
 
   wait-lacking :
       (g : Generation) (x : ℕ) (fate : Option Fate) (t : Table) (o : Option Caller) (l : List Lack) → lacked_by image
-      (lacked_after image [] (step_by co.text image o (AwaitReady g x) fate t).answer l) ≡ lacked_by image l
+      (lacked_after image [] (step_by co.handed image o (AwaitReady g x) fate t).answer l) ≡ lacked_by image l
   wait-lacking g x fate t None l = refl
   wait-lacking g x fate t (Some c) l =
-      await-cases co.text image c g x fate t
+      await-cases co.handed image c g x fate t
       (λ st. lacked_by image (lacked_after image [] st.answer l) ≡ lacked_by image l) refl (λ on. refl) (λ off. refl)
 
   round-along :
@@ -169,14 +169,14 @@ module _ (image : ℕ) (mild : Exiting) (due : Asked) (light : Light image mild 
       (λ q b e. light.idles (fork_of crew (lowest (lacked_by image q.lacked))) q.table (light.forks crew.generation (lowest (lacked_by image q.lacked)) (fds_of crew.posts (lowest (lacked_by image q.lacked)))) b.0)
       (λ q fate b e.
       let call = fork_of crew (lowest (lacked_by image q.lacked)) in
-      let st = step_with co.text image call fate q.table in
+      let st = step_with co.handed image call fate q.table in
       let p' = after_call image (ForkLacking crew) [] st q in
       let h =
-      light.steps co.text call fate q.table
+      light.steps co.handed call fate q.table
       (light.forks crew.generation (lowest (lacked_by image q.lacked)) (fds_of crew.posts (lowest (lacked_by image q.lacked))))
       b.0 in
       let m =
-      light.may_steps co.text call fate q.table crew.generation x
+      light.may_steps co.handed call fate q.table crew.generation x
       (light.forks crew.generation (lowest (lacked_by image q.lacked)) (fds_of crew.posts (lowest (lacked_by image q.lacked))))
       b.0 b.1 in
       let is' : lacked_by image p'.lacked ≡ x ∷ xs =
@@ -194,9 +194,9 @@ module _ (image : ℕ) (mild : Exiting) (due : Asked) (light : Light image mild 
           (λ q fate b e.
           let h =
           subst
-          (λ (l : List ℕ). light.Holds (step_with co.text image (Kill crew.generation (lowest l)) fate q.table).table)
-          (sym (e ∙ is)) (light.kills co.text crew.generation x fate q.table b.0 b.1) in
-          let st = step_with co.text image (Kill crew.generation (lowest (lacked_by image q.lacked))) fate q.table in
+          (λ (l : List ℕ). light.Holds (step_with co.handed image (Kill crew.generation (lowest l)) fate q.table).table)
+          (sym (e ∙ is)) (light.kills co.handed crew.generation x fate q.table b.0 b.1) in
+          let st = step_with co.handed image (Kill crew.generation (lowest (lacked_by image q.lacked))) fate q.table in
           let p' = after_call image (KillLacking crew.generation) [] st q in
           all-go (then_edge rest) (reply_of [] st.answer) p' h (next p' h, tt))
 
@@ -211,10 +211,10 @@ module _ (image : ℕ) (mild : Exiting) (due : Asked) (light : Light image mild 
           (λ q b e. light.idles (AwaitReady crew.generation (lowest (lacked_by image q.lacked))) q.table (light.waits crew.generation (lowest (lacked_by image q.lacked))) b.0)
           (λ q fate b e.
           let call = AwaitReady crew.generation (lowest (lacked_by image q.lacked)) in
-          let st = step_with co.text image call fate q.table in
+          let st = step_with co.handed image call fate q.table in
           let p' = after_call image (AwaitLacking crew.generation) [] st q in
-          let h = light.steps co.text call fate q.table (light.waits crew.generation (lowest (lacked_by image q.lacked))) b.0 in
-          let m = light.may_steps co.text call fate q.table crew.generation x (light.waits crew.generation (lowest (lacked_by image q.lacked))) b.0 b.1 in
+          let h = light.steps co.handed call fate q.table (light.waits crew.generation (lowest (lacked_by image q.lacked))) b.0 in
+          let m = light.may_steps co.handed call fate q.table crew.generation x (light.waits crew.generation (lowest (lacked_by image q.lacked))) b.0 b.1 in
           let is' : lacked_by image p'.lacked ≡ x ∷ xs =
           wait-lacking crew.generation (lowest (lacked_by image q.lacked)) fate q.table
           (live_master image q.table.rows) q.lacked ∙ e ∙ is in
@@ -234,8 +234,8 @@ module _ (image : ℕ) (mild : Exiting) (due : Asked) (light : Light image mild 
       let cs = census_of light.number g q.table.rows in
       let t' = each_row (drop_where (is_exited_of light.number)) q.table in
       let st = gives (answer.Counted cs) t' in
-      let is = light.counted co.text g fate q.table h in
-      let h' : light.Holds t' = subst (λ s. light.Holds s.table) is (light.steps co.text (Census g) fate q.table (light.censuses g) h) in
+      let is = light.counted co.handed g fate q.table h in
+      let h' : light.Holds t' = subst (λ s. light.Holds s.table) is (light.steps co.handed (Census g) fate q.table (light.censuses g) h) in
       let after : List ℕ → Progress =
       λ l. record
       { table = t'; calls = q.calls + 1; ready = cs; lacking = lacks S cs; lacked = lacked_after image S (answer.Counted cs) q.lacked; faults = q.faults; losses = q.losses; returns = q.returns; cause = first_cause q.cause (went_wrong (Census g) (full_or_short l)) (q.calls + 1); note = q.note }
@@ -288,7 +288,7 @@ module _ (image : ℕ) (mild : Exiting) (due : Asked) (light : Light image mild 
       subst (λ (i : ℕ). Goes (Does i (Make call) set bs) p) (sym same)
       (light-step (Make call) set bs p light.Holds gentle.1 (λ es sp calm h. light.exits es p.table sp calm h) holds
       (λ q h e. light.idles call q.table gentle.0 h)
-      (λ q fate h e. behind (reply_of set (step_with co.text image call fate q.table).answer) (after_call image (Make call) set (step_with co.text image call fate q.table) q) (light.steps co.text call fate q.table gentle.0 h)))
+      (λ q fate h e. behind (reply_of set (step_with co.handed image call fate q.table).answer) (after_call image (Make call) set (step_with co.handed image call fate q.table) q) (light.steps co.handed call fate q.table gentle.0 h)))
   calm-does by (ForkLacking crew) set bs same gentle behind p holds = absurd gentle
   calm-does by (AwaitLacking g) set bs same gentle behind p holds = absurd gentle
   calm-does by (KillLacking g) set bs same gentle behind p holds = absurd gentle

@@ -13,7 +13,8 @@ use Rattle.definitions.specs.Claims.{names_any, refused_among}
 use Rattle.run_laws.proofs.Refusals.{acting_at, acting_after, refused_from, refused_behind, refused-is}
 use Rattle.vocabulary.specs.declared.names.Name.{Name}
 use Rattle.definitions.specs.Run.{Pattern, Progress, Ran, after_moment, after_call, noted, answered, Ending, At, Lost, run_with, goes_with}
-use Rattle.definitions.specs.Path.{lacked_by}
+use Rattle.definitions.specs.Run.{lacked_by}
+use Rattle.definitions.specs.Calls.{Handed}
 
 ---- What holds along a run
 
@@ -21,9 +22,9 @@ use Rattle.definitions.specs.Path.{lacked_by}
 abbrev pub Exiting : Type 1
 Exiting = List Name → List Process → Type 0
 
--- What a run goes by: the text that is handed, the pattern, who is executing, and who takes over at a Leave.
+-- What a run goes by: what is handed, the pattern, who is executing, and who takes over at a Leave.
 pub record Course : Type 0 where
-  pub text : List ℕ
+  pub handed : Handed
   pub pattern : Pattern
   pub executing : List ℕ
   pub heirs : List ℕ
@@ -43,7 +44,7 @@ abbrev mutual
   Along inv post mild due co (Does by order set branches) p =
       let moment = co.pattern (p.calls + 1) in
       let middle = after_moment moment.exits p in
-      let s = answered co.text by order moment.fate middle in
+      let s = answered co.handed by order moment.fate middle in
       names_any (acting_at order co.executing co.heirs) moment.exits ≡ false → mild moment.exits p.table.rows →
       inv p × inv middle × due (call_of order (lacked_by by middle.lacked)) middle.table × Behind inv post mild due
       (course_after order co) branches (reply_of set s.answer) (after_call by order set s middle)
@@ -63,7 +64,7 @@ abbrev mutual
   AreMild mild co (Does by order set branches) p =
       let moment = co.pattern (p.calls + 1) in
       let middle = after_moment moment.exits p in
-      let s = answered co.text by order moment.fate middle in
+      let s = answered co.handed by order moment.fate middle in
       mild moment.exits p.table.rows × AreMildBehind mild (course_after order co) branches (reply_of set s.answer) (after_call by order set s middle)
 
   pub AreMildBehind : Exiting → Course → Branches → Reply → Progress → Type 0
@@ -75,7 +76,7 @@ abbrev mutual
       ]
 
 abbrev pub run_in : Course → Tree → Progress → Ran
-run_in co tree p = run_with co.text tree co.pattern p
+run_in co tree p = run_with co.handed tree co.pattern p
 
 -- the first moment of the run in which an executing master exits
 abbrev pub refused_in : Course → Tree → Progress → Option ℕ
@@ -83,7 +84,7 @@ refused_in co tree p = refused_among co.executing co.heirs co.pattern p.calls (r
 
 -- the same, found along the tree
 abbrev pub refused_by : Course → Tree → Progress → Option ℕ
-refused_by co tree p = refused_from co.text co.executing co.heirs tree co.pattern p
+refused_by co tree p = refused_from co.handed co.executing co.heirs tree co.pattern p
 
 -- what is asked of each call, with its middle table
 abbrev pub AllDue : Asked → List Entry → List Progress → Type 0
@@ -107,14 +108,14 @@ mutual
   tree-along inv post mild due co (Does by order set branches) p a e m =
       let moment = co.pattern (p.calls + 1) in
       let middle = after_moment moment.exits p in
-      let st = answered co.text by order moment.fate middle in
+      let st = answered co.handed by order moment.fate middle in
       let next = after_call by order set st middle in
       let r = reply_of set st.answer in
       elim (names_any (acting_at order co.executing co.heirs) moment.exits) as (λ b.
       (b ≡ false → mild moment.exits p.table.rows → inv p × inv middle × due (call_of order (lacked_by by middle.lacked)) middle.table × Behind inv post mild due (course_after order co) branches r next)
       →
       elim b as (λ c. Option ℕ)
-      [ true ↦ Some (p.calls + 1) | false ↦ refused_behind co.text (acting_after order co.executing co.heirs) co.heirs branches r co.pattern next ]
+      [ true ↦ Some (p.calls + 1) | false ↦ refused_behind co.handed (acting_after order co.executing co.heirs) co.heirs branches r co.pattern next ]
       ≡ None →
       Holding inv post due (run_in co (Does by order set branches) p)) [
         | true ↦ λ a e. absurd (cc)
@@ -126,16 +127,16 @@ mutual
 
   tree-behind :
       (inv : Progress → Type 0) (post : Ending → Progress → Type 0) (mild : Exiting) (due : Asked) (co : Course)
-      (bs : Branches) (r : Reply) (p : Progress) → Behind inv post mild due co bs r p → refused_behind co.text
+      (bs : Branches) (r : Reply) (p : Progress) → Behind inv post mild due co bs r p → refused_behind co.handed
       co.executing co.heirs bs r co.pattern p ≡ None → AreMildBehind mild co bs r p → Holding inv post due
-      (goes_with co.text bs r co.pattern p)
+      (goes_with co.handed bs r co.pattern p)
   tree-behind inv post mild due co Nothing r p a e m = record { always = (a.0, tt); last = a.1; dues = tt }
   tree-behind inv post mild due co (Branch replies said rest more) r p a e m =
       elim (among replies r) as (λ b.
       elim b as (λ c. Type 0) [ true ↦ Along inv post mild due co rest (noted said p) | false ↦ Behind inv post mild due co more r p ] →
-      elim b as (λ c. Option ℕ) [ true ↦ refused_by co rest (noted said p) | false ↦ refused_behind co.text co.executing co.heirs more r co.pattern p ] ≡ None →
+      elim b as (λ c. Option ℕ) [ true ↦ refused_by co rest (noted said p) | false ↦ refused_behind co.handed co.executing co.heirs more r co.pattern p ] ≡ None →
       elim b as (λ c. Type 0) [ true ↦ AreMild mild co rest (noted said p) | false ↦ AreMildBehind mild co more r p ] →
-      Holding inv post due (elim b as (λ c. Ran) [ true ↦ run_in co rest (noted said p) | false ↦ goes_with co.text more r co.pattern p ])) [
+      Holding inv post due (elim b as (λ c. Ran) [ true ↦ run_in co rest (noted said p) | false ↦ goes_with co.handed more r co.pattern p ])) [
         | true ↦ λ a e m. tree-along inv post mild due co rest (noted said p) a e m
         | false ↦ λ a e m. tree-behind inv post mild due co more r p a e m
       ] a e m
@@ -145,7 +146,7 @@ pub from-along :
     (inv : Progress → Type 0) (post : Ending → Progress → Type 0) (mild : Exiting) (due : Asked) (co : Course)
     (t : Tree) (p : Progress) → Along inv post mild due co t p → refused_in co t p ≡ None → AreMild mild co t p →
     Holding inv post due (run_in co t p)
-from-along inv post mild due co t p a e m = tree-along inv post mild due co t p a (refused-is co.text co.executing co.heirs t co.pattern p ∙ e) m
+from-along inv post mild due co t p a e m = tree-along inv post mild due co t p a (refused-is co.handed co.executing co.heirs t co.pattern p ∙ e) m
 
 -- Nothing is asked of a call.
 abbrev pub Unasked : Asked
@@ -161,7 +162,7 @@ mutual
   are-mild-anyhow co (Does by order set branches) p =
       let moment = co.pattern (p.calls + 1) in
       let middle = after_moment moment.exits p in
-      let s = answered co.text by order moment.fate middle in
+      let s = answered co.handed by order moment.fate middle in
       (tt, are-mild-behind (course_after order co) branches (reply_of set s.answer) (after_call by order set s middle))
 
   are-mild-behind : (co : Course) (bs : Branches) (r : Reply) (p : Progress) → AreMildBehind Anyhow co bs r p

@@ -16,6 +16,7 @@ use Rattle.run_laws.proofs.Lights.{no_claim}
 use Rattle.run_laws.proofs.Staying.{Unlost, Stands}
 use Rattle.run_laws.proofs.Taken.{NotTaken}
 use Rattle.run_laws.proofs.Firsts.{first-low, stands-ready}
+use Rattle.definitions.specs.Calls.{Handed}
 
 ---- Stays
 
@@ -26,11 +27,11 @@ mutual
   are-unlost n co (Does by order set bs) p e =
       let moment = co.pattern (p.calls + 1) in
       let middle = after_moment moment.exits p in
-      let s = answered co.text by order moment.fate middle in
+      let s = answered co.handed by order moment.fate middle in
       let next = after_call by order set s middle in
       let lost =
       or-false (has_active p.table n && not (has_active middle.table n))
-      (is_lost n (goes_with co.text bs (reply_of set s.answer) co.pattern next).passed) e in
+      (is_lost n (goes_with co.handed bs (reply_of set s.answer) co.pattern next).passed) e in
       ((λ on. still (has_active p.table n) (has_active middle.table n) on lost.0), unlost-behind n (course_after order co) bs (reply_of set s.answer) next lost.1)
     where
       or-false : (a b : Bool) → (a || b) ≡ false → (a ≡ false) × (b ≡ false)
@@ -44,11 +45,11 @@ mutual
 
   unlost-behind :
       (n : ℕ) (co : Course) (bs : Branches) (r : Reply) (p : Progress) →
-      is_lost n (goes_with co.text bs r co.pattern p).passed ≡ false → AreMildBehind (Unlost n) co bs r p
+      is_lost n (goes_with co.handed bs r co.pattern p).passed ≡ false → AreMildBehind (Unlost n) co bs r p
   unlost-behind n co Nothing r p e = tt
   unlost-behind n co (Branch replies said rest more) r p e =
       elim (among replies r) as (λ b.
-      is_lost n (elim b as (λ c. Ran) [ true ↦ run_in co rest (noted said p) | false ↦ goes_with co.text more r co.pattern p ]).passed ≡ false →
+      is_lost n (elim b as (λ c. Ran) [ true ↦ run_in co rest (noted said p) | false ↦ goes_with co.handed more r co.pattern p ]).passed ≡ false →
       elim b as (λ c. Type 0) [ true ↦ AreMild (Unlost n) co rest (noted said p) | false ↦ AreMildBehind (Unlost n) co more r p ]) [
         | true ↦ λ e. are-unlost n co rest (noted said p) e
         | false ↦ λ e. unlost-behind n co more r p e
@@ -82,24 +83,24 @@ stays-from t r s n k on co tree Need along spared need = go (is_lost n (run_in c
 -- Each entry of a run has its tables.
 mutual
   pub paired :
-      (text : List ℕ) (t : Tree) (pattern : Pattern) (p : Progress) →
-      AllDue Unasked (run_with text t pattern p).entries (run_with text t pattern p).passed
-  paired text (Ends end) pattern p = tt
-  paired text (Does by order set bs) pattern p =
+      (handed : Handed) (t : Tree) (pattern : Pattern) (p : Progress) →
+      AllDue Unasked (run_with handed t pattern p).entries (run_with handed t pattern p).passed
+  paired handed (Ends end) pattern p = tt
+  paired handed (Does by order set bs) pattern p =
       let moment = pattern (p.calls + 1) in
       let middle = after_moment moment.exits p in
-      let s = answered text by order moment.fate middle in
-      (tt, paired-behind text bs (reply_of set s.answer) pattern (after_call by order set s middle))
+      let s = answered handed by order moment.fate middle in
+      (tt, paired-behind handed bs (reply_of set s.answer) pattern (after_call by order set s middle))
 
   paired-behind :
-      (text : List ℕ) (bs : Branches) (r : Reply) (pattern : Pattern) (p : Progress) →
-      AllDue Unasked (goes_with text bs r pattern p).entries (goes_with text bs r pattern p).passed
-  paired-behind text Nothing r pattern p = tt
-  paired-behind text (Branch replies said rest more) r pattern p =
-      let here = paired text rest pattern (noted said p) in
-      let there = paired-behind text more r pattern p in
+      (handed : Handed) (bs : Branches) (r : Reply) (pattern : Pattern) (p : Progress) →
+      AllDue Unasked (goes_with handed bs r pattern p).entries (goes_with handed bs r pattern p).passed
+  paired-behind handed Nothing r pattern p = tt
+  paired-behind handed (Branch replies said rest more) r pattern p =
+      let here = paired handed rest pattern (noted said p) in
+      let there = paired-behind handed more r pattern p in
       elim (among replies r) as
-      (λ b. let ran : Ran = elim b as (λ c. Ran) [ true ↦ run_with text rest pattern (noted said p) | false ↦ goes_with text more r pattern p ] in AllDue Unasked ran.entries ran.passed) [
+      (λ b. let ran : Ran = elim b as (λ c. Ran) [ true ↦ run_with handed rest pattern (noted said p) | false ↦ goes_with handed more r pattern p ] in AllDue Unasked ran.entries ran.passed) [
         | true ↦ here
         | false ↦ there
       ]
@@ -129,5 +130,5 @@ pub kills-from :
     KillsAreDue t [] (run_in co tree (start_at t r.note)).entries (run_in co tree (start_at t r.note)).passed
 kills-from t r co tree post spared along =
     let at = start_at t r.note in
-    kills-due t [] (run_in co tree at).entries (run_in co tree at).passed (paired co.text tree co.pattern at)
+    kills-due t [] (run_in co tree at).entries (run_in co tree at).passed (paired co.handed tree co.pattern at)
     (λ n k on. (from-along no_claim post Anyhow (NotTaken n) co tree at (along n k on) spared (are-mild-anyhow co tree at)).dues)

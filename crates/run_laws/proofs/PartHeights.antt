@@ -11,7 +11,7 @@ use Rattle.definitions.specs.Table.{Address, FilePath}
 use Rattle.definitions.specs.Crew.{Crew}
 use Rattle.definitions.specs.Tree.{Tree, Branches, Ends, Does, Nothing, Branch, End, Done, RolledBack, ShortOld}
 use Rattle.definitions.specs.Tree.{ShortTarget, Split, JoinReady, JoinBack, Join, height, highest}
-use Rattle.definitions.specs.Parts.{graft, graft_all, joined, beside, beside_all, weave, weave_all}
+use Rattle.definitions.specs.Plans.{graft, graft_all, joined, beside, beside_all, weave, weave_all}
 use Rattle.definitions.specs.Calls.{SpawnMaster}
 use Rattle.definitions.specs.Record.{addresses_of, crew_of}
 use Rattle.definitions.specs.After.{crew_wanted}

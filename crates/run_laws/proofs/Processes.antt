@@ -18,11 +18,11 @@ use Rattle.definitions.specs.Table.{Hold, Process, Master, Worker, Foreign, Tabl
 use Rattle.definitions.specs.Table.{caller_if, is_live_master, is_worker, is_named, is_active, is_starting, is_draining}
 use Rattle.definitions.specs.Table.{is_exited, is_any, is_held}
 use Rattle.definitions.specs.Exits.{without_exited, kept_if, change, made_exited, first_changed, caller_exits, exited, all_exited, after_exits}
-use Rattle.definitions.specs.Reading.{reading}
 use Rattle.definitions.specs.Calls.{suits, moved_if, is_image, is_image_row, is_of_image, census_of, Stepped, gives}
 use Rattle.definitions.specs.Calls.{each_row, drop_where, with_holds, put_hold, lacks_address, is_row, is_of}
 use Rattle.definitions.specs.Calls.{is_exited_of, made_ready, made_draining, with_new_row, shared, with_new_socket}
 use Rattle.definitions.specs.Calls.{lowest_free, has_process_room, own_step, fault_at, fault_or_own, step_by, step_with}
+use Rattle.definitions.specs.Calls.{Handed}
 use Rattle.table_laws.proofs.Rows.{weigh-append, one, weigh, worth, FitsIn, change-same, every-filter_map, every-append, every-any}
 use Rattle.call_laws.proofs.Choices.{pick}
 use Rattle.table_laws.proofs.Views.{master_of, eqb-refl, eqb-off, eqb-is}
@@ -365,32 +365,32 @@ module _ (m image n : ℕ) (P : Process → Type 0) (Quits : Generation → ℕ 
         above = omega (arith, fact.above);
       }
 
-  own-keeps : (text : List ℕ) (call : Call) (t : Table) → Lets Quits call → F t → F (own_step text image me call t).table
-  own-keeps text (OpenAt a) t lets fact =
+  own-keeps : (handed : Handed) (call : Call) (t : Table) → Lets Quits call → F t → F (own_step handed image me call t).table
+  own-keeps handed (OpenAt a) t lets fact =
       let h : Hold = record { fd = lowest_free hs; socket = t.next_socket; address = a } in
       let done = gives (answer.Opened (lowest_free hs)) (with_new_socket t m h) in
       pick (λ (st : Stepped). F st.table) (is_held a t.rows) (gives answer.InUse t)
       (if nat_lt (length hs) t.limits.descriptors then done else gives answer.TooMany t) (λ e. fact)
       (λ e. pick (λ (st : Stepped). F st.table) (nat_lt (length hs) t.limits.descriptors) done (gives answer.TooMany t) (λ e. fact-opened h t fact) (λ e. fact))
-  own-keeps text (CloseAt a) t lets fact =
+  own-keeps handed (CloseAt a) t lets fact =
       fact-changed (is_of m) (with_holds (lacks_address a)) t (λ p e x. lasts.keeps (lacks_address a) p x)
       (λ p e x. (of-lasts m image).1 (lacks_address a) p x) (holds-kind m (lacks_address a)) fact
-  own-keeps text (Fork g x fds) t lets fact =
+  own-keeps handed (Fork g x fds) t lets fact =
       let done = gives answer.Forked (with_new_row t (λ k. Worker k m g x Starting (shared fds hs))) in
       pick (λ (st : Stepped). F st.table) (list_any (is_worker is_active m g x) t.rows) (gives answer.Again t)
       (if has_process_room t then done else gives answer.Again t) (λ e. fact)
       (λ e. pick (λ (st : Stepped). F st.table) (has_process_room t) done (gives answer.Again t) (λ e. fact-forked g x fds t fact) (λ e. fact))
-  own-keeps text (AwaitReady g x) t lets fact =
+  own-keeps handed (AwaitReady g x) t lets fact =
       pick (λ (st : Stepped). F st.table) (list_any (is_worker is_active m g x) t.rows) _ _
       (λ e. fact-changed (is_worker is_starting m g x) made_ready t (lasts.readies m g x) (λ p e x. (of-lasts m image).2 p x) (ready-kind m) fact)
       (λ e. fact-dropped (is_worker is_exited m g x) t (no-master is_exited m m g x) fact)
-  own-keeps text (Quit g x) t lets fact =
+  own-keeps handed (Quit g x) t lets fact =
       fact-changed (is_worker is_active m g x) made_draining t (λ p e h. lasts.drains g x p lets e h)
       (λ p e h. (of-lasts m image).3 p h) (draining-kind m) fact
-  own-keeps text (Kill g x) t lets fact = fact-dropped (is_worker is_any m g x) t (no-master is_any m m g x) fact
-  own-keeps text (Census g) t lets fact = fact-dropped (is_exited_of m) t (no-master-exited m m) fact
-  own-keeps text (Usr1 g x) t lets fact = fact
-  own-keeps text _ t lets fact = absurd lets
+  own-keeps handed (Kill g x) t lets fact = fact-dropped (is_worker is_any m g x) t (no-master is_any m m g x) fact
+  own-keeps handed (Census g) t lets fact = fact-dropped (is_exited_of m) t (no-master-exited m m) fact
+  own-keeps handed (Usr1 g x) t lets fact = fact
+  own-keeps handed _ t lets fact = absurd lets
 
   -- what another image's end takes
   kept-of-image :
@@ -404,8 +404,8 @@ module _ (m image n : ℕ) (P : Process → Type 0) (Quits : Generation → ℕ 
       (λ e. refl) (λ e. refl)
   kept-of-image i rows ne (Foreign k zs) h = refl
 
-  any-keeps : (text : List ℕ) (by : ℕ) (c : Caller) (call : Call) (t : Table) → AnyCall image call → F t → F (own_step text by c call t).table
-  any-keeps text by c (OpenAt a) t any fact =
+  any-keeps : (handed : Handed) (by : ℕ) (c : Caller) (call : Call) (t : Table) → AnyCall image call → F t → F (own_step handed by c call t).table
+  any-keeps handed by c (OpenAt a) t any fact =
       let h : Hold = record { fd = lowest_free c.holds; socket = t.next_socket; address = a } in
       let done = gives (answer.Opened (lowest_free c.holds)) (with_new_socket t c.number h) in
       let opened : F done.table =
@@ -414,10 +414,10 @@ module _ (m image n : ℕ) (P : Process → Type 0) (Quits : Generation → ℕ 
       pick (λ (st : Stepped). F st.table) (is_held a t.rows) (gives answer.InUse t)
       (if nat_lt (length c.holds) t.limits.descriptors then done else gives answer.TooMany t) (λ e. fact)
       (λ e. pick (λ (st : Stepped). F st.table) (nat_lt (length c.holds) t.limits.descriptors) done (gives answer.TooMany t) (λ e. opened) (λ e. fact))
-  any-keeps text by c (CloseAt a) t any fact =
+  any-keeps handed by c (CloseAt a) t any fact =
       fact-changed (is_of c.number) (with_holds (lacks_address a)) t (λ p e x. lasts.keeps (lacks_address a) p x)
       (λ p e x. (of-lasts m image).1 (lacks_address a) p x) (holds-kind m (lacks_address a)) fact
-  any-keeps text by c (Fork g x fds) t any fact =
+  any-keeps handed by c (Fork g x fds) t any fact =
       let new = Worker t.next_process c.number g x Starting (shared fds c.holds) in
       let done = gives answer.Forked (with_new_row t (λ k. Worker k c.number g x Starting (shared fds c.holds))) in
       let forked : F done.table = record {
@@ -431,21 +431,21 @@ module _ (m image n : ℕ) (P : Process → Type 0) (Quits : Generation → ℕ 
       pick (λ (st : Stepped). F st.table) (list_any (is_worker is_active c.number g x) t.rows) (gives answer.Again t)
       (if has_process_room t then done else gives answer.Again t) (λ e. fact)
       (λ e. pick (λ (st : Stepped). F st.table) (has_process_room t) done (gives answer.Again t) (λ e. forked) (λ e. fact))
-  any-keeps text by c (AwaitReady g x) t any fact =
+  any-keeps handed by c (AwaitReady g x) t any fact =
       pick (λ (st : Stepped). F st.table) (list_any (is_worker is_active c.number g x) t.rows) _ _
       (λ e. fact-changed (is_worker is_starting c.number g x) made_ready t (lasts.readies c.number g x) (λ p e x. (of-lasts m image).2 p x) (ready-kind m) fact)
       (λ e. fact-dropped (is_worker is_exited c.number g x) t (no-master is_exited m c.number g x) fact)
-  any-keeps text by c (Census g) t any fact = fact-dropped (is_exited_of c.number) t (no-master-exited m c.number) fact
-  any-keeps text by c Adopt t any fact =
-      pick (λ (st : Stepped). F st.table) (suits (reading text) by c.holds) (gives answer.Adopted t)
+  any-keeps handed by c (Census g) t any fact = fact-dropped (is_exited_of c.number) t (no-master-exited m c.number) fact
+  any-keeps handed by c Adopt t any fact =
+      pick (λ (st : Stepped). F st.table) (suits handed by c.holds) (gives answer.Adopted t)
       (gives answer.Refused t) (λ e. fact) (λ e. fact)
-  any-keeps text by c (WritePid path) t any fact = record { one = fact.one; all = fact.all; below = fact.below; above = fact.above }
-  any-keeps text by c (MovePid from to) t any fact = go (owner_at from t.files)
+  any-keeps handed by c (WritePid path) t any fact = record { one = fact.one; all = fact.all; below = fact.below; above = fact.above }
+  any-keeps handed by c (MovePid from to) t any fact = go (owner_at from t.files)
     where
       go : (o : Option ℕ) → F (moved_if o from to t).table
       go None = fact
       go (Some owner) = record { one = fact.one; all = fact.all; below = fact.below; above = fact.above }
-  any-keeps text by c (SpawnMaster i) t any fact =
+  any-keeps handed by c (SpawnMaster i) t any fact =
       let new = Master t.next_process c.number i true c.holds in
       let done = gives answer.Spawned (with_new_row t (λ k. Master k c.number i true c.holds)) in
       let spawned : F done.table = record {
@@ -459,7 +459,7 @@ module _ (m image n : ℕ) (P : Process → Type 0) (Quits : Generation → ℕ 
       pick (λ (st : Stepped). F st.table) (list_any (is_image i) t.rows) (gives answer.Again t)
       (if has_process_room t then done else gives answer.Again t) (λ e. fact)
       (λ e. pick (λ (st : Stepped). F st.table) (has_process_room t) done (gives answer.Again t) (λ e. spawned) (λ e. fact))
-  any-keeps text by c (TermMaster i) t any fact = record {
+  any-keeps handed by c (TermMaster i) t any fact = record {
     one =
         record
         { all = every-dropped (IsOf m image) (is_of_image i t.rows) t.rows fact.one.all; some = omega (arith, fact.one.some, change-same (IsOf m image) (master_of m) (drop_where (is_of_image i t.rows)) (kept-of-image i t.rows any) t.rows fact.one.all) };
@@ -467,43 +467,43 @@ module _ (m image n : ℕ) (P : Process → Type 0) (Quits : Generation → ℕ 
     below = fact.below;
     above = fact.above;
   }
-  any-keeps text by c (Ask q) t any fact = fact
-  any-keeps text by c _ t any fact = absurd any
+  any-keeps handed by c (Ask q) t any fact = fact
+  any-keeps handed by c _ t any fact = absurd any
 
   -- A fact lasts through the calls that any master may make.
-  pub fact-any : (text : List ℕ) (by : ℕ) (call : Call) (fate : Option Fate) (t : Table) → AnyCall image call → F t → F (step_with text by call fate t).table
-  fact-any text by call fate t any fact = go (live_master by t.rows)
+  pub fact-any : (handed : Handed) (by : ℕ) (call : Call) (fate : Option Fate) (t : Table) → AnyCall image call → F t → F (step_with handed by call fate t).table
+  fact-any handed by call fate t any fact = go (live_master by t.rows)
     where
-      or : (o : Option Answer) (c : Caller) → F (fault_or_own o text by c call t).table
+      or : (o : Option Answer) (c : Caller) → F (fault_or_own o handed by c call t).table
       or (Some a) c = fact
-      or None c = any-keeps text by c call t any fact
+      or None c = any-keeps handed by c call t any fact
 
-      go : (o : Option Caller) → F (step_by text by o call fate t).table
+      go : (o : Option Caller) → F (step_by handed by o call fate t).table
       go None = fact
       go (Some c) = or (fault_at c call fate t) c
 
   fault-or :
-      (o : Option Answer) (text : List ℕ) (call : Call) (t : Table) → F t → F (own_step text image me call t).table →
-      F (fault_or_own o text image me call t).table
-  fault-or (Some a) text call t same own = same
-  fault-or None text call t same own = own
+      (o : Option Answer) (handed : Handed) (call : Call) (t : Table) → F t → F (own_step handed image me call t).table →
+      F (fault_or_own o handed image me call t).table
+  fault-or (Some a) handed call t same own = same
+  fault-or None handed call t same own = own
 
 -- A fact lasts through the calls that let it.
 pub fact-steps :
     (m image n : ℕ) (P : Process → Type 0) (Quits : Generation → ℕ → Type 0) → Lasts m n P Quits →
-    (text : List ℕ) (call : Call) (fate : Option Fate) (t : Table) → Lets Quits call → Fact m image n P t →
-    Fact m image n P (step_with text image call fate t).table
-fact-steps m image n P Quits lasts text call fate t lets fact =
+    (handed : Handed) (call : Call) (fate : Option Fate) (t : Table) → Lets Quits call → Fact m image n P t →
+    Fact m image n P (step_with handed image call fate t).table
+fact-steps m image n P Quits lasts handed call fate t lets fact =
     let (hs, found) = one-found m image t.rows fact.one.all fact.one.some in
     let me : Caller = record { number = m; holds = hs } in
-    subst (λ (o : Option Caller). Fact m image n P (step_by text image o call fate t).table) (sym found)
-    (fault-or m image n P Quits lasts hs (fault_at me call fate t) text call t fact (own-keeps m image n P Quits lasts hs text call t lets fact))
+    subst (λ (o : Option Caller). Fact m image n P (step_by handed image o call fate t).table) (sym found)
+    (fault-or m image n P Quits lasts hs (fault_at me call fate t) handed call t fact (own-keeps m image n P Quits lasts hs handed call t lets fact))
 
 -- What a census is answered.
 pub fact-census :
-    (m image n : ℕ) (P : Process → Type 0) (text : List ℕ) (g : Generation) (fate : Option Fate) (t : Table) → Fact m
-    image n P t → step_with text image (Census g) fate t ≡ gives (answer.Counted (census_of m g t.rows))
+    (m image n : ℕ) (P : Process → Type 0) (handed : Handed) (g : Generation) (fate : Option Fate) (t : Table) → Fact m
+    image n P t → step_with handed image (Census g) fate t ≡ gives (answer.Counted (census_of m g t.rows))
     (each_row (drop_where (is_exited_of m)) t)
-fact-census m image n P text g fate t fact =
+fact-census m image n P handed g fate t fact =
     let (hs, found) = one-found m image t.rows fact.one.all fact.one.some in
-    ap (λ (o : Option Caller). step_by text image o (Census g) fate t) found ∙ unfailing text image (record { number = m; holds = hs }) (Census g) fate t tt
+    ap (λ (o : Option Caller). step_by handed image o (Census g) fate t) found ∙ unfailing handed image (record { number = m; holds = hs }) (Census g) fate t tt

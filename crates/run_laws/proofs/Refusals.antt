@@ -9,8 +9,9 @@ use Rattle.vocabulary.specs.declared.reports.Entry.{Entry}
 use Rattle.definitions.specs.Tree.{Tree, Ends, Does, Branches, Nothing, Branch, among, reply_of, call_of}
 use Rattle.definitions.specs.Manner.{is_leave_call}
 use Rattle.definitions.specs.Run.{Pattern, Progress, Ran, run_with, goes_with, noted, after_moment, after_call, answered}
-use Rattle.definitions.specs.Path.{lacked_by}
+use Rattle.definitions.specs.Run.{lacked_by}
 use Rattle.definitions.specs.Claims.{names_any, refused_among}
+use Rattle.definitions.specs.Calls.{Handed}
 
 abbrev pub is_leave : Order → Bool
 is_leave (Make call) = is_leave_call call
@@ -26,23 +27,23 @@ abbrev pub acting_after : Order → List ℕ → List ℕ → List ℕ
 acting_after order executing heirs = if is_leave order then heirs else executing
 
 abbrev mutual
-  pub refused_from : List ℕ → List ℕ → List ℕ → Tree → Pattern → Progress → Option ℕ
-  refused_from text executing heirs (Ends end) pattern p = None
-  refused_from text executing heirs (Does by order set branches) pattern p =
+  pub refused_from : Handed → List ℕ → List ℕ → Tree → Pattern → Progress → Option ℕ
+  refused_from handed executing heirs (Ends end) pattern p = None
+  refused_from handed executing heirs (Does by order set branches) pattern p =
       let moment = pattern (p.calls + 1) in
       let middle = after_moment moment.exits p in
-      let s = answered text by order moment.fate middle in
+      let s = answered handed by order moment.fate middle in
       elim (names_any (acting_at order executing heirs) moment.exits) as (λ b. Option ℕ) [
         | true ↦ Some (p.calls + 1)
-        | false ↦ refused_behind text (acting_after order executing heirs) heirs branches (reply_of set s.answer) pattern (after_call by order set s middle)
+        | false ↦ refused_behind handed (acting_after order executing heirs) heirs branches (reply_of set s.answer) pattern (after_call by order set s middle)
       ]
 
-  pub refused_behind : List ℕ → List ℕ → List ℕ → Branches → Reply → Pattern → Progress → Option ℕ
-  refused_behind text executing heirs Nothing r pattern p = None
-  refused_behind text executing heirs (Branch replies said rest more) r pattern p =
+  pub refused_behind : Handed → List ℕ → List ℕ → Branches → Reply → Pattern → Progress → Option ℕ
+  refused_behind handed executing heirs Nothing r pattern p = None
+  refused_behind handed executing heirs (Branch replies said rest more) r pattern p =
       elim (among replies r) as (λ b. Option ℕ) [
-        | true ↦ refused_from text executing heirs rest pattern (noted said p)
-        | false ↦ refused_behind text executing heirs more r pattern p
+        | true ↦ refused_from handed executing heirs rest pattern (noted said p)
+        | false ↦ refused_behind handed executing heirs more r pattern p
       ]
 
 ---- It is the first of the run's moments that names an executing master
@@ -73,38 +74,38 @@ by-test true here same = refl
 by-test false here same = same
 
 mutual
-  pub refused-is : (text executing heirs : List ℕ) (tree : Tree) (pattern : Pattern) (p : Progress) →
-      refused_from text executing heirs tree pattern p ≡ refused_among executing heirs pattern p.calls (run_with text tree pattern p).entries
-  refused-is text executing heirs (Ends end) pattern p = refl
-  refused-is text executing heirs (Does by order set branches) pattern p =
+  pub refused-is : (handed : Handed) (executing heirs : List ℕ) (tree : Tree) (pattern : Pattern) (p : Progress) →
+      refused_from handed executing heirs tree pattern p ≡ refused_among executing heirs pattern p.calls (run_with handed tree pattern p).entries
+  refused-is handed executing heirs (Ends end) pattern p = refl
+  refused-is handed executing heirs (Does by order set branches) pattern p =
       let moment = pattern (p.calls + 1) in
       let middle = after_moment moment.exits p in
-      let s = answered text by order moment.fate middle in
+      let s = answered handed by order moment.fate middle in
       let q = after_call by order set s middle in
-      let entries = (goes_with text branches (reply_of set s.answer) pattern q).entries in
+      let entries = (goes_with handed branches (reply_of set s.answer) pattern q).entries in
       let leaves = sym (leave-is order (lacked_by by middle.lacked)) in
       let named : names_any (acting_at order executing heirs) moment.exits ≡ names_any
       (cond (is_leave_call (call_of order (lacked_by by middle.lacked))) (executing ++ heirs) executing) moment.exits =
       ap (λ b. names_any (cond b (executing ++ heirs) executing) moment.exits) leaves in
-      let rest : refused_behind text (acting_after order executing heirs) heirs branches (reply_of set s.answer) pattern q
+      let rest : refused_behind handed (acting_after order executing heirs) heirs branches (reply_of set s.answer) pattern q
       ≡ Behind executing heirs pattern (p.calls + 1) entries (is_leave_call (call_of order (lacked_by by middle.lacked))) =
-      behind-is text (acting_after order executing heirs) heirs branches (reply_of set s.answer) pattern q ∙ ap
+      behind-is handed (acting_after order executing heirs) heirs branches (reply_of set s.answer) pattern q ∙ ap
       (Behind executing heirs pattern (p.calls + 1) entries) leaves in
       ap
-      (λ b. by_reply_refused b (Some (p.calls + 1)) (refused_behind text (acting_after order executing heirs) heirs branches (reply_of set s.answer) pattern q))
+      (λ b. by_reply_refused b (Some (p.calls + 1)) (refused_behind handed (acting_after order executing heirs) heirs branches (reply_of set s.answer) pattern q))
       named
       ∙
       (by-test (names_any (cond (is_leave_call (call_of order (lacked_by by middle.lacked))) (executing ++ heirs) executing) moment.exits) (Some (p.calls + 1)) rest)
 
-  behind-is : (text executing heirs : List ℕ) (branches : Branches) (r : Reply) (pattern : Pattern) (p : Progress) →
-      refused_behind text executing heirs branches r pattern p ≡ refused_among executing heirs pattern p.calls (goes_with text branches r pattern p).entries
-  behind-is text executing heirs Nothing r pattern p = refl
-  behind-is text executing heirs (Branch replies said rest more) r pattern p =
+  behind-is : (handed : Handed) (executing heirs : List ℕ) (branches : Branches) (r : Reply) (pattern : Pattern) (p : Progress) →
+      refused_behind handed executing heirs branches r pattern p ≡ refused_among executing heirs pattern p.calls (goes_with handed branches r pattern p).entries
+  behind-is handed executing heirs Nothing r pattern p = refl
+  behind-is handed executing heirs (Branch replies said rest more) r pattern p =
       elim (among replies r) as
-      (λ b. by_reply_refused b (refused_from text executing heirs rest pattern (noted said p)) (refused_behind text executing heirs more r pattern p)
-      ≡ refused_among executing heirs pattern p.calls (by_reply b (run_with text rest pattern (noted said p)) (goes_with text more r pattern p)).entries) [
-        | true ↦ refused-is text executing heirs rest pattern (noted said p) ∙ ap
-            (λ n. refused_among executing heirs pattern n (run_with text rest pattern (noted said p)).entries)
+      (λ b. by_reply_refused b (refused_from handed executing heirs rest pattern (noted said p)) (refused_behind handed executing heirs more r pattern p)
+      ≡ refused_among executing heirs pattern p.calls (by_reply b (run_with handed rest pattern (noted said p)) (goes_with handed more r pattern p)).entries) [
+        | true ↦ refused-is handed executing heirs rest pattern (noted said p) ∙ ap
+            (λ n. refused_among executing heirs pattern n (run_with handed rest pattern (noted said p)).entries)
             (noted-calls said p)
-        | false ↦ behind-is text executing heirs more r pattern p
+        | false ↦ behind-is handed executing heirs more r pattern p
       ]

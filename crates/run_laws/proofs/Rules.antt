@@ -34,7 +34,7 @@ use Rattle.definitions.specs.Crew.{Crew, fds_of, fork_of}
 use Rattle.run_laws.proofs.Refusals.{is_leave}
 use Rattle.vocabulary.specs.declared.calls.Reply.TheVariants as reply
 use Rattle.definitions.specs.Run.{Progress, Return, after_moment, after_call, Ending, At, answered}
-use Rattle.definitions.specs.Path.{went_wrong, first_cause, Lack, lacked_by, beside, lacked_after}
+use Rattle.definitions.specs.Run.{went_wrong, first_cause, Lack, lacked_by, beside, lacked_after}
 use Rattle.table_laws.proofs.Rows.{one, weigh, weigh-le-all, count-weigh, both-true, or-left, or-right}
 use Rattle.call_laws.proofs.Choices.{and-left, and-right}
 use Rattle.table_laws.proofs.Views.{HoldsShare, Names, named, View, Once, Looks, live_any, ready_in, finds, eqb-is, eqb-refl, eqb-off}
@@ -412,7 +412,7 @@ module _ (u : View) (sc : Scene u.number u.image) (gr : Ground u sc) where
   pub rule-step-at :
       (order : Order) (set : List ℕ) (bs : Branches) (s r t : Names) (n c : ℕ) (w : Bool) (ls : List ℕ) (p : Progress) →
       is_leave order ≡ false → Band u sc s r t n c w ls p →
-      ((es : List Name) → Band u sc s r t n c w ls (after_moment es p) → (fate : Option Fate) → Answers order set bs (after_moment es p) (step_by co.text u.image (Some me) (call_of order (lacked_by u.image p.lacked)) fate (after_exits es p.table)))
+      ((es : List Name) → Band u sc s r t n c w ls (after_moment es p) → (fate : Option Fate) → Answers order set bs (after_moment es p) (step_by co.handed u.image (Some me) (call_of order (lacked_by u.image p.lacked)) fate (after_exits es p.table)))
       → Runs (Does u.image order set bs) p
   rule-step-at order set bs s r t n c w ls p stays b h =
       let moment = co.pattern (p.calls + 1) in
@@ -426,19 +426,19 @@ module _ (u : View) (sc : Scene u.number u.image) (gr : Ground u sc) where
         band-inv s r t n c w ls middle b',
         tt,
         subst
-            (λ (x : Course). Behind inv post sc.Mild Unasked x bs (reply_of set (answered co.text u.image order moment.fate middle).answer) (after_call u.image order set (answered co.text u.image order moment.fate middle) middle))
+            (λ (x : Course). Behind inv post sc.Mild Unasked x bs (reply_of set (answered co.handed u.image order moment.fate middle).answer) (after_call u.image order set (answered co.handed u.image order moment.fate middle) middle))
             (sym after)
-            (subst (λ (o : Option Caller). Answers order set bs middle (step_by co.text u.image o (call_of order (lacked_by u.image middle.lacked)) moment.fate middle.table)) (sym (finds (view u s r) middle.table.rows b'.looks)) (h moment.exits b' moment.fate)),
+            (subst (λ (o : Option Caller). Answers order set bs middle (step_by co.handed u.image o (call_of order (lacked_by u.image middle.lacked)) moment.fate middle.table)) (sym (finds (view u s r) middle.table.rows b'.looks)) (h moment.exits b' moment.fate)),
       )
     where
-      go : (b : Bool) → b ≡ false → record { text = co.text; pattern = co.pattern; executing = if b then co.heirs else co.executing; heirs = co.heirs } ≡ co
+      go : (b : Bool) → b ≡ false → record { handed = co.handed; pattern = co.pattern; executing = if b then co.heirs else co.executing; heirs = co.heirs } ≡ co
       go true e = absurd (cc)
       go false e = refl
 
   pub rule-step :
       (order : Order) (set : List ℕ) (bs : Branches) (s r t : Names) (n c : ℕ) (w : Bool) (ls : List ℕ) (p : Progress) →
       is_leave order ≡ false → Band u sc s r t n c w ls p →
-      ((q : Progress) → Band u sc s r t n c w ls q → (fate : Option Fate) → Answers order set bs q (step_by co.text u.image (Some me) (call_of order (lacked_by u.image q.lacked)) fate q.table))
+      ((q : Progress) → Band u sc s r t n c w ls q → (fate : Option Fate) → Answers order set bs q (step_by co.handed u.image (Some me) (call_of order (lacked_by u.image q.lacked)) fate q.table))
       → Runs (Does u.image order set bs) p
   rule-step order set bs s r t n c w ls p stays b h = rule-step-at order set bs s r t n c w ls p stays b (λ es b'. h (after_moment es p) b')
 
@@ -485,11 +485,11 @@ module _ (u : View) (sc : Scene u.number u.image) (gr : Ground u sc) where
   rule-sure :
       (call : Call) (rest : Tree) (s r t : Names) (n c : ℕ) (w : Bool) (ls : List ℕ) (p : Progress) → is_leave
       (Make call) ≡ false → Unfailing call →
-      ((q : Progress) → Band u sc s r t n c w ls q → Answers (Make call) [] (then_edge rest) q (own_step co.text u.image me call q.table))
+      ((q : Progress) → Band u sc s r t n c w ls q → Answers (Make call) [] (then_edge rest) q (own_step co.handed u.image me call q.table))
       → Band u sc s r t n c w ls p → Runs (does u.image call (then_edge rest)) p
   rule-sure call rest s r t n c w ls p stays sure next b =
       rule-step (Make call) [] (then_edge rest) s r t n c w ls p stays b (λ q b' fate.
-      subst (λ st. Answers (Make call) [] (then_edge rest) q st) (sym (unfailing co.text u.image me call fate q.table sure)) (next q b'))
+      subst (λ st. Answers (Make call) [] (then_edge rest) q st) (sym (unfailing co.handed u.image me call fate q.table sure)) (next q b'))
 
   -- more names may be Starting
   pub band-still : (s s' r t : Names) (n c : ℕ) (w : Bool) (ls : List ℕ) (p : Progress) → Sub s s' → Band u sc s r t n c w ls p → Band u sc s' r t n c w ls p
@@ -529,7 +529,7 @@ module _ (u : View) (sc : Scene u.number u.image) (gr : Ground u sc) where
       let hs = shared fds u.holds in
       rule-step order [] bs s r t n c w ls p refl b (λ q b' fate.
       let failed = on_bad (failed_at q) (band-failed s r t n c w ls q b') in
-      fork-cases co.text u.image me g x fds fate q.table (λ st. Answers order [] bs q st)
+      fork-cases co.handed u.image me g x fds fate q.table (λ st. Answers order [] bs q st)
       failed.0 failed.1
       (λ off.
       let k = q.table.next_process in
@@ -581,7 +581,7 @@ module _ (u : View) (sc : Scene u.number u.image) (gr : Ground u sc) where
   rule-await bs g x s r t t' n n' c c' w ls p off j on_ok on_late on_bad b =
       let order = Make (AwaitReady g x) in
       rule-step order [] bs s r t n c w ls p refl b (λ q b' fate.
-      await-cases co.text u.image me g x fate q.table (λ st. Answers order [] bs q st)
+      await-cases co.handed u.image me g x fate q.table (λ st. Answers order [] bs q st)
       (on_late (failed_at q) (band-failed s r t n c w ls q b'))
       (λ live.
       let gain = await-gains (view u s r) g t' x q.table.rows j.has off live b'.looks in
@@ -638,7 +638,7 @@ module _ (u : View) (sc : Scene u.number u.image) (gr : Ground u sc) where
       let order = Make (OpenAt a) in
       rule-step order [] (open_edges ok bad) none r t n c w ls p refl b (λ q b' fate.
       let failed = on_bad (failed_at q) (band-failed none r t n c w ls q b') in
-      open-cases co.text u.image me a fate q.table (λ st. Answers order [] (open_edges ok bad) q st)
+      open-cases co.handed u.image me a fate q.table (λ st. Answers order [] (open_edges ok bad) q st)
       failed failed failed failed
       (λ off room.
       let h : Hold = record { fd = lowest_free u.holds; socket = q.table.next_socket; address = a } in
@@ -709,7 +709,7 @@ module _ (u : View) (sc : Scene u.number u.image) (gr : Ground u sc) where
       λ l. record
       { table = with_rows q.table rows'; calls = q.calls + 1; ready = cs; lacking = lacks T cs; lacked = lacked_after u.image T (Told cs) q.lacked; faults = q.faults; losses = q.losses; returns = q.returns; cause = first_cause q.cause (went_wrong (Census g) (full_or_short l)) (q.calls + 1); note = q.note }
       in
-      subst (λ st. Answers order T bs q st) (sym (unfailing co.text u.image me (Census g) fate q.table tt))
+      subst (λ st. Answers order T bs q st) (sym (unfailing co.handed u.image me (Census g) fate q.table tt))
       (elim (lacks T cs) as (λ l. lacks T cs ≡ l → Edge bs (full_or_short l) (after l)) [
         | [] ↦ λ e. on_full cs (after []) e
             (record {
@@ -1083,7 +1083,7 @@ module _ (u : View) (sc : Scene u.number u.image) (gr : Ground u sc) where
       let bs = gone_edges more (does u.image (Kill g x) (then_edge more)) in
       let off' : (k : ℕ) → is_in ks k ≡ true → t g k ≡ false = λ k e. off k (in-there x k ks e) in
       rule-step order [] bs s r t n c w ls p refl b (λ q b' fate.
-      gone-cases co.text u.image me g x fate q.table (λ st. Answers order [] bs q st)
+      gone-cases co.handed u.image me g x fate q.table (λ st. Answers order [] bs q st)
       (rule-cut more g x s r t n (c + 1) true ls (failed_at q) (off x (in-here x x ks refl))
       (λ q' b''. rule-waits rest g ks (minus s g x) (minus r g x) t n true ls q' off'
       (λ s' r' w' c' q'' sub_s sub_r up b3. next s' r' w' c' q'' (λ h k e. and-left (s h k) _ (sub_s h k e)) (λ h k e. and-left (r h k) _ (sub_r h k e)) (λ e. up refl) b3)

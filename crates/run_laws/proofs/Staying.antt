@@ -17,11 +17,10 @@ use Rattle.definitions.specs.Table.{Hold, Process, Master, Worker, Foreign, Tabl
 use Rattle.definitions.specs.Table.{number_of, bears, is_worker, is_ready, is_active, is_starting, is_exited, is_any}
 use Rattle.definitions.specs.Table.{is_held}
 use Rattle.definitions.specs.Exits.{without_exited, kept_if, change, made_exited, all_exited, after_exits}
-use Rattle.definitions.specs.Reading.{reading}
 use Rattle.definitions.specs.Calls.{suits, moved_if, is_image, is_image_row, is_of_image, Stepped, gives, with_holds}
 use Rattle.definitions.specs.Calls.{put_hold, lacks_address, is_row, is_of, made_ready, made_draining, is_exited_of}
 use Rattle.definitions.specs.Calls.{drop_where, census_of, with_new_row, shared, with_new_socket, lowest_free}
-use Rattle.definitions.specs.Calls.{has_process_room, own_step, fault_at, fault_or_own, step_by, step_with}
+use Rattle.definitions.specs.Calls.{has_process_room, own_step, fault_at, fault_or_own, step_by, step_with, Handed}
 use Rattle.definitions.specs.Manner.{is_active_process}
 use Rattle.table_laws.proofs.Rows.{FitsIn, or-right}
 use Rattle.call_laws.proofs.Choices.{pick, and-left, and-right}
@@ -197,32 +196,32 @@ module _ (m image n : ℕ) (g0 : Generation) (k0 : ℕ) (low : k0 < 1024) where
   Others _ = ⊤
 
   own-has :
-      (text : List ℕ) (hs : List Hold) (call : Call) (t : Table) → Lets IsFree call → Others call → Has t.rows →
-      Has (own_step text image (record { number = m; holds = hs }) call t).table.rows
-  own-has text hs (OpenAt a) t lets other has =
+      (handed : Handed) (hs : List Hold) (call : Call) (t : Table) → Lets IsFree call → Others call → Has t.rows →
+      Has (own_step handed image (record { number = m; holds = hs }) call t).table.rows
+  own-has handed hs (OpenAt a) t lets other has =
       let h : Hold = record { fd = lowest_free hs; socket = t.next_socket; address = a } in
       let done = gives (answer.Opened (lowest_free hs)) (with_new_socket t m h) in
       pick (λ (st : Stepped). Has st.table.rows) (is_held a t.rows) (gives answer.InUse t)
       (if nat_lt (length hs) t.limits.descriptors then done else gives answer.TooMany t) (λ e. has)
       (λ e. pick (λ (st : Stepped). Has st.table.rows) (nat_lt (length hs) t.limits.descriptors) done (gives answer.TooMany t) (λ e. has-changed (is_row m) (with_holds (put_hold h)) (holds-it (is_row m) (put_hold h)) t.rows has) (λ e. has))
-  own-has text hs (CloseAt a) t lets other has = has-changed (is_of m) (with_holds (lacks_address a)) (holds-it (is_of m) (lacks_address a)) t.rows has
-  own-has text hs (Fork g x fds) t lets other has =
+  own-has handed hs (CloseAt a) t lets other has = has-changed (is_of m) (with_holds (lacks_address a)) (holds-it (is_of m) (lacks_address a)) t.rows has
+  own-has handed hs (Fork g x fds) t lets other has =
       let done = gives answer.Forked (with_new_row t (λ k. Worker k m g x Starting (shared fds hs))) in
       pick (λ (st : Stepped). Has st.table.rows) (list_any (is_worker is_active m g x) t.rows) (gives answer.Again t)
       (if has_process_room t then done else gives answer.Again t) (λ e. has)
       (λ e. pick (λ (st : Stepped). Has st.table.rows) (has_process_room t) done (gives answer.Again t) (λ e. has-append t.rows (Worker t.next_process m g x Starting (shared fds hs)) has) (λ e. has))
-  own-has text hs (AwaitReady g x) t lets other has =
+  own-has handed hs (AwaitReady g x) t lets other has =
       pick (λ (st : Stepped). Has st.table.rows) (list_any (is_worker is_active m g x) t.rows) _ _
       (λ e. has-changed (is_worker is_starting m g x) made_ready (ready-it (is_worker is_starting m g x)) t.rows has)
       (λ e. has-dropped (is_worker is_exited m g x) (not-exited m g x) t.rows has)
-  own-has text hs (Quit g x) t lets other has =
+  own-has handed hs (Quit g x) t lets other has =
       has-changed (is_worker is_active m g x) made_draining
       (λ p e. pick (λ p'. is_it p' ≡ true) (is_worker is_active m g x p) (made_draining p) p (λ on. let off = free-it is_active g x lets p e in absurd (cc)) (λ off. e))
       t.rows has
-  own-has text hs (Kill g x) t lets other has = has-dropped (is_worker is_any m g x) (free-it is_any g x other) t.rows has
-  own-has text hs (Census g) t lets other has = has-dropped (is_exited_of m) (not-zombie m) t.rows has
-  own-has text hs (Usr1 g x) t lets other has = has
-  own-has text hs _ t lets other has = absurd lets
+  own-has handed hs (Kill g x) t lets other has = has-dropped (is_worker is_any m g x) (free-it is_any g x other) t.rows has
+  own-has handed hs (Census g) t lets other has = has-dropped (is_exited_of m) (not-zombie m) t.rows has
+  own-has handed hs (Usr1 g x) t lets other has = has
+  own-has handed hs _ t lets other has = absurd lets
 
   ---- The light fact
 
@@ -266,23 +265,23 @@ module _ (m image n : ℕ) (g0 : Generation) (k0 : ℕ) (low : k0 < 1024) where
       record { fact = fact; has = there (all_exited es t.rows) fact.all (mild (active t.rows st.has)) }
 
   has-or :
-      (o : Option Answer) (text : List ℕ) (hs : List Hold) (call : Call) (t : Table) → Has t.rows →
-      Has (own_step text image (record { number = m; holds = hs }) call t).table.rows →
-      Has (fault_or_own o text image (record { number = m; holds = hs }) call t).table.rows
-  has-or (Some a) text hs call t same own = same
-  has-or None text hs call t same own = own
+      (o : Option Answer) (handed : Handed) (hs : List Hold) (call : Call) (t : Table) → Has t.rows →
+      Has (own_step handed image (record { number = m; holds = hs }) call t).table.rows →
+      Has (fault_or_own o handed image (record { number = m; holds = hs }) call t).table.rows
+  has-or (Some a) handed hs call t same own = same
+  has-or None handed hs call t same own = own
 
   pub stands-steps :
-      (text : List ℕ) (call : Call) (fate : Option Fate) (t : Table) → Lets IsFree call × Others call → Stands t →
-      Stands (step_with text image call fate t).table
-  stands-steps text call fate t gentle st =
+      (handed : Handed) (call : Call) (fate : Option Fate) (t : Table) → Lets IsFree call × Others call → Stands t →
+      Stands (step_with handed image call fate t).table
+  stands-steps handed call fate t gentle st =
       let (hs, found) = one-found m image t.rows st.fact.one.all st.fact.one.some in
       let me : Caller = record { number = m; holds = hs } in
       record {
-        fact = fact-steps m image n IsIt IsFree it-lasts text call fate t gentle.0 st.fact;
+        fact = fact-steps m image n IsIt IsFree it-lasts handed call fate t gentle.0 st.fact;
         has =
-            subst (λ (o : Option Caller). Has (step_by text image o call fate t).table.rows) (sym found)
-            (has-or (fault_at me call fate t) text hs call t st.has (own-has text hs call t gentle.0 gentle.1 st.has));
+            subst (λ (o : Option Caller). Has (step_by handed image o call fate t).table.rows) (sym found)
+            (has-or (fault_at me call fate t) handed hs call t st.has (own-has handed hs call t gentle.0 gentle.1 st.has));
       }
 
   ---- What any master may do
@@ -312,58 +311,58 @@ module _ (m image n : ℕ) (g0 : Generation) (k0 : ℕ) (low : k0 < 1024) where
   not-ended i rows ne all (Foreign k zs) e = refl
 
   any-has :
-      (text : List ℕ) (by : ℕ) (c : Caller) (call : Call) (t : Table) → AnyCall image call →
-      AllByRecursion (IsOf m image) t.rows → Has t.rows → Has (own_step text by c call t).table.rows
-  any-has text by c (OpenAt a) t any all has =
+      (handed : Handed) (by : ℕ) (c : Caller) (call : Call) (t : Table) → AnyCall image call →
+      AllByRecursion (IsOf m image) t.rows → Has t.rows → Has (own_step handed by c call t).table.rows
+  any-has handed by c (OpenAt a) t any all has =
       let h : Hold = record { fd = lowest_free c.holds; socket = t.next_socket; address = a } in
       let done = gives (answer.Opened (lowest_free c.holds)) (with_new_socket t c.number h) in
       pick (λ (st : Stepped). Has st.table.rows) (is_held a t.rows) (gives answer.InUse t)
       (if nat_lt (length c.holds) t.limits.descriptors then done else gives answer.TooMany t) (λ e. has)
       (λ e. pick (λ (st : Stepped). Has st.table.rows) (nat_lt (length c.holds) t.limits.descriptors) done (gives answer.TooMany t) (λ e. has-changed (is_row c.number) (with_holds (put_hold h)) (holds-it (is_row c.number) (put_hold h)) t.rows has) (λ e. has))
-  any-has text by c (CloseAt a) t any all has =
+  any-has handed by c (CloseAt a) t any all has =
       has-changed (is_of c.number) (with_holds (lacks_address a)) (holds-it (is_of c.number) (lacks_address a)) t.rows
       has
-  any-has text by c (Fork g x fds) t any all has =
+  any-has handed by c (Fork g x fds) t any all has =
       let done = gives answer.Forked (with_new_row t (λ k. Worker k c.number g x Starting (shared fds c.holds))) in
       pick (λ (st : Stepped). Has st.table.rows) (list_any (is_worker is_active c.number g x) t.rows)
       (gives answer.Again t) (if has_process_room t then done else gives answer.Again t) (λ e. has)
       (λ e. pick (λ (st : Stepped). Has st.table.rows) (has_process_room t) done (gives answer.Again t) (λ e. has-append t.rows (Worker t.next_process c.number g x Starting (shared fds c.holds)) has) (λ e. has))
-  any-has text by c (AwaitReady g x) t any all has =
+  any-has handed by c (AwaitReady g x) t any all has =
       pick (λ (st : Stepped). Has st.table.rows) (list_any (is_worker is_active c.number g x) t.rows) _ _
       (λ e. has-changed (is_worker is_starting c.number g x) made_ready (ready-it (is_worker is_starting c.number g x)) t.rows has)
       (λ e. has-dropped (is_worker is_exited c.number g x) (not-exited c.number g x) t.rows has)
-  any-has text by c (Census g) t any all has = has-dropped (is_exited_of c.number) (not-zombie c.number) t.rows has
-  any-has text by c Adopt t any all has =
-      pick (λ (st : Stepped). Has st.table.rows) (suits (reading text) by c.holds) (gives answer.Adopted t)
+  any-has handed by c (Census g) t any all has = has-dropped (is_exited_of c.number) (not-zombie c.number) t.rows has
+  any-has handed by c Adopt t any all has =
+      pick (λ (st : Stepped). Has st.table.rows) (suits handed by c.holds) (gives answer.Adopted t)
       (gives answer.Refused t) (λ e. has) (λ e. has)
-  any-has text by c (WritePid path) t any all has = has
-  any-has text by c (MovePid from to) t any all has = go (owner_at from t.files)
+  any-has handed by c (WritePid path) t any all has = has
+  any-has handed by c (MovePid from to) t any all has = go (owner_at from t.files)
     where
       go : (o : Option ℕ) → Has (moved_if o from to t).table.rows
       go None = has
       go (Some owner) = has
-  any-has text by c (SpawnMaster i) t any all has =
+  any-has handed by c (SpawnMaster i) t any all has =
       let done = gives answer.Spawned (with_new_row t (λ k. Master k c.number i true c.holds)) in
       pick (λ (st : Stepped). Has st.table.rows) (list_any (is_image i) t.rows) (gives answer.Again t)
       (if has_process_room t then done else gives answer.Again t) (λ e. has)
       (λ e. pick (λ (st : Stepped). Has st.table.rows) (has_process_room t) done (gives answer.Again t) (λ e. has-append t.rows (Master t.next_process c.number i true c.holds) has) (λ e. has))
-  any-has text by c (TermMaster i) t any all has = has-dropped (is_of_image i t.rows) (not-ended i t.rows any all) t.rows has
-  any-has text by c (Ask q) t any all has = has
-  any-has text by c _ t any all has = absurd any
+  any-has handed by c (TermMaster i) t any all has = has-dropped (is_of_image i t.rows) (not-ended i t.rows any all) t.rows has
+  any-has handed by c (Ask q) t any all has = has
+  any-has handed by c _ t any all has = absurd any
 
   pub stands-any :
-      (text : List ℕ) (by : ℕ) (call : Call) (fate : Option Fate) (t : Table) → AnyCall image call → Stands t →
-      Stands (step_with text by call fate t).table
-  stands-any text by call fate t any st = record {
-    fact = fact-any m image n IsIt IsFree it-lasts [] text by call fate t any st.fact;
+      (handed : Handed) (by : ℕ) (call : Call) (fate : Option Fate) (t : Table) → AnyCall image call → Stands t →
+      Stands (step_with handed by call fate t).table
+  stands-any handed by call fate t any st = record {
+    fact = fact-any m image n IsIt IsFree it-lasts [] handed by call fate t any st.fact;
     has = go (live_master by t.rows);
   }
     where
-      or : (o : Option Answer) (c : Caller) → Has (fault_or_own o text by c call t).table.rows
+      or : (o : Option Answer) (c : Caller) → Has (fault_or_own o handed by c call t).table.rows
       or (Some a) c = st.has
-      or None c = any-has text by c call t any st.fact.one.all st.has
+      or None c = any-has handed by c call t any st.fact.one.all st.has
 
-      go : (o : Option Caller) → Has (step_by text by o call fate t).table.rows
+      go : (o : Option Caller) → Has (step_by handed by o call fate t).table.rows
       go None = st.has
       go (Some c) = or (fault_at c call fate t) c
 
@@ -403,10 +402,10 @@ module _ (m image n : ℕ) (g0 : Generation) (k0 : ℕ) (low : k0 < 1024) where
     forks = λ g x fds. (tt, tt);
     waits = λ g x. (tt, tt);
     censuses = λ g. (tt, tt);
-    counted = λ text g fate t st. fact-census m image n IsIt text g fate t st.fact;
+    counted = λ handed g fate t st. fact-census m image n IsIt handed g fate t st.fact;
     lacking = λ g S t x fits st on off. lacks-other g t x st off;
     may_exits = λ es t g x sp mild st may. may;
-    may_steps = λ text call fate t g x gentle st may. may;
+    may_steps = λ handed call fate t g x gentle st may. may;
     kill_due = λ g x t st may. tt;
-    kills = λ text g x fate t st may. stands-steps text (Kill g x) fate t (tt, may) st;
+    kills = λ handed g x fate t st may. stands-steps handed (Kill g x) fate t (tt, may) st;
   }

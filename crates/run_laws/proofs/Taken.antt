@@ -14,6 +14,7 @@ use Rattle.vocabulary.specs.declared.calls.Call.TheVariants.{OpenAt, CloseAt, Fo
 use Rattle.definitions.specs.Table.{Hold, Process, Master, Worker, Foreign, Table, number_of, bears, is_worker, is_ready, is_active, is_any}
 use Rattle.definitions.specs.Exits.{without_exited, kept_if, made_exited, after_exits}
 use Rattle.definitions.specs.Calls.{with_holds, made_ready, made_draining, is_exited_of, drop_where, each_row, census_of, Stepped, step_with}
+use Rattle.definitions.specs.Calls.{Handed}
 use Rattle.definitions.specs.Manner.{is_process_of}
 use Rattle.table_laws.proofs.Rows.{FitsIn, every-filter_map, every-both, every-more, both-true}
 use Rattle.call_laws.proofs.Choices.{pick, and-right}
@@ -237,8 +238,8 @@ module _ (m image n : ℕ) (g0 : Generation) (k0 : ℕ) (low : k0 < 1024) where
           let both =
           every-both (OnlyOurs IsUntouched) (λ p. is_worker is_ready m g0 k0 p ≡ false) t.rows close.all
           (all-fail (is_worker is_ready m g0 k0) t.rows none) in
-          let kept = fact-steps m image n (OnlyOurs IsUntouched) IsFree close-lasts [] (Census g) None t tt close in
-          let dropped_now = subst (λ (st : Stepped). Close st.table) (fact-census m image n (OnlyOurs IsUntouched) [] g None t close) kept in
+          let kept = fact-steps m image n (OnlyOurs IsUntouched) IsFree close-lasts None (Census g) None t tt close in
+          let dropped_now = subst (λ (st : Stepped). Close st.table) (fact-census m image n (OnlyOurs IsUntouched) None g None t close) kept in
           inr (record {
             one = dropped_now.one;
             all =
@@ -265,19 +266,19 @@ module _ (m image n : ℕ) (g0 : Generation) (k0 : ℕ) (low : k0 < 1024) where
   may-exits es t g x sp may = ⊎_elim (λ free. inl free) (λ gone. inr (fact-exits m image n (IsOther n) (λ g x. ⊤) (gone-lasts m n) es t sp gone)) may
 
   pub may-steps :
-      (text : List ℕ) (call : Call) (fate : Option Fate) (t : Table) (g : Generation) (x : ℕ) → Lets IsFree call →
-      May g x t → May g x (step_with text image call fate t).table
-  may-steps text call fate t g x lets may =
+      (handed : Handed) (call : Call) (fate : Option Fate) (t : Table) (g : Generation) (x : ℕ) → Lets IsFree call →
+      May g x t → May g x (step_with handed image call fate t).table
+  may-steps handed call fate t g x lets may =
       ⊎_elim (λ free. inl free)
-      (λ gone. inr (fact-steps m image n (IsOther n) (λ g x. ⊤) (gone-lasts m n) text call fate t (lets-any call lets) gone))
+      (λ gone. inr (fact-steps m image n (IsOther n) (λ g x. ⊤) (gone-lasts m n) handed call fate t (lets-any call lets) gone))
       may
 
   pub may-any :
-      (text : List ℕ) (by : ℕ) (call : Call) (fate : Option Fate) (t : Table) (g : Generation) (x : ℕ) →
-      AnyCall image call → May g x t → May g x (step_with text by call fate t).table
-  may-any text by call fate t g x is may =
+      (handed : Handed) (by : ℕ) (call : Call) (fate : Option Fate) (t : Table) (g : Generation) (x : ℕ) →
+      AnyCall image call → May g x t → May g x (step_with handed by call fate t).table
+  may-any handed by call fate t g x is may =
       ⊎_elim (λ free. inl free)
-      (λ gone. inr (fact-any m image n (IsOther n) (λ g x. ⊤) (gone-lasts m n) [] text by call fate t is gone)) may
+      (λ gone. inr (fact-any m image n (IsOther n) (λ g x. ⊤) (gone-lasts m n) [] handed by call fate t is gone)) may
 
   abbrev pub untouched : Light image Anyhow (NotTaken n)
   untouched = record {
@@ -287,17 +288,17 @@ module _ (m image n : ℕ) (g0 : Generation) (k0 : ℕ) (low : k0 < 1024) where
     Fits = λ g S. ⊤;
     May = May;
     exits = λ es t sp mild h. fact-exits m image n (OnlyOurs IsUntouched) IsFree close-lasts es t sp h;
-    steps = λ text call fate t gentle h. fact-steps m image n (OnlyOurs IsUntouched) IsFree close-lasts text call fate t gentle.0 h;
+    steps = λ handed call fate t gentle h. fact-steps m image n (OnlyOurs IsUntouched) IsFree close-lasts handed call fate t gentle.0 h;
     idles = λ call t gentle h. idle IsUntouched call t gentle.1 h;
     forks = λ g x fds. (tt, tt);
     waits = λ g x. (tt, tt);
     censuses = λ g. (tt, tt);
-    counted = λ text g fate t h. fact-census m image n (OnlyOurs IsUntouched) text g fate t h;
+    counted = λ handed g fate t h. fact-census m image n (OnlyOurs IsUntouched) handed g fate t h;
     lacking = λ g S t x fits h on off. lacks-ours g t x h off;
     may_exits = λ es t g x sp mild h may. may-exits es t g x sp may;
-    may_steps = λ text call fate t g x gentle h may. may-steps text call fate t g x gentle.0 may;
+    may_steps = λ handed call fate t g x gentle h may. may-steps handed call fate t g x gentle.0 may;
     kill_due = λ g x t h may. ⊎_elim (λ free. free-taken IsUntouched g x t.rows free h.all) (λ gone. not-gone-taken n g x t.rows gone.all) may;
-    kills = λ text g x fate t h may. fact-steps m image n (OnlyOurs IsUntouched) IsFree close-lasts text (Kill g x) fate t tt h;
+    kills = λ handed g x fate t h may. fact-steps m image n (OnlyOurs IsUntouched) IsFree close-lasts handed (Kill g x) fate t tt h;
   }
 
   ---- When it may have been told to quit
@@ -340,15 +341,15 @@ module _ (m image n : ℕ) (g0 : Generation) (k0 : ℕ) (low : k0 < 1024) where
     Fits = λ g S. (x : ℕ) → is_in S x ≡ true → IsFree g x;
     May = λ g x t. IsFree g x;
     exits = λ es t sp mild h. fact-exits m image n (OnlyOurs InAny) (λ g x. ⊤) loose-lasts es t sp h;
-    steps = λ text call fate t gentle h. fact-steps m image n (OnlyOurs InAny) (λ g x. ⊤) loose-lasts text call fate t gentle.0 h;
+    steps = λ handed call fate t gentle h. fact-steps m image n (OnlyOurs InAny) (λ g x. ⊤) loose-lasts handed call fate t gentle.0 h;
     idles = λ call t gentle h. idle InAny call t gentle.1 h;
     forks = λ g x fds. (tt, tt);
     waits = λ g x. (tt, tt);
     censuses = λ g. (tt, tt);
-    counted = λ text g fate t h. fact-census m image n (OnlyOurs InAny) text g fate t h;
+    counted = λ handed g fate t h. fact-census m image n (OnlyOurs InAny) handed g fate t h;
     lacking = λ g S t x fits h on off. fits x on;
     may_exits = λ es t g x sp mild h may. may;
-    may_steps = λ text call fate t g x gentle h may. may;
+    may_steps = λ handed call fate t g x gentle h may. may;
     kill_due = λ g x t h may. free-taken InAny g x t.rows may h.all;
-    kills = λ text g x fate t h may. fact-steps m image n (OnlyOurs InAny) (λ g x. ⊤) loose-lasts text (Kill g x) fate t tt h;
+    kills = λ handed g x fate t h may. fact-steps m image n (OnlyOurs InAny) (λ g x. ⊤) loose-lasts handed (Kill g x) fate t tt h;
   }

@@ -13,11 +13,11 @@ use Rattle.vocabulary.specs.declared.reports.Entry.{Entry}
 use Rattle.vocabulary.specs.declared.names.Name.{Name}
 use Rattle.definitions.specs.Table.{Table}
 use Rattle.definitions.specs.Exits.{after_exits}
-use Rattle.definitions.specs.Calls.{step_with}
+use Rattle.definitions.specs.Calls.{step_with, Handed}
 use Rattle.definitions.specs.Manner.{is_leave_call, one_then}
 use Rattle.definitions.specs.Tree.{Tree, Branches, Ends, Does, Nothing, Branch, among, reply_of, call_of}
 use Rattle.definitions.specs.Run.{Progress, Ran, Ending, At, Lost, noted, after_call, after_moment, answered, goes_with}
-use Rattle.definitions.specs.Path.{lacked_by}
+use Rattle.definitions.specs.Run.{lacked_by}
 use Rattle.definitions.specs.Claims.{names_any}
 use Rattle.run_laws.proofs.Refusals.{acting_at, acting_after, refused_behind, refused-is, is_leave}
 use Rattle.run_laws.proofs.Logic.{Exiting, Asked, Course, course_after, Along, Behind, AreMild, AreMildBehind, refused_in, refused_by, run_in}
@@ -40,7 +40,7 @@ abbrev mutual
   Traced due post mild co past (Does by order set branches) p =
       let moment = co.pattern (p.calls + 1) in
       let middle = after_moment moment.exits p in
-      let s = answered co.text by order moment.fate middle in
+      let s = answered co.handed by order moment.fate middle in
       names_any (acting_at order co.executing co.heirs) moment.exits ≡ false → mild moment.exits p.table.rows →
       due past (call_of order (lacked_by by middle.lacked)) middle.table × TracedBehind due post mild
       (course_after order co) (past ++ entry_of by (call_of order (lacked_by by middle.lacked)) s.answer ∷ []) branches
@@ -78,7 +78,7 @@ mutual
   tree-traced due post mild co past (Does by order set branches) p a e m =
       let moment = co.pattern (p.calls + 1) in
       let middle = after_moment moment.exits p in
-      let st = answered co.text by order moment.fate middle in
+      let st = answered co.handed by order moment.fate middle in
       let next = after_call by order set st middle in
       let r = reply_of set st.answer in
       let here = entry_of by (call_of order (lacked_by by middle.lacked)) st.answer in
@@ -86,28 +86,28 @@ mutual
       (b ≡ false → mild moment.exits p.table.rows → due past (call_of order (lacked_by by middle.lacked)) middle.table × TracedBehind due post mild (course_after order co) (past ++ here ∷ []) branches r next)
       →
       elim b as (λ c. Option ℕ)
-      [ true ↦ Some (p.calls + 1) | false ↦ refused_behind co.text (acting_after order co.executing co.heirs) co.heirs branches r co.pattern next ]
+      [ true ↦ Some (p.calls + 1) | false ↦ refused_behind co.handed (acting_after order co.executing co.heirs) co.heirs branches r co.pattern next ]
       ≡ None →
       Tracing due post past (run_in co (Does by order set branches) p)) [
         | true ↦ λ a e. absurd (cc)
         | false ↦ λ a e.
             let now = a refl m.0 in
             let rest = tree-traced-behind due post mild (course_after order co) (past ++ here ∷ []) branches r next now.1 e m.1 in
-            let ran = goes_with co.text branches r co.pattern next in
+            let ran = goes_with co.handed branches r co.pattern next in
             record { dues = (now.0, rest.dues); last = subst (λ l. post l ran.ending ran.last) (append_assoc past (here ∷ []) ran.entries) rest.last }
       ] a e
 
   tree-traced-behind :
       (due : Asking) (post : Finally) (mild : Exiting) (co : Course) (past : List Entry) (bs : Branches) (r : Reply)
-      (p : Progress) → TracedBehind due post mild co past bs r p → refused_behind co.text co.executing co.heirs bs r
-      co.pattern p ≡ None → AreMildBehind mild co bs r p → Tracing due post past (goes_with co.text bs r co.pattern p)
+      (p : Progress) → TracedBehind due post mild co past bs r p → refused_behind co.handed co.executing co.heirs bs r
+      co.pattern p ≡ None → AreMildBehind mild co bs r p → Tracing due post past (goes_with co.handed bs r co.pattern p)
   tree-traced-behind due post mild co past Nothing r p a e m = record { dues = tt; last = subst (λ l. post l Lost p) (sym (append-nil past)) a }
   tree-traced-behind due post mild co past (Branch replies said rest more) r p a e m =
       elim (among replies r) as (λ b.
       elim b as (λ c. Type 0) [ true ↦ Traced due post mild co past rest (noted said p) | false ↦ TracedBehind due post mild co past more r p ] →
-      elim b as (λ c. Option ℕ) [ true ↦ refused_by co rest (noted said p) | false ↦ refused_behind co.text co.executing co.heirs more r co.pattern p ] ≡ None →
+      elim b as (λ c. Option ℕ) [ true ↦ refused_by co rest (noted said p) | false ↦ refused_behind co.handed co.executing co.heirs more r co.pattern p ] ≡ None →
       elim b as (λ c. Type 0) [ true ↦ AreMild mild co rest (noted said p) | false ↦ AreMildBehind mild co more r p ] →
-      Tracing due post past (elim b as (λ c. Ran) [ true ↦ run_in co rest (noted said p) | false ↦ goes_with co.text more r co.pattern p ])) [
+      Tracing due post past (elim b as (λ c. Ran) [ true ↦ run_in co rest (noted said p) | false ↦ goes_with co.handed more r co.pattern p ])) [
         | true ↦ λ a e m. tree-traced due post mild co past rest (noted said p) a e m
         | false ↦ λ a e m. tree-traced-behind due post mild co past more r p a e m
       ] a e m
@@ -117,7 +117,7 @@ pub from-traced :
     (due : Asking) (post : Finally) (mild : Exiting) (co : Course) (past : List Entry) (t : Tree) (p : Progress) →
     Traced due post mild co past t p → refused_in co t p ≡ None → AreMild mild co t p →
     Tracing due post past (run_in co t p)
-from-traced due post mild co past t p a e m = tree-traced due post mild co past t p a (refused-is co.text co.executing co.heirs t co.pattern p ∙ e) m
+from-traced due post mild co past t p a e m = tree-traced due post mild co past t p a (refused-is co.handed co.executing co.heirs t co.pattern p ∙ e) m
 
 said-table : (said : Option PidNote) (p : Progress) → (noted said p).table ≡ p.table
 said-table None p = refl
@@ -161,7 +161,7 @@ Growing K = (past : List Entry) (e : Entry) → K past → K (past ++ e ∷ [])
 -- Whatever the tree: a fact on the table that all exits and calls keep, and one on what was done that grows, are enough.
 module _ (due : Asking) (post : Finally) (mild : Exiting) (F : Table → Type 0) (K : List Entry → Type 0)
     (exits : (es : List Name) (t : Table) → F t → F (after_exits es t))
-    (steps : (text : List ℕ) (by : ℕ) (call : Call) (fate : Option Fate) (t : Table) → F t → F (step_with text by call fate t).table)
+    (steps : (handed : Handed) (by : ℕ) (call : Call) (fate : Option Fate) (t : Table) → F t → F (step_with handed by call fate t).table)
     (grows : Growing K) (asks : (past : List Entry) (call : Call) (t : Table) → K past → F t → due past call t)
     (ends : (past : List Entry) (e : Ending) (q : Progress) → K past → F q.table → post past e q) where
   mutual
@@ -170,9 +170,9 @@ module _ (due : Asking) (post : Finally) (mild : Exiting) (F : Table → Type 0)
     robust co (Does by order set bs) past p k h = λ spared calm.
         let moment = co.pattern (p.calls + 1) in
         let middle = after_moment moment.exits p in
-        let s = answered co.text by order moment.fate middle in
+        let s = answered co.handed by order moment.fate middle in
         let h' = exits moment.exits p.table h in
-        (asks past (call_of order (lacked_by by middle.lacked)) middle.table k h', robust-behind (course_after order co) bs (past ++ entry_of by (call_of order (lacked_by by middle.lacked)) s.answer ∷ []) (reply_of set s.answer) (after_call by order set s middle) (grows past (entry_of by (call_of order (lacked_by by middle.lacked)) s.answer) k) (steps co.text by (call_of order (lacked_by by middle.lacked)) moment.fate middle.table h'))
+        (asks past (call_of order (lacked_by by middle.lacked)) middle.table k h', robust-behind (course_after order co) bs (past ++ entry_of by (call_of order (lacked_by by middle.lacked)) s.answer ∷ []) (reply_of set s.answer) (after_call by order set s middle) (grows past (entry_of by (call_of order (lacked_by by middle.lacked)) s.answer) k) (steps co.handed by (call_of order (lacked_by by middle.lacked)) moment.fate middle.table h'))
 
     pub robust-behind :
         (co : Course) (bs : Branches) (past : List Entry) (r : Reply) (p : Progress) → K past → F p.table →
@@ -217,19 +217,19 @@ module _ (due : Asking) (post : Finally) (mild : Exiting) (co : Course) (lost : 
       is_leave_call call ≡ false →
       ((es : List Name) (t : Table) → names_any co.executing es ≡ false → mild es t.rows → F t → F (after_exits es t)) →
       ((past : List Entry) (t : Table) → K past → F t → due past call t) →
-      ((past : List Entry) (q : Progress) (fate : Option Fate) → K past → F q.table → let st = step_with co.text by call fate q.table in TracedBehind due post mild co (past ++ entry_of by call st.answer ∷ []) bs (reply_of set st.answer) (after_call by (Make call) set st q))
+      ((past : List Entry) (q : Progress) (fate : Option Fate) → K past → F q.table → let st = step_with co.handed by call fate q.table in TracedBehind due post mild co (past ++ entry_of by call st.answer ∷ []) bs (reply_of set st.answer) (after_call by (Make call) set st q))
       → Good F K (Does by (Make call) set bs)
   good-step F K by call set bs stays exits asks next past p k h = λ spared calm.
       let order = Make call in
       let moment = co.pattern (p.calls + 1) in
       let middle = after_moment moment.exits p in
-      let s = answered co.text by order moment.fate middle in
+      let s = answered co.handed by order moment.fate middle in
       let at : (if is_leave order then co.executing ++ co.heirs else co.executing) ≡ co.executing = rw stays in
       let after : course_after order co ≡ co = go (is_leave order) stays in
       let h' = exits moment.exits p.table (subst (λ images. names_any images moment.exits ≡ false) at spared) calm h in
       (asks past middle.table k h', subst (λ (x : Course). TracedBehind due post mild x (past ++ entry_of by call s.answer ∷ []) bs (reply_of set s.answer) (after_call by order set s middle)) (sym after) (next past middle moment.fate k h'))
     where
-      go : (b : Bool) → b ≡ false → record { text = co.text; pattern = co.pattern; executing = if b then co.heirs else co.executing; heirs = co.heirs } ≡ co
+      go : (b : Bool) → b ≡ false → record { handed = co.handed; pattern = co.pattern; executing = if b then co.heirs else co.executing; heirs = co.heirs } ≡ co
       go true e = absurd (cc)
       go false e = refl
 
@@ -239,18 +239,18 @@ module _ (due : Asking) (post : Finally) (mild : Exiting) (co : Course) (lost : 
       is_leave order ≡ false →
       ((es : List Name) (t : Table) → names_any co.executing es ≡ false → mild es t.rows → Q t → Q (after_exits es t)) →
       Q p.table → ((t : Table) → Q t → due past (call_of order (lacked_by by p.lacked)) t) →
-      ((q : Progress) (fate : Option Fate) → Q q.table → q.lacked ≡ p.lacked → let st = step_with co.text by (call_of order (lacked_by by p.lacked)) fate q.table in TracedBehind due post mild co (past ++ entry_of by (call_of order (lacked_by by p.lacked)) st.answer ∷ []) bs (reply_of set st.answer) (after_call by order set st q))
+      ((q : Progress) (fate : Option Fate) → Q q.table → q.lacked ≡ p.lacked → let st = step_with co.handed by (call_of order (lacked_by by p.lacked)) fate q.table in TracedBehind due post mild co (past ++ entry_of by (call_of order (lacked_by by p.lacked)) st.answer ∷ []) bs (reply_of set st.answer) (after_call by order set st q))
       → Traced due post mild co past (Does by order set bs) p
   ordered-step Q by order set bs past p stays exits h asks next = λ spared calm.
       let moment = co.pattern (p.calls + 1) in
       let middle = after_moment moment.exits p in
-      let s = answered co.text by order moment.fate middle in
+      let s = answered co.handed by order moment.fate middle in
       let at : (if is_leave order then co.executing ++ co.heirs else co.executing) ≡ co.executing = rw stays in
       let after : course_after order co ≡ co = go (is_leave order) stays in
       let h' = exits moment.exits p.table (subst (λ images. names_any images moment.exits ≡ false) at spared) calm h in
       (asks middle.table h', subst (λ (x : Course). TracedBehind due post mild x (past ++ entry_of by (call_of order (lacked_by by p.lacked)) s.answer ∷ []) bs (reply_of set s.answer) (after_call by order set s middle)) (sym after) (next middle moment.fate h' refl))
     where
-      go : (b : Bool) → b ≡ false → record { text = co.text; pattern = co.pattern; executing = if b then co.heirs else co.executing; heirs = co.heirs } ≡ co
+      go : (b : Bool) → b ≡ false → record { handed = co.handed; pattern = co.pattern; executing = if b then co.heirs else co.executing; heirs = co.heirs } ≡ co
       go true e = absurd (cc)
       go false e = refl
 
@@ -260,11 +260,11 @@ module _ (due : Asking) (post : Finally) (mild : Exiting) (co : Course) (lost : 
       is_leave_call call ≡ false →
       ((es : List Name) (t : Table) → names_any co.executing es ≡ false → mild es t.rows → F t → F (after_exits es t)) →
       Growing K → ((past : List Entry) (t : Table) → K past → F t → due past call t) →
-      ((text : List ℕ) (fate : Option Fate) (t : Table) → F t → F (step_with text by call fate t).table) →
+      ((handed : Handed) (fate : Option Fate) (t : Table) → F t → F (step_with handed by call fate t).table) →
       AllGood F K bs → Good F K (Does by (Make call) set bs)
   good-call F K by call set bs stays exits grows asks keeps all =
       good-step F K by call set bs stays exits asks
-      (λ past q fate k h. let st = step_with co.text by call fate q.table in all-good F K bs all (past ++ entry_of by call st.answer ∷ []) (reply_of set st.answer) (after_call by (Make call) set st q) (grows past (entry_of by call st.answer) k) (keeps co.text fate q.table h))
+      (λ past q fate k h. let st = step_with co.handed by call fate q.table in all-good F K bs all (past ++ entry_of by call st.answer ∷ []) (reply_of set st.answer) (after_call by (Make call) set st q) (grows past (entry_of by call st.answer) k) (keeps co.handed fate q.table h))
 
 ---- Entries one after another
 

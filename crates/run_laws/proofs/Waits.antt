@@ -15,7 +15,7 @@ use Rattle.vocabulary.specs.declared.plans.Order.TheVariants.{Make}
 use Rattle.vocabulary.specs.declared.reports.Entry.{Entry}
 use Rattle.definitions.specs.Table.{Table, bears}
 use Rattle.definitions.specs.Exits.{after_exits}
-use Rattle.definitions.specs.Calls.{step_with}
+use Rattle.definitions.specs.Calls.{step_with, Handed}
 use Rattle.definitions.specs.Record.{Record}
 use Rattle.definitions.specs.Tree.{Tree, Nothing, among, reply_of, full_or_short}
 use Rattle.definitions.specs.Plans.{on, does, then_edge, gone_edges, quits, awaits_gone}
@@ -88,7 +88,7 @@ module _ (by : ℕ) (g : Generation) (due : Asking) (post : Finally) (mild : Exi
     -- What follows when all were told.
     pub quits-told :
         (asks : (past : List Entry) (x : ℕ) (t : Table) → F t → due past (Quit g x) t)
-        (keeps : (text : List ℕ) (x : ℕ) (fate : Option Fate) (t : Table) → F t → F (step_with text by (Quit g x) fate t).table)
+        (keeps : (handed : Handed) (x : ℕ) (fate : Option Fate) (t : Table) → F t → F (step_with handed by (Quit g x) fate t).table)
         (ks : List ℕ) (rest : Tree) (K : List Entry → Type 0) → Growing K →
         ((past : List Entry) (p : Progress) → K past → ((k : ℕ) → is_in ks k ≡ true → Told g k past) → F p.table → T past rest p)
         → Good due post mild co lost F K (quits by g ks rest)
@@ -98,7 +98,7 @@ module _ (by : ℕ) (g : Generation) (due : Asking) (post : Finally) (mild : Exi
         let K' : List Entry → Type 0 = λ past. K past × Told g x past in
         good-step due post mild co lost F K by (Quit g x) [] (then_edge more) refl exits (λ past t k h. asks past x t h)
         (λ past q fate k h.
-        let st = step_with co.text by (Quit g x) fate q.table in
+        let st = step_with co.handed by (Quit g x) fate q.table in
         let e = entry_of by (Quit g x) st.answer in
         all-good due post mild co lost F K' (then_edge more) (
           (quits-told asks keeps ks rest K' (λ past e h. (grows past e h.0, told-on g x past e h.1))
@@ -107,7 +107,7 @@ module _ (by : ℕ) (g : Generation) (due : Asking) (post : Finally) (mild : Exi
         )
         (past ++ e ∷ []) (reply_of [] st.answer) (after_call by (Make (Quit g x)) [] st q)
         (grows past e k, any-last (λ e. is_quit_of g x e.call) past e (bears-refl g x))
-        (keeps co.text x fate q.table h)) past p known h
+        (keeps co.handed x fate q.table h)) past p known h
 
     -- what follows a wait, where the answer tells which
     gone-behind :
@@ -130,9 +130,9 @@ module _ (by : ℕ) (g : Generation) (due : Asking) (post : Finally) (mild : Exi
     -- What follows when all were waited for. A kill comes after its worker was late.
     pub waits-told :
         (asks : (past : List Entry) (x : ℕ) (t : Table) → F t → due past (AwaitGone g x) t)
-        (keeps : (text : List ℕ) (x : ℕ) (fate : Option Fate) (t : Table) → F t → F (step_with text by (AwaitGone g x) fate t).table)
+        (keeps : (handed : Handed) (x : ℕ) (fate : Option Fate) (t : Table) → F t → F (step_with handed by (AwaitGone g x) fate t).table)
         (asks_kill : (past : List Entry) (x : ℕ) (t : Table) → was_late g x past ≡ true → F t → due past (Kill g x) t)
-        (keeps_kill : (text : List ℕ) (x : ℕ) (fate : Option Fate) (t : Table) → F t → F (step_with text by (Kill g x) fate t).table)
+        (keeps_kill : (handed : Handed) (x : ℕ) (fate : Option Fate) (t : Table) → F t → F (step_with handed by (Kill g x) fate t).table)
         (ks : List ℕ) (rest : Tree) (K : List Entry → Type 0) → Growing K →
         ((past : List Entry) → K past → (x : ℕ) → is_in ks x ≡ true → Told g x past) →
         ((past : List Entry) (q : Progress) → K past → AllWaited g ks past → F q.table → T past rest q) → Good due post
@@ -150,13 +150,13 @@ module _ (by : ℕ) (g : Generation) (due : Asking) (post : Finally) (mild : Exi
         in
         good-step due post mild co lost F K by (AwaitGone g x) [] (gone_edges more killing) refl exits (λ past t k h. asks past x t h)
         (λ past1 q1 fate1 k1 h1.
-        let st = step_with co.text by (AwaitGone g x) fate1 q1.table in
+        let st = step_with co.handed by (AwaitGone g x) fate1 q1.table in
         let e = entry_of by (AwaitGone g x) st.answer in
         let told_x = told past1 k1 x (in-here x x ks refl) in
         let waited : Waited g x (past1 ++ e ∷ []) = then-last (λ e. is_quit_of g x e.call) (λ e. is_wait_of g x e.call) past1 e told_x (bears-refl g x) in
         let known' : K' (past1 ++ e ∷ []) = (grows past1 e k1, waited) in
         let q' = after_call by (Make (AwaitGone g x)) [] st q1 in
-        let h' = keeps co.text x fate1 q1.table h1 in
+        let h' = keeps co.handed x fate1 q1.table h1 in
         gone-behind more killing (past1 ++ e ∷ []) st.answer q' (goes_on (past1 ++ e ∷ []) q' known' h')
         (λ is.
         let was : was_late g x (past1 ++ e ∷ []) ≡ true =
@@ -165,10 +165,10 @@ module _ (by : ℕ) (g : Generation) (due : Asking) (post : Finally) (mild : Exi
         good-step due post mild co lost F (λ l. K' l × (was_late g x l ≡ true)) by (Kill g x) [] (then_edge more) refl
         exits (λ past t k h. asks_kill past x t k.1 h)
         (λ past2 q2 fate2 k2 h2.
-        let st2 = step_with co.text by (Kill g x) fate2 q2.table in
+        let st2 = step_with co.handed by (Kill g x) fate2 q2.table in
         let e2 = entry_of by (Kill g x) st2.answer in
         all-good due post mild co lost F K' (then_edge more) (goes_on, tt) (past2 ++ e2 ∷ []) (reply_of [] st2.answer)
-        (after_call by (Make (Kill g x)) [] st2 q2) (grows' past2 e2 k2.0) (keeps_kill co.text x fate2 q2.table h2))
+        (after_call by (Make (Kill g x)) [] st2 q2) (grows' past2 e2 k2.0) (keeps_kill co.handed x fate2 q2.table h2))
         (past1 ++ e ∷ []) q' (known', was) h')) past q known h
 
 ---- What is claimed of a run

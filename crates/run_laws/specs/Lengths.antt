@@ -4,9 +4,9 @@ use Rattle.vocabulary.specs.Settings.{Settings}
 use Rattle.definitions.specs.Record.{Record}
 use Rattle.definitions.specs.Target.{Target, Upgrade, Attended, numbers_wanted, addresses_wanted}
 use Rattle.definitions.specs.Tree.{Tree, height}
-use Rattle.definitions.specs.Parts.{Turn}
-use Rattle.definitions.specs.Plans.{plan_tree, plan_length}
+use Rattle.definitions.specs.Plans.{Turn, plan_tree, plan_length}
 use Rattle.definitions.specs.Run.{run_with, Pattern, Progress}
+use Rattle.definitions.specs.Calls.{Handed}
 
 -- A run makes no more calls than the longest path of its plan has steps; and under any turns a plan has no longer one
 -- than its stretches have together.
@@ -26,5 +26,5 @@ UpgradesAreShort =
 
 abbrev pub RunsWithin : Type 0
 RunsWithin =
-    (text : List ℕ) (plan : Tree) (pattern : Pattern) (p : Progress) →
-    length (run_with text plan pattern p).entries ≤ height plan
+    (handed : Handed) (plan : Tree) (pattern : Pattern) (p : Progress) →
+    length (run_with handed plan pattern p).entries ≤ height plan

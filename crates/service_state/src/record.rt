@@ -2,7 +2,7 @@
 ghost use Rattle.std.specs.Prelude.{◌≡◌, ◌<◌, ◌≤◌, Option, Some, option_map};
 ghost use Rattle.std.specs.List.{AllByRecursion};
 ghost use Rattle.definitions.specs.Table.{FilePath as PathText};
-ghost use Rattle.definitions.specs.Record.{started};
+ghost use Rattle.call_laws.specs.Start.{started};
 ghost use Rattle.definitions.specs.After.{setup_of, renewed, upgraded, next_image, target_setup, old_setup, setup_after, recorded, keeps_rules, record_from, record_after};
 
 use crate::setup::{Setup, next_config, next_image};

@@ -5,7 +5,7 @@ ghost use Rattle.definitions.specs.Service.{IsSame};
 ghost use Rattle.definitions.specs.Crew.{served};
 ghost use Rattle.definitions.specs.Record.{layout_of};
 ghost use Rattle.definitions.specs.Target.{want, addresses_wanted, wanted_at, layout_wanted};
-ghost use Rattle.definitions.specs.After.{lacks_generation};
+ghost use Rattle.service_state.specs.Targets.{lacks_generation};
 ghost use Rattle.kernel_service.specs.Services.{at};
 ghost use Rattle.service_state.specs.Wanted.{kept_count, is_counted};
 

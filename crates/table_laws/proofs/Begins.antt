@@ -9,7 +9,7 @@ use Rattle.listener_set.specs.Numbers.{is_in, lacks, IsRising, RisesFrom}
 use Rattle.definitions.specs.Crew.{share}
 use Rattle.definitions.specs.Record.{Record, IsRunning, crew_of}
 use Rattle.definitions.specs.Claims.{IsStart}
-use Rattle.definitions.specs.Formed.{IsQuiet, HasParent}
+use Rattle.definitions.specs.Table.{IsQuiet, HasParent}
 use Rattle.table_laws.proofs.Rows.{one, weigh, every-more, every-both, count-weigh, both-true}
 use Rattle.call_laws.proofs.Choices.{and-right}
 use Rattle.table_laws.proofs.Views.{Row, master_of, named, View, Fine, Looks, ready_in, masters, eqb-refl, eqb-is}

@@ -8,8 +8,7 @@ use Rattle.vocabulary.specs.declared.table.Stance.TheVariants.{Starting, Ready, 
 use Rattle.vocabulary.specs.declared.names.Name.{Name}
 use Rattle.vocabulary.specs.declared.names.Name.TheVariants as name
 use Rattle.definitions.specs.Table.{Hold, Process, Master, Worker, Foreign, Caller, number_of, bears, live_master}
-use Rattle.definitions.specs.Table.{caller_if, is_live_master, is_active, is_ready, is_named, is_draining}
-use Rattle.definitions.specs.Formed.{IsAscending}
+use Rattle.definitions.specs.Table.{caller_if, is_live_master, is_active, is_ready, is_named, is_draining, IsAscending}
 use Rattle.definitions.specs.Crew.{Posts, share}
 use Rattle.definitions.specs.Exits.{change, made_exited, first_changed, caller_exits, without_exited, kept_if, exited, all_exited}
 use Rattle.definitions.specs.Calls.{drop_where, is_image, is_image_row, is_of_image, without_master}

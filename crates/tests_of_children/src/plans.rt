@@ -1,5 +1,5 @@
 //! Plans carried out on children in memory, of which each call fails in turn.
-ghost use Rattle.definitions.specs.Target.{IsTarget};
+ghost use Rattle.service_state.specs.Targets.{IsTarget};
 
 use crate::setup::{Telling, ask};
 use child_edge::Edge;

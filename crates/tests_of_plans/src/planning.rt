@@ -1,5 +1,5 @@
 //! How large plans are, and what no word of one master asks for.
-ghost use Rattle.definitions.specs.Target.{IsTarget};
+ghost use Rattle.service_state.specs.Targets.{IsTarget};
 
 use crate::records::{in_two_groups, settings_of, with_workers};
 use listener_set::{FilePath, Generation, Numbers};

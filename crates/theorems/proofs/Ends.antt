@@ -20,8 +20,7 @@ use Rattle.listener_set.specs.AddressList.{has}
 use Rattle.definitions.specs.Target.{reload_generation, upgrade_generation}
 use Rattle.definitions.specs.After.{next_config, next_image, numbered, Setup, setup_after, recorded, record_from}
 use Rattle.definitions.specs.After.{record_if, record_after, keeps_rules, master_of, reigning}
-use Rattle.definitions.specs.Run.{Ending, Progress, outcome_of}
-use Rattle.definitions.specs.Path.{Sides}
+use Rattle.definitions.specs.Run.{Ending, Progress, outcome_of, Sides}
 use Rattle.vocabulary.specs.declared.reports.Report.{Report}
 use Rattle.definitions.specs.Claims.{IsStart, FallsShort, AgreesAfter, is_ready_with, ready_with}
 use Rattle.table_laws.proofs.Rows.{one, weigh-le, count-weigh, both-true}

@@ -1,15 +1,13 @@
 -- A table that meets the premises.
 use Rattle.std.proofs.Common.{◌≡◌, ℕ, ◌+◌, ◌≤◌, Bool, true, false, refl, sym, subst, arith}
-use Rattle.std.specs.Prelude.{◌&&◌, ◌==◌, count_by}
+use Rattle.std.specs.Prelude.{◌&&◌, ◌==◌, count_by, Some, List, [], ◌∷◌}
 use Rattle.std.proofs.lemmas.Bool.Decides.{nat_tests}
 use Rattle.listener_set.specs.declared.generation.Generation.{Generation}
-use Rattle.definitions.specs.Table.{File, same_generation, is_worker, is_active, is_ready}
+use Rattle.definitions.specs.Table.{File, same_generation, is_worker, is_active, is_ready, IsFormed}
 use Rattle.std.specs.List.{list_any}
-use Rattle.std.specs.Prelude.{Some, List, [], ◌∷◌}
 use Rattle.vocabulary.specs.declared.plans.PidNote.{PidNote}
 use Rattle.vocabulary.specs.declared.plans.PidNote.TheVariants.{InPlace, AtOldbin}
 use Rattle.listener_set.specs.Numbers.{is_in}
-use Rattle.definitions.specs.Formed.{IsFormed}
 use Rattle.definitions.specs.Record.{FilesAre, crew_of}
 use Rattle.theorems.specs.Settling.{HasSide}
 use Rattle.definitions.specs.Claims.{IsStart}

@@ -1,17 +1,13 @@
 -- The worked examples of several groups, by computation.
-use Rattle.std.proofs.Common.{◌≡◌, ℕ, ◌+◌, ◌≤◌, Bool, true, false, [], ◌∷◌, ◌++◌, refl, sym, subst, ap, ◌∙◌, arith}
-use Rattle.std.specs.Prelude.{◌&&◌, ◌==◌, count_by, codes}
-use Rattle.std.specs.Fmt.{decimal}
-use Rattle.std.proofs.lemmas.Fmt.{decimal_digit, decimal_step}
+use Rattle.std.proofs.Common.{◌≡◌, ℕ, ◌+◌, ◌≤◌, Bool, true, false, [], ◌∷◌, ◌++◌, refl, sym, subst, ◌∙◌, arith}
+use Rattle.std.specs.Prelude.{◌&&◌, ◌==◌, count_by}
 use Rattle.std.proofs.lemmas.Bool.Decides.{nat_tests}
 use Rattle.listener_set.specs.declared.generation.Generation.{Generation}
 use Rattle.definitions.specs.Table.{same_generation, is_worker, is_active}
-use Rattle.definitions.specs.Calls.{census_of, suits}
-use Rattle.definitions.specs.Reading.{reading}
-use Rattle.definitions.specs.Target.{Upgrade, text_handed}
+use Rattle.definitions.specs.Calls.{census_of}
 use Rattle.definitions.specs.Claims.{IsStart}
 use Rattle.theorems.specs.Examples.{first}
-use Rattle.theorems.specs.GroupRuns.{both_holds, grouped, three_workers, three_ready, three_ready_without_file, GroupRuns}
+use Rattle.theorems.specs.GroupRuns.{both_holds, three_workers, three_ready, GroupRuns}
 use Rattle.table_laws.proofs.Rows.{one, count-weigh}
 
 -- Of three numbers a number is one at most.
@@ -65,15 +61,6 @@ start = record {
   rising = (omega arith, (omega arith, (omega arith, tt)));
 }
 
-pub hundred : decimal 100 ≡ codes "100"
-hundred =
-    decimal_step 100 (omega arith) (omega arith) ∙ ap (λ ds. ds ++ 48 ∷ [])
-    (decimal_step 10 (omega arith) (omega arith) ∙ ap (λ ds. ds ++ 48 ∷ []) (decimal_digit 1 (omega arith)))
-
--- What the new master is handed suits it.
-adopts : suits (reading (text_handed three_ready_without_file (Upgrade grouped))) 2 both_holds ≡ true
-adopts = rw (hundred, decimal_digit 1 (omega arith), decimal_digit 2 (omega arith), decimal_digit 3 (omega arith), decimal_digit 4 (omega arith)) refl
-
 pub group_runs : GroupRuns
 unfolding census_of
 group_runs = record {
@@ -82,5 +69,5 @@ group_runs = record {
   one_group_short = ((refl, refl), refl, refl);
   one_less = (refl, refl);
   one_more = (refl, refl);
-  upgrades = ((rw adopts refl, rw adopts refl), rw adopts refl, rw adopts refl);
+  upgrades = ((refl, refl), refl, refl);
 }

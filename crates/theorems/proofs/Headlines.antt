@@ -4,7 +4,7 @@ use Rattle.vocabulary.specs.Settings.{Settings}
 use Rattle.definitions.specs.Table.{Table}
 use Rattle.definitions.specs.Record.{Record}
 use Rattle.definitions.specs.Target.{Target, Workers, Mend, Reopen, Reload, Upgrade, Attended, Stop, sides_of}
-use Rattle.definitions.specs.Parts.{Turn}
+use Rattle.definitions.specs.Plans.{Turn}
 use Rattle.definitions.specs.Run.{Pattern, report_of}
 use Rattle.definitions.specs.Manner.{Manner}
 use Rattle.definitions.specs.Claims.{IsAccepted, EndsAsReported, KeepsFloor, KeepsAttendedFloor, run_of}

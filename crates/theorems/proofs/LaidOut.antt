@@ -9,7 +9,7 @@ use Rattle.listener_set.specs.declared.generation.Generation.{Generation}
 use Rattle.listener_set.specs.AddressList.{has}
 use Rattle.worker_groups.specs.Groups.{addresses_in}
 use Rattle.listener_set.specs.Numbers.{RisesFrom, is_in}
-use Rattle.vocabulary.specs.Settings.{Settings}
+use Rattle.vocabulary.specs.Settings.{Settings, listeners_from}
 use Rattle.vocabulary.specs.declared.table.Listener.{Listener}
 use Rattle.vocabulary.specs.declared.plans.Side.TheVariants as side
 use Rattle.vocabulary.specs.declared.reports.Outcome.TheVariants as outcome
@@ -17,8 +17,8 @@ use Rattle.worker_groups.specs.Crews.{descriptors_first}
 use Rattle.definitions.specs.Table.{Address, FilePath, Hold, is_at, has_address}
 use Rattle.definitions.specs.Calls.{lowest_free, put_hold}
 use Rattle.definitions.specs.Crew.{Group, Layout, fds_in, posts_of, layout_in, layout_at, listeners_under, addresses_of_group}
-use Rattle.definitions.specs.Record.{Record, layout_of, listener_of, listeners_from}
-use Rattle.definitions.specs.Path.{Report, Outcome}
+use Rattle.definitions.specs.Record.{Record, layout_of, listener_of}
+use Rattle.definitions.specs.Run.{Report, Outcome}
 use Rattle.definitions.specs.Target.{Target, Workers, Mend, Reopen, Reload, Upgrade, Attended, Stop, layout_wanted}
 use Rattle.definitions.specs.After.{Setup, listens_on, opened_from, all_opened, added, still_wanted, with_added}
 use Rattle.definitions.specs.After.{upgraded, renewed, next_config, next_image, target_setup, old_setup, setup_after}

@@ -1,7 +1,7 @@
 -- A turn of New at the end changes nothing.
 use Rattle.std.proofs.Common.{◌≡◌, List, [], ◌∷◌, ◌++◌, refl, ap, ◌∙◌}
 use Rattle.definitions.specs.Tree.{Tree, Branches, Ends, Does, Nothing, Branch, End}
-use Rattle.definitions.specs.Parts.{Turn, New, Old, beside, beside_all, weave, weave_all}
+use Rattle.definitions.specs.Plans.{Turn, New, Old, beside, beside_all, weave, weave_all}
 use Rattle.theorems.specs.Apart.{LastNewIsNone}
 
 abbrev Same : (List Turn → Tree → Tree) → Type 0

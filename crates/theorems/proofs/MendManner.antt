@@ -12,7 +12,7 @@ use Rattle.vocabulary.specs.declared.calls.Fate.{Fate}
 use Rattle.vocabulary.specs.declared.calls.Reply.TheVariants as reply
 use Rattle.vocabulary.specs.declared.calls.Answer.TheVariants as answer
 use Rattle.definitions.specs.Table.{Process, Table, Caller, number_of, bears, is_worker, is_any}
-use Rattle.definitions.specs.Calls.{gives, each_row, drop_where, step_by, step_with}
+use Rattle.definitions.specs.Calls.{gives, each_row, drop_where, step_by, step_with, Handed}
 use Rattle.definitions.specs.Crew.{Crew}
 use Rattle.definitions.specs.Record.{Record, crew_of}
 use Rattle.definitions.specs.Tree.{Tree, reply_of, among, Nothing}
@@ -104,17 +104,17 @@ module _ (t : Table) (r : Record) (overdue : List ℕ) (pattern : Pattern) (s : 
     Fits = λ h S. ⊤;
     May = λ h x t. ⊤;
     exits = λ es t sp mild h. fact-exits r.pid g.image p (IsOther p) (λ h x. ⊤) (gone-lasts r.pid p) es t sp h;
-    steps = λ text call fate t gentle h. fact-steps r.pid g.image p (IsOther p) (λ h x. ⊤) (gone-lasts r.pid p) text call fate t gentle h;
+    steps = λ handed call fate t gentle h. fact-steps r.pid g.image p (IsOther p) (λ h x. ⊤) (gone-lasts r.pid p) handed call fate t gentle h;
     idles = λ call t gentle h. tt;
     forks = λ h x fds. tt;
     waits = λ h x. tt;
     censuses = λ h. tt;
-    counted = λ text h fate t fact. fact-census r.pid g.image p (IsOther p) text h fate t fact;
+    counted = λ handed h fate t fact. fact-census r.pid g.image p (IsOther p) handed h fate t fact;
     lacking = λ h S t x fits fact on off. tt;
     may_exits = λ es t h x sp mild fact may. tt;
-    may_steps = λ text call fate t h x gentle fact may. tt;
+    may_steps = λ handed call fate t h x gentle fact may. tt;
     kill_due = λ h x t fact may. tt;
-    kills = λ text h x fate t fact may. fact-steps r.pid g.image p (IsOther p) (λ h x. ⊤) (gone-lasts r.pid p) text (Kill h x) fate t tt fact;
+    kills = λ handed h x fate t fact may. fact-steps r.pid g.image p (IsOther p) (λ h x. ⊤) (gone-lasts r.pid p) handed (Kill h x) fate t tt fact;
   }
 
   abbrev goes_away : Ending → Progress → Type 0
@@ -129,24 +129,24 @@ module _ (t : Table) (r : Record) (overdue : List ℕ) (pattern : Pattern) (s : 
   Named t' = Fact r.pid g.image p (OnlyOurs r.pid g.image p g k low (InAny r.pid g.image p g k low)) t'
 
   kill-step :
-      (text : List ℕ) (x : ℕ) (fate : Option Fate) (t' : Table) → Named t' → step_with text g.image (Kill g x) fate t' ≡
+      (handed : Handed) (x : ℕ) (fate : Option Fate) (t' : Table) → Named t' → step_with handed g.image (Kill g x) fate t' ≡
       gives answer.Fine (each_row (drop_where (is_worker is_any r.pid g x)) t')
-  kill-step text x fate t' named =
+  kill-step handed x fate t' named =
       let (hs, found) = one-found r.pid g.image t'.rows named.one.all named.one.some in
-      ap (λ (o : Option Caller). step_by text g.image o (Kill g x) fate t') found ∙ unfailing text g.image
+      ap (λ (o : Option Caller). step_by handed g.image o (Kill g x) fate t') found ∙ unfailing handed g.image
       (record { number = r.pid; holds = hs }) (Kill g x) fate t' tt
 
-  still-named : (text : List ℕ) (x : ℕ) (fate : Option Fate) (t' : Table) → Named t' → Named (step_with text g.image (Kill g x) fate t').table
-  still-named text x fate t' named =
+  still-named : (handed : Handed) (x : ℕ) (fate : Option Fate) (t' : Table) → Named t' → Named (step_with handed g.image (Kill g x) fate t').table
+  still-named handed x fate t' named =
       fact-steps r.pid g.image p (OnlyOurs r.pid g.image p g k low (InAny r.pid g.image p g k low)) (λ h x. ⊤)
-      (loose-lasts r.pid g.image p g k low) text (Kill g x) fate t' tt named
+      (loose-lasts r.pid g.image p g k low) handed (Kill g x) fate t' tt named
 
   killed-gone :
-      (text : List ℕ) (fate : Option Fate) (t' : Table) → Named t' →
-      Fact r.pid g.image p (IsOther p) (step_with text g.image (Kill g k) fate t').table
-  killed-gone text fate t' named =
-      let after = subst (λ st. Named st.table) (kill-step text k fate t' named) (still-named text k fate t' named) in
-      subst (λ st. Fact r.pid g.image p (IsOther p) st.table) (sym (kill-step text k fate t' named)) (record {
+      (handed : Handed) (fate : Option Fate) (t' : Table) → Named t' →
+      Fact r.pid g.image p (IsOther p) (step_with handed g.image (Kill g k) fate t').table
+  killed-gone handed fate t' named =
+      let after = subst (λ st. Named st.table) (kill-step handed k fate t' named) (still-named handed k fate t' named) in
+      subst (λ st. Fact r.pid g.image p (IsOther p) st.table) (sym (kill-step handed k fate t' named)) (record {
         one = after.one;
         all =
             every-filter_map (OnlyOurs r.pid g.image p g k low (InAny r.pid g.image p g k low)) (IsOther p)
@@ -175,17 +175,17 @@ module _ (t : Table) (r : Record) (overdue : List ℕ) (pattern : Pattern) (s : 
       named
       (λ q' h is. tt)
       (λ q' fate h is.
-      let st = step_with co.text g.image (Kill g x) fate q'.table in
+      let st = step_with co.handed g.image (Kill g x) fate q'.table in
       let next = after_call r.generation.image (Make (Kill g x)) [] st q' in
       ⊎_elim
       (λ same.
       let gone_now : Fact r.pid g.image p (IsOther p) st.table =
-      subst (λ z. Fact r.pid g.image p (IsOther p) (step_with co.text g.image (Kill g z) fate q'.table).table)
-      (sym same) (killed-gone co.text fate q'.table h) in
+      subst (λ z. Fact r.pid g.image p (IsOther p) (step_with co.handed g.image (Kill g z) fate q'.table).table)
+      (sym same) (killed-gone co.handed fate q'.table h) in
       all-go g.image Anyhow Unasked gone goes_away gone-ends co (own-acts r pattern) (then_edge more) (reply_of [] st.answer) next gone_now
       (calm-along g.image Anyhow Unasked gone goes_away gone-ends co (own-acts r pattern) more (calm-kills g.image Anyhow Unasked gone goes_away gone-ends co (own-acts r pattern) g ks rest (λ y e'. tt) rest-calm) next gone_now, tt))
       (λ later.
-      let on_more = going ks later (noted None next) (still-named co.text x fate q'.table h) in
+      let on_more = going ks later (noted None next) (still-named co.handed x fate q'.table h) in
       elim (among (reply.Fine ∷ []) (reply_of [] st.answer)) as
       (λ b. elim b as (λ c. Type 0) [ true ↦ Along no_claim goes_away Anyhow Unasked co more (noted None next) | false ↦ Behind no_claim goes_away Anyhow Unasked co Nothing (reply_of [] st.answer) next ]) [
         | true ↦ on_more

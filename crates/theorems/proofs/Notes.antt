@@ -17,9 +17,10 @@ use Rattle.vocabulary.specs.declared.calls.Reply.TheVariants as reply
 use Rattle.vocabulary.specs.declared.reports.Entry.{Entry}
 use Rattle.definitions.specs.Tree.{Tree, Branches, Ends, Does, Nothing, Branch, among, reply_of, full_or_short, call_of}
 use Rattle.definitions.specs.Run.{Pattern, Progress, Ran, run_with, goes_with, noted, after_call, after_moment, answered}
-use Rattle.definitions.specs.Path.{lacked_by}
+use Rattle.definitions.specs.Run.{lacked_by}
 use Rattle.definitions.specs.Table.{FilePath}
 use Rattle.definitions.specs.Claims.{is_failed_removal}
+use Rattle.definitions.specs.Calls.{Handed}
 
 is-fault : (set : List ℕ) (a : Answer) → among (reply.IoFault ∷ []) (reply_of set a) ≡ true → a ≡ answer.IoFault
 is-fault set (answer.Opened fd) e = absurd (cc e)
@@ -101,34 +102,34 @@ module _ (paths : List FilePath) where
   -- A run that ends with that note began with it, or a removal failed.
   mutual
     pub left-by :
-        (text : List ℕ) (t : Tree) (pattern : Pattern) (p : Progress) → LeftByFault t →
-        (run_with text t pattern p).last.note ≡ Left →
-        (p.note ≡ Left) ⊎ (any_failed (run_with text t pattern p).entries ≡ true)
-    left-by text (Ends end) pattern p h e = inl e
-    left-by text (Does by order set branches) pattern p h e =
+        (handed : Handed) (t : Tree) (pattern : Pattern) (p : Progress) → LeftByFault t →
+        (run_with handed t pattern p).last.note ≡ Left →
+        (p.note ≡ Left) ⊎ (any_failed (run_with handed t pattern p).entries ≡ true)
+    left-by handed (Ends end) pattern p h e = inl e
+    left-by handed (Does by order set branches) pattern p h e =
         let moment = pattern (p.calls + 1) in
         let middle = after_moment moment.exits p in
-        let s = answered text by order moment.fate middle in
+        let s = answered handed by order moment.fate middle in
         ⊎_elim (λ a. inl a)
         (λ a. inr (⊎_elim (λ b. here (is_failed_removal paths (call_of order (lacked_by by middle.lacked)) s.answer) _ b) (λ b. there (is_failed_removal paths (call_of order (lacked_by by middle.lacked)) s.answer) _ b) a))
-        (left-behind text branches order (lacked_by by middle.lacked) set s.answer pattern (after_call by order set s middle) h e)
+        (left-behind handed branches order (lacked_by by middle.lacked) set s.answer pattern (after_call by order set s middle) h e)
 
     left-behind :
-        (text : List ℕ) (bs : Branches) (order : Order) (lacking set : List ℕ) (a : Answer) (pattern : Pattern)
-        (p : Progress) → LeftBehind (is_removal order) bs → (goes_with text bs (reply_of set a) pattern p).last.note ≡
+        (handed : Handed) (bs : Branches) (order : Order) (lacking set : List ℕ) (a : Answer) (pattern : Pattern)
+        (p : Progress) → LeftBehind (is_removal order) bs → (goes_with handed bs (reply_of set a) pattern p).last.note ≡
         Left → (p.note ≡ Left) ⊎
-        ((is_failed_removal paths (call_of order lacking) a ≡ true) ⊎ (any_failed (goes_with text bs (reply_of set a) pattern p).entries ≡ true))
-    left-behind text Nothing order lacking set a pattern p h e = inl e
-    left-behind text (Branch replies said rest more) order lacking set a pattern p h e =
+        ((is_failed_removal paths (call_of order lacking) a ≡ true) ⊎ (any_failed (goes_with handed bs (reply_of set a) pattern p).entries ≡ true))
+    left-behind handed Nothing order lacking set a pattern p h e = inl e
+    left-behind handed (Branch replies said rest more) order lacking set a pattern p h e =
         elim (among replies (reply_of set a)) as (λ b.
         among replies (reply_of set a) ≡ b →
-        let ran : Ran = elim b as (λ c. Ran) [ true ↦ run_with text rest pattern (noted said p) | false ↦ goes_with text more (reply_of set a) pattern p ] in
+        let ran : Ran = elim b as (λ c. Ran) [ true ↦ run_with handed rest pattern (noted said p) | false ↦ goes_with handed more (reply_of set a) pattern p ] in
         ran.last.note ≡ Left → (p.note ≡ Left) ⊎ ((is_failed_removal paths (call_of order lacking) a ≡ true) ⊎ (any_failed ran.entries ≡ true))) [
           | true ↦ λ on e.
               ⊎_elim (λ x. ⊎_elim (λ y. inl y) (λ y.
               let by = h.0 y in
               let fault = is-fault set a (subst (λ rs. among rs (reply_of set a) ≡ true) by.1 on) in
               inr (inl (subst (λ z. is_failed_removal paths (call_of order lacking) z ≡ true) (sym fault) (failed order lacking by.0)))) (was-said said p x))
-              (λ x. inr (inr x)) (left-by text rest pattern (noted said p) h.1 e)
-          | false ↦ λ on e. left-behind text more order lacking set a pattern p h.2 e
+              (λ x. inr (inr x)) (left-by handed rest pattern (noted said p) h.1 e)
+          | false ↦ λ on e. left-behind handed more order lacking set a pattern p h.2 e
         ] refl e

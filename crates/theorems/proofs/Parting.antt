@@ -5,9 +5,9 @@ use Rattle.std.proofs.lemmas.Bool.Decides.{nat_tests}
 use Rattle.vocabulary.specs.declared.calls.Answer.{Answer}
 use Rattle.vocabulary.specs.declared.calls.Answer.TheVariants as answer
 use Rattle.definitions.specs.Tree.{Tree, Branches, Ends, Does, Nothing, Branch, End, PidNote, Order, Reply, among, branch, reply_of, call_of}
-use Rattle.definitions.specs.Path.{Entry, Lack, lacking_after, lacked_by, lacked_after}
-use Rattle.definitions.specs.Path as path
-use Rattle.definitions.specs.Parts.{Turn, New, Old, graft, graft_all, beside, beside_all, weave, weave_all}
+use Rattle.definitions.specs.Run.{Entry, Lack, lacking_after, lacked_by, lacked_after}
+use Rattle.definitions.specs.Run as run
+use Rattle.definitions.specs.Plans.{Turn, New, Old, graft, graft_all, beside, beside_all, weave, weave_all}
 use Rattle.theorems.specs.Apart.{turns_used, rest_of, IsOf, AreOf, Walks, WalksAll, AreCountsOf, of_master, Plays}
 use Rattle.theorems.specs.Apart.{IsWalkedApart, WalksApart, AreOfBoth, MergesAreWoven}
 
@@ -43,7 +43,7 @@ own-after a set answer.Back lacked = refl
 own-after a set answer.MasterGone lacked = refl
 
 -- the newest of another master is the last count of the other of two
-beside-other : (a b : ℕ) → a ≢ b → (lacked : List Lack) → AreCountsOf a b lacked → lacked_by b (path.beside a lacked) ≡ lacked_by b lacked
+beside-other : (a b : ℕ) → a ≢ b → (lacked : List Lack) → AreCountsOf a b lacked → lacked_by b (run.beside a lacked) ≡ lacked_by b lacked
 beside-other a b ne [] theirs = refl
 beside-other a b ne (lack ∷ lacked) theirs =
     ⊎_elim
@@ -80,10 +80,10 @@ swapped : (a b : ℕ) (lacked : List Lack) → AreCountsOf a b lacked → AreCou
 swapped a b [] theirs = tt
 swapped a b (lack ∷ lacked) theirs = (⊎_elim (λ e. inr e) (λ e. inl e) theirs.0, swapped a b lacked theirs.1)
 
-beside-theirs : (a b m : ℕ) (lacked : List Lack) → AreCountsOf a b lacked → AreCountsOf a b (path.beside m lacked)
+beside-theirs : (a b m : ℕ) (lacked : List Lack) → AreCountsOf a b lacked → AreCountsOf a b (run.beside m lacked)
 beside-theirs a b m [] theirs = tt
 beside-theirs a b m (lack ∷ lacked) theirs =
-    elim (lack.by == m) as (λ x. AreCountsOf a b (if x then path.beside m lacked else lack ∷ [])) [
+    elim (lack.by == m) as (λ x. AreCountsOf a b (if x then run.beside m lacked else lack ∷ [])) [
       | true ↦ beside-theirs a b m lacked theirs.1
       | false ↦ (theirs.0, tt)
     ]

@@ -215,7 +215,7 @@ module _ (t : Table) (rec : Record) (st : Settings) (pattern : Pattern) (s : IsS
   sc1 = scene_of serves_new
 
   abbrev co : Course
-  co = record { text = []; pattern = pattern; executing = rec.generation.image ∷ []; heirs = [] }
+  co = record { handed = None; pattern = pattern; executing = rec.generation.image ∷ []; heirs = [] }
 
   acts : is_in (rec.generation.image ∷ []) rec.generation.image ≡ true
   acts = in-here rec.generation.image rec.generation.image [] refl

@@ -82,26 +82,26 @@ Told g ran k = list_any (λ e. is_usr1_of g k e.call) ran.entries ≡ true
 -- A run of these calls that is not lost has made them all.
 told :
     (by : ℕ) (g : Generation) (ks : List ℕ) (rest : Tree) (pattern : Pattern) (p : Progress) →
-    (((run_with [] (usr1s by g ks rest) pattern p).ending ≡ Lost) → ⊥) →
-    AllByRecursion (Told g (run_with [] (usr1s by g ks rest) pattern p)) ks
+    (((run_with None (usr1s by g ks rest) pattern p).ending ≡ Lost) → ⊥) →
+    AllByRecursion (Told g (run_with None (usr1s by g ks rest) pattern p)) ks
 told by g [] rest pattern p h = tt
 told by g (x ∷ ks) rest pattern p h =
     let order = Make (Usr1 g x) in
     let moment = pattern (p.calls + 1) in
     let middle = after_moment moment.exits p in
-    let st = answered [] by order moment.fate middle in
+    let st = answered None by order moment.fate middle in
     let next = after_call by order [] st middle in
     let more = usr1s by g ks rest in
     elim (among (reply.Fine ∷ []) (reply_of [] st.answer)) as (λ b.
     let later : Ran =
     elim b as (λ c. Ran)
-    [ true ↦ run_with [] more pattern (noted None next) | false ↦ goes_with [] Nothing (reply_of [] st.answer) pattern next ]
+    [ true ↦ run_with None more pattern (noted None next) | false ↦ goes_with None Nothing (reply_of [] st.answer) pattern next ]
     in
     (later.ending ≡ Lost → ⊥) →
     ((is_usr1_of g x (Usr1 g x) || list_any (λ e. is_usr1_of g x e.call) later.entries) ≡ true) × AllByRecursion
     (λ k. (is_usr1_of g k (Usr1 g x) || list_any (λ e. is_usr1_of g k e.call) later.entries) ≡ true) ks) [
       | true ↦ λ h.
-          (rw (bears-refl g x) refl, every-more (Told g (run_with [] more pattern (noted None next))) (λ k. (is_usr1_of g k (Usr1 g x) || list_any (λ e. is_usr1_of g k e.call) (run_with [] more pattern (noted None next)).entries) ≡ true) (λ k e. later (is_usr1_of g k (Usr1 g x)) _ e) ks (told by g ks rest pattern (noted None next) h))
+          (rw (bears-refl g x) refl, every-more (Told g (run_with None more pattern (noted None next))) (λ k. (is_usr1_of g k (Usr1 g x) || list_any (λ e. is_usr1_of g k e.call) (run_with None more pattern (noted None next)).entries) ≡ true) (λ k e. later (is_usr1_of g k (Usr1 g x)) _ e) ks (told by g ks rest pattern (noted None next) h))
       | false ↦ λ h. absurd (h refl)
     ] h
   where

@@ -75,7 +75,7 @@ module _ (t : Table) (rec : Record) (target : Target) (pattern : Pattern) (s : I
   scene = plain_scene rec.pid rec.generation.image like.floor serves t.files rec.note t.limits
 
   abbrev pub course : Course
-  course = record { text = []; pattern = pattern; executing = rec.generation.image ∷ []; heirs = [] }
+  course = record { handed = None; pattern = pattern; executing = rec.generation.image ∷ []; heirs = [] }
 
   pub acts : is_in (rec.generation.image ∷ []) rec.generation.image ≡ true
   acts = in-here rec.generation.image rec.generation.image [] refl

@@ -14,7 +14,7 @@ use Rattle.vocabulary.specs.declared.plans.PidNote.{PidNote}
 use Rattle.vocabulary.specs.declared.calls.Reply.{Reply}
 use Rattle.definitions.specs.Table.{Address, has_address, Hold, Process, Master, Worker, Foreign, Table, Caller}
 use Rattle.definitions.specs.Table.{live_master, caller_if, is_worker, is_active, is_ready, same_generation}
-use Rattle.definitions.specs.Formed.{IsFormed, IsQuiet, IsAscending}
+use Rattle.definitions.specs.Table.{IsFormed, IsQuiet, IsAscending}
 use Rattle.definitions.specs.Crew.{Crew, share}
 use Rattle.definitions.specs.Record.{IsRunning}
 use Rattle.vocabulary.specs.declared.reports.Entry.{Entry}
@@ -26,7 +26,7 @@ use Rattle.vocabulary.specs.declared.calls.Answer.TheVariants as answer
 use Rattle.definitions.specs.Plans.{settle, round, census, quits, closes, census_edges, fork_edges, await_any_edges, then_edge, full_end, short_end}
 use Rattle.definitions.specs.Run.{Pattern, Progress, Ending, At, Ran, run_with, goes_with, noted, after_call}
 use Rattle.definitions.specs.Run.{after_moment, answered, Return, is_fault, returns_after}
-use Rattle.definitions.specs.Path.{first_cause, went_wrong, lacked_by}
+use Rattle.definitions.specs.Run.{first_cause, went_wrong, lacked_by}
 use Rattle.definitions.specs.Claims.{refused_among}
 use Rattle.theorems.specs.Settling.{PlansGoBack, IsOnly, HasSide, missing, Settles, SettlesAlways, IsReturning, back, without, ReturnsAlways}
 use Rattle.table_laws.proofs.Rows.{one, weigh, every-more, every-both, count-weigh, both-true, or-left, or-right}
@@ -42,7 +42,7 @@ use Rattle.run_laws.proofs.Rules.{Scene, plain_scene, Band, band-holds, seen_as,
 use Rattle.table_laws.proofs.Layouts.{share-lacks-none}
 use Rattle.table_laws.proofs.Addresses.{same-address, address-refl}
 use Rattle.table_laws.proofs.Listeners.{all_closed, all-closed-is}
-use Rattle.definitions.specs.Calls.{gives, lacks_address}
+use Rattle.definitions.specs.Calls.{gives, lacks_address, Handed}
 use Rattle.listener_set.specs.AddressList.{has}
 use Rattle.vocabulary.specs.declared.plans.Side.TheVariants.{Old}
 
@@ -162,16 +162,16 @@ Twin d ran ran' =
 
 mutual
   twins :
-      (d : ℕ) (text : List ℕ) (tree : Tree) (pattern : Pattern) (p : Progress) (f : ℕ) (rs : List Return) (c : Option ℕ)
-      → f ≡ p.faults + d → Twin d (run_with text tree pattern p) (run_with text tree pattern (recounted p f rs c))
-  twins d text (Ends end) pattern p f rs c e = (refl, f, rs, c, refl, e, refl)
-  twins d text (Does by order set branches) pattern p f rs c e =
+      (d : ℕ) (handed : Handed) (tree : Tree) (pattern : Pattern) (p : Progress) (f : ℕ) (rs : List Return) (c : Option ℕ)
+      → f ≡ p.faults + d → Twin d (run_with handed tree pattern p) (run_with handed tree pattern (recounted p f rs c))
+  twins d handed (Ends end) pattern p f rs c e = (refl, f, rs, c, refl, e, refl)
+  twins d handed (Does by order set branches) pattern p f rs c e =
       let moment = pattern (p.calls + 1) in
       let middle = after_moment moment.exits p in
-      let s = answered text by order moment.fate middle in
+      let s = answered handed by order moment.fate middle in
       let b = is_fault (call_of order (lacked_by by p.lacked)) s.answer in
       let rest =
-      twins-behind d text branches (reply_of set s.answer) pattern (after_call by order set s middle)
+      twins-behind d handed branches (reply_of set s.answer) pattern (after_call by order set s middle)
       (if b then f + 1 else f) (returns_after (call_of order (lacked_by by p.lacked)) s.answer f rs)
       (first_cause c (went_wrong (call_of order (lacked_by by p.lacked)) (reply_of set s.answer)) (p.calls + 1))
       (fault-more b f p.faults d e) in
@@ -179,18 +179,18 @@ mutual
       (rest.0, rest.1, rest.2, rest.3, rest.4, rest.5, ap (λ es. entry ∷ es) rest.6)
 
   twins-behind :
-      (d : ℕ) (text : List ℕ) (bs : Branches) (r : Reply) (pattern : Pattern) (p : Progress) (f : ℕ) (rs : List Return)
-      (c : Option ℕ) → f ≡ p.faults + d → Twin d (goes_with text bs r pattern p)
-      (goes_with text bs r pattern (recounted p f rs c))
-  twins-behind d text Nothing r pattern p f rs c e = (refl, f, rs, c, refl, e, refl)
-  twins-behind d text (Branch replies said rest more) r pattern p f rs c e =
-      let here : Twin d (run_with text rest pattern (noted said p)) (run_with text rest pattern (noted said (recounted p f rs c))) =
-      subst (λ x. Twin d (run_with text rest pattern (noted said p)) (run_with text rest pattern x))
+      (d : ℕ) (handed : Handed) (bs : Branches) (r : Reply) (pattern : Pattern) (p : Progress) (f : ℕ) (rs : List Return)
+      (c : Option ℕ) → f ≡ p.faults + d → Twin d (goes_with handed bs r pattern p)
+      (goes_with handed bs r pattern (recounted p f rs c))
+  twins-behind d handed Nothing r pattern p f rs c e = (refl, f, rs, c, refl, e, refl)
+  twins-behind d handed (Branch replies said rest more) r pattern p f rs c e =
+      let here : Twin d (run_with handed rest pattern (noted said p)) (run_with handed rest pattern (noted said (recounted p f rs c))) =
+      subst (λ x. Twin d (run_with handed rest pattern (noted said p)) (run_with handed rest pattern x))
       (sym (noted-recounted said p f rs c))
-      (twins d text rest pattern (noted said p) f rs c (e ∙ ap (λ n. n + d) (sym (noted-faults said p)))) in
-      let there = twins-behind d text more r pattern p f rs c e in
+      (twins d handed rest pattern (noted said p) f rs c (e ∙ ap (λ n. n + d) (sym (noted-faults said p)))) in
+      let there = twins-behind d handed more r pattern p f rs c e in
       elim (among replies r) as
-      (λ b. Twin d (elim b as (λ c. Ran) [ true ↦ run_with text rest pattern (noted said p) | false ↦ goes_with text more r pattern p ]) (elim b as (λ c. Ran) [ true ↦ run_with text rest pattern (noted said (recounted p f rs c)) | false ↦ goes_with text more r pattern (recounted p f rs c) ])) [
+      (λ b. Twin d (elim b as (λ c. Ran) [ true ↦ run_with handed rest pattern (noted said p) | false ↦ goes_with handed more r pattern p ]) (elim b as (λ c. Ran) [ true ↦ run_with handed rest pattern (noted said (recounted p f rs c)) | false ↦ goes_with handed more r pattern (recounted p f rs c) ])) [
         | true ↦ here
         | false ↦ there
       ]
@@ -234,24 +234,24 @@ ready-among m g rows S =
 
 ---- The last count lacks what it does not have
 
-module _ (text : List ℕ) (pattern : Pattern) (set : List ℕ) where
+module _ (handed : Handed) (pattern : Pattern) (set : List ℕ) where
   abbrev Named : Ran → Type 0
   Named ran = (end : End) → ran.ending ≡ At end → ran.last.lacking ≡ lacks set ran.last.ready
 
   abbrev AlwaysNamed : Tree → Type 0
-  AlwaysNamed tree = (q : Progress) → Named (run_with text tree pattern q)
+  AlwaysNamed tree = (q : Progress) → Named (run_with handed tree pattern q)
 
   abbrev AllNamed : Branches → Type 0
   AllNamed Nothing = ⊤
   AllNamed (Branch replies said rest more) = AlwaysNamed rest × AllNamed more
 
-  branches-named : (bs : Branches) → AllNamed bs → (r : Reply) (q : Progress) → Named (goes_with text bs r pattern q)
+  branches-named : (bs : Branches) → AllNamed bs → (r : Reply) (q : Progress) → Named (goes_with handed bs r pattern q)
   branches-named Nothing all r q = λ end is. absurd (cc is)
   branches-named (Branch replies said rest more) all r q =
       let here = all.0 (noted said q) in
       let there = branches-named more all.1 r q in
       elim (among replies r) as
-      (λ b. Named (elim b as (λ c. Ran) [ true ↦ run_with text rest pattern (noted said q) | false ↦ goes_with text more r pattern q ])) [
+      (λ b. Named (elim b as (λ c. Ran) [ true ↦ run_with handed rest pattern (noted said q) | false ↦ goes_with handed more r pattern q ])) [
         | true ↦ here
         | false ↦ there
       ]
@@ -260,12 +260,12 @@ module _ (text : List ℕ) (pattern : Pattern) (set : List ℕ) where
   does-named by order s bs all q =
       let moment = pattern (q.calls + 1) in
       let middle = after_moment moment.exits q in
-      let st = answered text by order moment.fate middle in
+      let st = answered handed by order moment.fate middle in
       branches-named bs all (reply_of s st.answer) (after_call by order s st middle)
 
   -- behind a count
   abbrev NamedThen : Tree → Type 0
-  NamedThen tree = (q : Progress) → q.lacking ≡ lacks set q.ready → Named (run_with text tree pattern q)
+  NamedThen tree = (q : Progress) → q.lacking ≡ lacks set q.ready → Named (run_with handed tree pattern q)
 
   end-named : (end : End) → NamedThen (Ends end)
   end-named end q is e on = is
@@ -274,15 +274,15 @@ module _ (text : List ℕ) (pattern : Pattern) (set : List ℕ) where
   census-named by g full short on_full on_short q =
       let moment = pattern (q.calls + 1) in
       let middle = after_moment moment.exits q in
-      let st = answered text by (Make (Census g)) moment.fate middle in
+      let st = answered handed by (Make (Census g)) moment.fate middle in
       go st.answer st.table middle
     where
       go :
           (a : Answer) (t : Table) (middle : Progress) → Named
-          (goes_with text (census_edges full short) (reply_of set a) pattern (after_call by (Make (Census g)) set (gives a t) middle))
+          (goes_with handed (census_edges full short) (reply_of set a) pattern (after_call by (Make (Census g)) set (gives a t) middle))
       go (answer.Counted ns) t middle =
           let q1 = after_call by (Make (Census g)) set (gives (answer.Counted ns) t) middle in
-          elim (lacks set ns) as (λ l. Named (goes_with text (census_edges full short) (full_or_short l) pattern q1)) [
+          elim (lacks set ns) as (λ l. Named (goes_with handed (census_edges full short) (full_or_short l) pattern q1)) [
             | [] ↦ on_full q1 refl
             | x ∷ xs ↦ on_short q1 refl
           ]
@@ -427,9 +427,9 @@ module _ (image pid : ℕ) (holds : List Hold) (crew : Crew) (S : List ℕ) wher
 
   ---- The settle
 
-  module _ (text : List ℕ) (side : Side) (rounds : ℕ) (pattern : Pattern) (p : Progress) (dS : Distinct S) where
+  module _ (handed : Handed) (side : Side) (rounds : ℕ) (pattern : Pattern) (p : Progress) (dS : Distinct S) where
     abbrev co : Course
-    co = record { text = text; pattern = pattern; executing = image ∷ []; heirs = [] }
+    co = record { handed = handed; pattern = pattern; executing = image ∷ []; heirs = [] }
 
     abbrev sc : Scene pid image
     sc = plain_scene pid image (λ a. 0) (λ a h k. false) p.table.files p.note p.table.limits
@@ -521,13 +521,13 @@ module _ (image pid : ℕ) (holds : List Hold) (crew : Crew) (S : List ℕ) wher
 
     -- what goes along a tree from there is so of its run
     settles-by :
-        (tree : Tree) → AlwaysNamed text pattern S tree → Goes tree begun →
-        refused_among (image ∷ []) [] pattern p.calls (run_with text tree pattern p).entries ≡ None →
-        Settles image pid holds crew S side rounds p (run_with text tree pattern p)
+        (tree : Tree) → AlwaysNamed handed pattern S tree → Goes tree begun →
+        refused_among (image ∷ []) [] pattern p.calls (run_with handed tree pattern p).entries ≡ None →
+        Settles image pid holds crew S side rounds p (run_with handed tree pattern p)
     settles-by tree always goes spared =
-        let ran = run_with text tree pattern p in
-        let ran' = run_with text tree pattern begun in
-        let twin = twins more text tree pattern p (p.faults + more) [] (Some 0) refl in
+        let ran = run_with handed tree pattern p in
+        let ran' = run_with handed tree pattern begun in
+        let twin = twins more handed tree pattern p (p.faults + more) [] (Some 0) refl in
         let all =
         from-along inv post Anyhow Unasked co tree begun goes
         (ap (refused_among (image ∷ []) [] pattern p.calls) twin.6 ∙ spared) (are-mild-anyhow co tree begun) in
@@ -548,15 +548,15 @@ module _ (image pid : ℕ) (holds : List Hold) (crew : Crew) (S : List ℕ) wher
         }
 
 pub settles_always : SettlesAlways
-settles_always text image pid holds crew set side rounds pattern first formed has rising below spared =
+settles_always handed image pid holds crew set side rounds pattern first formed has rising below spared =
     let dS = rising-distinct set rising in
     let below_set = every-is_in (λ k. k < 1024) set below in
     let looks = first-looks image pid holds crew set first.table formed has in
-    settles-by image pid holds crew set text side rounds pattern first dS (settle image crew set side rounds)
-    (settle-named text pattern set image crew side rounds)
-    (settle-goes image pid holds crew set text side rounds pattern first dS below_set (named crew.generation (is_in set)) false (lacked_by image first.lacked) (begun image pid holds crew set text side rounds pattern first dS)
+    settles-by image pid holds crew set handed side rounds pattern first dS (settle image crew set side rounds)
+    (settle-named handed pattern set image crew side rounds)
+    (settle-goes image pid holds crew set handed side rounds pattern first dS below_set (named crew.generation (is_in set)) false (lacked_by image first.lacked) (begun image pid holds crew set handed side rounds pattern first dS)
     (λ h k e. (same-is h crew.generation (and-left _ _ e), and-right (same_generation h crew.generation) _ e))
-    (first-band image pid holds crew set text side rounds pattern first dS looks)) spared
+    (first-band image pid holds crew set handed side rounds pattern first dS looks)) spared
 
 ---- The way back
 
@@ -656,21 +656,21 @@ module _ (image pid : ℕ) (holds : List Hold) (opened : List Address) (crew : C
           once = λ h k. subst (λ n. n ≤ 1) (count-weigh (is_worker is_active pid h k) t.rows) (formed.once pid h k);
         }
 
-    module _ (text : List ℕ) (rounds : ℕ) (pattern : Pattern) (p : Progress) (dS : Distinct S) (below : (k : ℕ) → is_in S k ≡ true → k < 1024) where
+    module _ (handed : Handed) (rounds : ℕ) (pattern : Pattern) (p : Progress) (dS : Distinct S) (below : (k : ℕ) → is_in S k ≡ true → k < 1024) where
       abbrev inv' : Progress → Type 0
-      inv' = inv image pid kept crew S text Old rounds pattern p dS
+      inv' = inv image pid kept crew S handed Old rounds pattern p dS
 
       abbrev post' : Ending → Progress → Type 0
-      post' = post image pid kept crew S text Old rounds pattern p dS
+      post' = post image pid kept crew S handed Old rounds pattern p dS
 
       abbrev co' : Course
-      co' = co image pid kept crew S text Old rounds pattern p dS
+      co' = co image pid kept crew S handed Old rounds pattern p dS
 
       abbrev sc' : Scene pid image
-      sc' = sc image pid kept crew S text Old rounds pattern p dS
+      sc' = sc image pid kept crew S handed Old rounds pattern p dS
 
       abbrev paid : ℕ
-      paid = owed image pid kept crew S text Old rounds pattern p dS
+      paid = owed image pid kept crew S handed Old rounds pattern p dS
 
       abbrev Runs' : Tree → Progress → Type 0
       Runs' tree q = Along inv' post' Anyhow Unasked co' tree q
@@ -699,7 +699,7 @@ module _ (image pid : ℕ) (holds : List Hold) (opened : List Address) (crew : C
           Band (narrow hs) sc' none r t (length S) paid false ls q →
           Runs' (closes image l (settle image crew S Old rounds)) q
       close-all [] hs is off r ls q only b =
-          settle-goes image pid kept crew S text Old rounds pattern p dS below r false ls q only
+          settle-goes image pid kept crew S handed Old rounds pattern p dS below r false ls q only
           (subst (λ x. Band (narrow x) sc' none r t (length S) paid false ls q) is b)
       close-all (a ∷ l) hs is off r ls q only b =
           rule-close (narrow hs) sc' (grounded inv' post' co' acts' (λ t n w q a b c d e. tt))
@@ -727,9 +727,9 @@ module _ (image pid : ℕ) (holds : List Hold) (opened : List Address) (crew : C
           let l = less h k e in
           true-false (is_in forked k) (and-right (same_generation h new) _ l.0) (l.1 (same-is h new (and-left _ _ l.0)))
 
-      back-goes : Looks wide p.table.rows → Runs' (back image new forked opened crew S rounds) (begun image pid kept crew S text Old rounds pattern p dS)
+      back-goes : Looks wide p.table.rows → Runs' (back image new forked opened crew S rounds) (begun image pid kept crew S handed Old rounds pattern p dS)
       back-goes looks =
-          let q0 = begun image pid kept crew S text Old rounds pattern p dS in
+          let q0 = begun image pid kept crew S handed Old rounds pattern p dS in
           let rest = closes image opened (settle image crew S Old rounds) in
           let gone : AllByRecursion (λ a. has_address a kept ≡ false) opened =
           every-more (λ a. has opened a ≡ true) (λ a. has_address a kept ≡ false)
@@ -737,15 +737,15 @@ module _ (image pid : ℕ) (holds : List Hold) (opened : List Address) (crew : C
           rule-quits wide sc' (grounded inv' post' co' acts' (λ t n w q a b c d e. tt)) rest new forked
           (named new (is_in forked)) either t (length S) paid false (lacked_by image p.lacked) q0 off-old
           (λ s' r' q less_s less b. close-all opened holds (all-closed-is opened holds) gone r' (lacked_by image p.lacked) q (left-over r' less) (band-holds wide (narrow holds) sc' s' r' t (length S) paid false (lacked_by image p.lacked) q refl (none-starts s' less_s) (λ h k e. let o = left-over r' less h k e in held-old h k (named-on old S h k o.0 o.1)) b))
-          (begun-band image pid kept crew S text Old rounds pattern p dS wide (named new (is_in forked)) either looks)
+          (begun-band image pid kept crew S handed Old rounds pattern p dS wide (named new (is_in forked)) either looks)
 
 pub returns_always : ReturnsAlways
-returns_always text image pid holds opened crew set new forked rounds pattern first formed on rising below spared =
+returns_always handed image pid holds opened crew set new forked rounds pattern first formed on rising below spared =
     let dS = rising-distinct set rising in
     let looks = back-looks image pid holds opened crew set new forked on.apart first.table formed on.lives on.only on.returning in
-    settles-by image pid (without opened holds) crew set text Old rounds pattern first dS (back image new.generation forked opened crew set rounds)
-    (quits-named text pattern set image new.generation forked (closes image opened (settle image crew set Old rounds)) (closes-named text pattern set image opened (settle image crew set Old rounds) (settle-named text pattern set image crew Old rounds)))
-    (back-goes image pid holds opened crew set new forked on.apart text rounds pattern first dS (every-is_in (λ k. k < 1024) set below) looks) spared
+    settles-by image pid (without opened holds) crew set handed Old rounds pattern first dS (back image new.generation forked opened crew set rounds)
+    (quits-named handed pattern set image new.generation forked (closes image opened (settle image crew set Old rounds)) (closes-named handed pattern set image opened (settle image crew set Old rounds) (settle-named handed pattern set image crew Old rounds)))
+    (back-goes image pid holds opened crew set new forked on.apart handed rounds pattern first dS (every-is_in (λ k. k < 1024) set below) looks) spared
 
 pub plans_go_back : PlansGoBack
 plans_go_back = record { workers = λ by crew ready retries n. refl; reload = λ by old new ready retries opened forked. refl }

@@ -7,8 +7,9 @@ use Rattle.vocabulary.specs.declared.table.Listener.{Listener}
 use Rattle.definitions.specs.Table.{Address, FilePath, Hold, Process, Master, is_master, is_ready, is_worker}
 use Rattle.worker_groups.specs.Crews.{first_posts}
 use Rattle.definitions.specs.Crew.{Group, Posts}
-use Rattle.definitions.specs.Record.{FilesAre, IsRunning, first_generation, first_note, listener_of, listeners_from}
-use Rattle.call_laws.specs.Start.{StartsAgree, first_files, first_worker, holds_from}
+use Rattle.definitions.specs.Record.{FilesAre, IsRunning, listener_of}
+use Rattle.call_laws.specs.Start.{first_generation, first_note, StartsAgree, first_files, first_worker, holds_from}
+use Rattle.vocabulary.specs.Settings.{listeners_from}
 use Rattle.table_laws.proofs.Addresses.{address-refl}
 use Rattle.table_laws.proofs.Files.{other-oldbin}
 

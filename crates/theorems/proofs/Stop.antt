@@ -129,7 +129,7 @@ module _ (t : Table) (rec : Record) (quick : Bool) (pattern : Pattern) (s : IsSt
   sc files note = plain_scene rec.pid rec.generation.image (λ a. 0) (λ a. none) files note t.limits
 
   abbrev co : Course
-  co = record { text = []; pattern = pattern; executing = rec.generation.image ∷ []; heirs = [] }
+  co = record { handed = None; pattern = pattern; executing = rec.generation.image ∷ []; heirs = [] }
 
   acts : is_in (rec.generation.image ∷ []) rec.generation.image ≡ true
   acts = in-here rec.generation.image rec.generation.image [] refl
@@ -246,7 +246,7 @@ module _ (t : Table) (rec : Record) (quick : Bool) (pattern : Pattern) (s : IsSt
       let order = Make (RemovePid path) in
       let bs = note_edges fine fault rest in
       rule-step u (sc files note) (ground files note) order [] bs any any none 0 0 false [] q refl b (λ p b' fate.
-      remove-cases co.text g.image (record { number = rec.pid; holds = s.agrees.holds }) path fate p.table
+      remove-cases co.handed g.image (record { number = rec.pid; holds = s.agrees.holds }) path fate p.table
       (λ st. Answers u (sc files note) (ground files note) order [] bs p st)
       (on_fault (noted fault (after_call rec.generation.image order [] (gives answer.IoFault p.table) p)) (forget files (unwrap_or fault note) true _
       (said-so fault files note true (after_call rec.generation.image order [] (gives answer.IoFault p.table) p)
@@ -274,9 +274,9 @@ module _ (t : Table) (rec : Record) (quick : Bool) (pattern : Pattern) (s : IsSt
       let sp = spares-each co.executing g.image moment.exits acts spared in
       let b' = band-exits u (sc files note) any any none 0 0 false [] moment.exits q sp mild b in
       let me : Caller = record { number = rec.pid; holds = s.agrees.holds } in
-      let is : answered [] g.image order moment.fate middle ≡ gives answer.Fine (each_row (without_master rec.pid) middle.table) =
-      ap (λ (o : Option Caller). step_by [] g.image o Leave moment.fate middle.table)
-      (finds (view u any any) middle.table.rows b'.looks) ∙ unfailing [] g.image me Leave moment.fate middle.table tt in
+      let is : answered None g.image order moment.fate middle ≡ gives answer.Fine (each_row (without_master rec.pid) middle.table) =
+      ap (λ (o : Option Caller). step_by None g.image o Leave moment.fate middle.table)
+      (finds (view u any any) middle.table.rows b'.looks) ∙ unfailing None g.image me Leave moment.fate middle.table tt in
       let gone = after_call rec.generation.image order [] (gives answer.Fine (each_row (without_master rec.pid) middle.table)) middle in
       let marks = marks-plain false middle.faults middle.losses (middle.calls + 1) middle.cause b'.marks in
       let fine = sole-fine (view u any any) (λ n. refl) middle.table.rows b'.looks.fine in
@@ -475,7 +475,7 @@ stop_headline t rec quick turns pattern a =
     let done = all-done t rec quick pattern a.start ran.ending ran.last all.last in
     let failed : ran.last.note ≡ Left → was_failed (paths_of rec.pid_path) ran.entries ≡ true = λ e.
     ⊎_elim (λ x. absurd (not-left rec.note rec.pid_path rec.pid t.files a.start.agrees.files x)) (λ x. x)
-    (left-by (paths_of rec.pid_path) [] tree pattern at (by-stop rec.generation.image rec.generation rec.ready rec.pid_path rec.note quick) e) in
+    (left-by (paths_of rec.pid_path) None tree pattern at (by-stop rec.generation.image rec.generation rec.ready rec.pid_path rec.note quick) e) in
     record {
       says = done.0.0;
       after =

@@ -17,7 +17,7 @@ use Rattle.vocabulary.specs.declared.calls.Fate.{Fate}
 use Rattle.vocabulary.specs.declared.reports.Entry.{Entry}
 use Rattle.definitions.specs.Table.{FilePath, File, Table, Caller, owner_at, live_master}
 use Rattle.definitions.specs.Exits.{after_exits}
-use Rattle.definitions.specs.Calls.{Stepped, gives, own_step, step_by, step_with, with_files, without_file}
+use Rattle.definitions.specs.Calls.{Stepped, gives, own_step, step_by, step_with, with_files, without_file, Handed}
 use Rattle.definitions.specs.Record.{Record, FilesAre, oldbin}
 use Rattle.definitions.specs.Tree.{Tree, Branches, Ends, Does, reply_of}
 use Rattle.definitions.specs.Plans.{does, then_edge, gone_edges, note_edges, quits, kills, awaits_gone, removes}
@@ -82,7 +82,7 @@ module _ (path : FilePath) (owner : Option ℕ) (co : Course) where
   abbrev IsCalm : Call → Type 0
   IsCalm call =
       ((a : Answer) → is_failed_removal paths call a ≡ false) ×
-      ((by : ℕ) (o : Option Caller) (fate : Option Fate) (t : Table) → owner_at path (step_by co.text by o call fate t).table.files ≡ owner_at path t.files)
+      ((by : ℕ) (o : Option Caller) (fate : Option Fate) (t : Table) → owner_at path (step_by co.handed by o call fate t).table.files ≡ owner_at path t.files)
 
   calm-good :
       (o : Option ℕ) (b : Bool) (by : ℕ) (call : Call) (bs : Branches) → is_leave_call call ≡ false → IsCalm call →
@@ -90,7 +90,7 @@ module _ (path : FilePath) (owner : Option ℕ) (co : Course) where
   calm-good o b by call bs stays calm all =
       good-step due Removed Anyhow co not-lost (F o) (K b) by call [] bs stays (exits-keep o) (λ past t k h. tt)
       (λ past q fate k h.
-      let st = step_with co.text by call fate q.table in
+      let st = step_with co.handed by call fate q.table in
       let e = entry_of by call st.answer in
       all-good due Removed Anyhow co not-lost (F o) (K b) bs all (past ++ e ∷ []) (reply_of [] st.answer) (after_call by (Make call) [] st q)
       (any-off (λ x. is_failed_removal paths x.call x.answer) past e (calm.0 st.answer) ∙ k) (calm.1 by (live_master by q.table.rows) fate q.table ∙ h))
@@ -103,15 +103,15 @@ module _ (path : FilePath) (owner : Option ℕ) (co : Course) where
   -- a step leaves the file alone where it does so for each caller
   stays-by :
       (call : Call) →
-      ((by : ℕ) (c : Caller) (fate : Option Fate) (t : Table) → StaysAt (step_by co.text by (Some c) call fate t) t) →
-      (by : ℕ) (o : Option Caller) (fate : Option Fate) (t : Table) → StaysAt (step_by co.text by o call fate t) t
+      ((by : ℕ) (c : Caller) (fate : Option Fate) (t : Table) → StaysAt (step_by co.handed by (Some c) call fate t) t) →
+      (by : ℕ) (o : Option Caller) (fate : Option Fate) (t : Table) → StaysAt (step_by co.handed by o call fate t) t
   stays-by call h by None fate t = refl
   stays-by call h by (Some c) fate t = h by c fate t
 
   stays-sure :
-      (call : Call) → Unfailing call → ((by : ℕ) (c : Caller) (t : Table) → StaysAt (own_step co.text by c call t) t) →
-      (by : ℕ) (o : Option Caller) (fate : Option Fate) (t : Table) → StaysAt (step_by co.text by o call fate t) t
-  stays-sure call sure h = stays-by call (λ by c fate t. subst (λ (st : Stepped). StaysAt st t) (sym (unfailing co.text by c call fate t sure)) (h by c t))
+      (call : Call) → Unfailing call → ((by : ℕ) (c : Caller) (t : Table) → StaysAt (own_step co.handed by c call t) t) →
+      (by : ℕ) (o : Option Caller) (fate : Option Fate) (t : Table) → StaysAt (step_by co.handed by o call fate t) t
+  stays-sure call sure h = stays-by call (λ by c fate t. subst (λ (st : Stepped). StaysAt st t) (sym (unfailing co.handed by c call fate t sure)) (h by c t))
 
   quit-calm : (g : Generation) (x : ℕ) → IsCalm (Quit g x)
   quit-calm g x = ((λ a. refl), stays-sure (Quit g x) tt (λ by c t. refl))
@@ -120,15 +120,15 @@ module _ (path : FilePath) (owner : Option ℕ) (co : Course) where
   kill-calm g x = ((λ a. refl), stays-sure (Kill g x) tt (λ by c t. refl))
 
   wait-calm : (g : Generation) (x : ℕ) → IsCalm (AwaitGone g x)
-  wait-calm g x = ((λ a. refl), stays-by (AwaitGone g x) (λ by c fate t. gone-cases co.text by c g x fate t (λ (st : Stepped). StaysAt st t) refl refl))
+  wait-calm g x = ((λ a. refl), stays-by (AwaitGone g x) (λ by c fate t. gone-cases co.handed by c g x fate t (λ (st : Stepped). StaysAt st t) refl refl))
 
-  leave-files : (by : ℕ) (o : Option Caller) (fate : Option Fate) (t : Table) → StaysAt (step_by co.text by o Leave fate t) t
+  leave-files : (by : ℕ) (o : Option Caller) (fate : Option Fate) (t : Table) → StaysAt (step_by co.handed by o Leave fate t) t
   leave-files = stays-sure Leave tt (λ by c t. refl)
 
   -- the removal of another file
   other-calm : (other : FilePath) → bytes_eq path other ≡ false → bytes_eq other path ≡ false → IsCalm (RemovePid other)
   other-calm other off off' =
-      (fails, stays-by (RemovePid other) (λ by c fate t. remove-cases co.text by c other fate t (λ (st : Stepped). StaysAt st t) refl (other-removed other path t.files off')))
+      (fails, stays-by (RemovePid other) (λ by c fate t. remove-cases co.handed by c other fate t (λ (st : Stepped). StaysAt st t) refl (other-removed other path t.files off')))
     where
       fails : (a : Answer) → is_failed_removal paths (RemovePid other) a ≡ false
       fails answer.IoFault = rw off refl
@@ -148,9 +148,9 @@ module _ (path : FilePath) (owner : Option ℕ) (co : Course) where
       let P : Stepped → Type 0 =
       λ st. TracedBehind due Removed Anyhow co (past ++ entry_of by call st.answer ∷ []) bs (reply_of [] st.answer)
       (after_call by (Make call) [] st q) in
-      elim (live_master by q.table.rows) as (λ o. P (step_by co.text by o call fate q.table)) [
+      elim (live_master by q.table.rows) as (λ o. P (step_by co.handed by o call fate q.table)) [
         | None ↦ tt
-        | Some c ↦ remove-cases co.text by c path fate q.table P
+        | Some c ↦ remove-cases co.handed by c path fate q.table P
             (all-good due Removed Anyhow co not-lost (F (left_if true)) (K true) bs (good true, (good true, tt)) (past ++ entry_of by call answer.IoFault ∷ []) (reply_of [] answer.IoFault) (after_call by (Make call) [] (gives answer.IoFault q.table) q)
             (any-on (λ x. is_failed_removal paths x.call x.answer) past (entry_of by call answer.IoFault) on) h)
             (all-good due Removed Anyhow co not-lost (F (left_if false)) (K false) bs (good false, (good false, tt)) (past ++ entry_of by call answer.Fine ∷ []) (reply_of [] answer.Fine) (after_call by (Make call) [] (gives answer.Fine (with_files (without_file path q.table.files) q.table)) q)
@@ -162,7 +162,7 @@ module _ (path : FilePath) (owner : Option ℕ) (co : Course) where
       let order = Make Leave in
       let moment = co.pattern (p.calls + 1) in
       let middle = after_moment moment.exits p in
-      let st = answered co.text by order moment.fate middle in
+      let st = answered co.handed by order moment.fate middle in
       let e = entry_of by Leave st.answer in (
         tt,
         all-good due Removed Anyhow (course_after order co) not-lost (F (left_if b)) (K b) (then_edge (Ends Done))
@@ -243,10 +243,10 @@ absent-by Left path pid files are e = absurd are
 absent-by NoFile path pid files are e = absurd are
 
 owned-first :
-    (path : FilePath) (text : List ℕ) (tree : Tree) (pattern : Pattern) (p : Progress) →
-    first_owner path (run_with text tree pattern p).passed ≡ owner_at path p.table.files
-owned-first path text (Ends end) pattern p = refl
-owned-first path text (Does by order set bs) pattern p = refl
+    (path : FilePath) (handed : Handed) (tree : Tree) (pattern : Pattern) (p : Progress) →
+    first_owner path (run_with handed tree pattern p).passed ≡ owner_at path p.table.files
+owned-first path handed (Ends end) pattern p = refl
+owned-first path handed (Does by order set bs) pattern p = refl
 
 abbrev pub Ended : Ending → Type 0
 Ended (At end) = ⊤
@@ -276,7 +276,7 @@ removed-by path t r quick pattern spared ends good =
     (stop-good path o c r.generation.image r.generation r.ready r.pid_path r.note quick good [] at refl refl) spared
     (are-mild-anyhow c tree at) in
     removed-at path o c ran.entries ran.ending ran.last ends all.last
-    ∙ ap (λ x. if was_failed (path ∷ []) ran.entries then x else None) (sym (owned-first path [] tree pattern at))
+    ∙ ap (λ x. if was_failed (path ∷ []) ran.entries then x else None) (sym (owned-first path None tree pattern at))
 
 pub files-removed :
     (path : FilePath) (t : Table) (r : Record) (quick : Bool) (pattern : Pattern) → r.pid_path ≡ Some path →

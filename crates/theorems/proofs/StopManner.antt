@@ -28,6 +28,7 @@ use Rattle.definitions.specs.Exits.{after_exits}
 use Rattle.run_laws.proofs.Traces.{entry_of, Asking, Finally, Traced, Good, AllGood, all-good, good-call, from-traced}
 use Rattle.run_laws.proofs.Waits.{Told, AllWaited, told-on, all-waited-on, quits-told, waits-told, kills-traced, leaves-traced}
 use Rattle.theorems.proofs.WorkersManner.{own_course}
+use Rattle.definitions.specs.Calls.{Handed}
 
 ---- Calls that a plan never makes
 
@@ -48,27 +49,27 @@ any_call test entries = list_any (λ e. test e.call) entries
 
 mutual
   never-called :
-      (test : Call → Bool) (text : List ℕ) (t : Tree) (pattern : Pattern) (p : Progress) → NeverCalls test t →
-      any_call test (run_with text t pattern p).entries ≡ false
-  never-called test text (Ends end) pattern p h = refl
-  never-called test text (Does by (Make call) set bs) pattern p h =
+      (test : Call → Bool) (handed : Handed) (t : Tree) (pattern : Pattern) (p : Progress) → NeverCalls test t →
+      any_call test (run_with handed t pattern p).entries ≡ false
+  never-called test handed (Ends end) pattern p h = refl
+  never-called test handed (Does by (Make call) set bs) pattern p h =
       let moment = pattern (p.calls + 1) in
       let middle = after_moment moment.exits p in
-      let s = answered text by (Make call) moment.fate middle in
-      rw h.0 (never-behind test text bs (reply_of set s.answer) pattern (after_call by (Make call) set s middle) h.1)
-  never-called test text (Does by (ForkLacking g) set bs) pattern p h = absurd h
-  never-called test text (Does by (AwaitLacking g) set bs) pattern p h = absurd h
-  never-called test text (Does by (KillLacking g) set bs) pattern p h = absurd h
+      let s = answered handed by (Make call) moment.fate middle in
+      rw h.0 (never-behind test handed bs (reply_of set s.answer) pattern (after_call by (Make call) set s middle) h.1)
+  never-called test handed (Does by (ForkLacking g) set bs) pattern p h = absurd h
+  never-called test handed (Does by (AwaitLacking g) set bs) pattern p h = absurd h
+  never-called test handed (Does by (KillLacking g) set bs) pattern p h = absurd h
 
   never-behind :
-      (test : Call → Bool) (text : List ℕ) (bs : Branches) (r : Reply) (pattern : Pattern) (p : Progress) →
-      NeverBehind test bs → any_call test (goes_with text bs r pattern p).entries ≡ false
-  never-behind test text Nothing r pattern p h = refl
-  never-behind test text (Branch replies said rest more) r pattern p h =
-      let here = never-called test text rest pattern (noted said p) h.0 in
-      let there = never-behind test text more r pattern p h.1 in
+      (test : Call → Bool) (handed : Handed) (bs : Branches) (r : Reply) (pattern : Pattern) (p : Progress) →
+      NeverBehind test bs → any_call test (goes_with handed bs r pattern p).entries ≡ false
+  never-behind test handed Nothing r pattern p h = refl
+  never-behind test handed (Branch replies said rest more) r pattern p h =
+      let here = never-called test handed rest pattern (noted said p) h.0 in
+      let there = never-behind test handed more r pattern p h.1 in
       elim (among replies r) as
-      (λ b. let ran : Ran = elim b as (λ c. Ran) [ true ↦ run_with text rest pattern (noted said p) | false ↦ goes_with text more r pattern p ] in any_call test ran.entries ≡ false) [
+      (λ b. let ran : Ran = elim b as (λ c. Ran) [ true ↦ run_with handed rest pattern (noted said p) | false ↦ goes_with handed more r pattern p ] in any_call test ran.entries ≡ false) [
         | true ↦ here
         | false ↦ there
       ]
@@ -131,7 +132,7 @@ module _ (r : Record) (pattern : Pattern) where
       let order = Make Leave in
       let moment = co.pattern (p.calls + 1) in
       let middle = after_moment moment.exits p in
-      let st = answered co.text by order moment.fate middle in
+      let st = answered co.handed by order moment.fate middle in
       let e = entry_of by Leave st.answer in
       (waited, all-good due anyway Anyhow (course_after order co) not-lost Any (AllWaited g r.ready) (then_edge (Ends Done)) ((λ past p k h. tt), tt) (past ++ e ∷ []) (reply_of [] st.answer) (after_call by order [] st middle) (all-waited-on g r.ready past e waited) tt)
 
@@ -140,7 +141,7 @@ module _ (r : Record) (pattern : Pattern) where
       IsGood (Does by (Make (RemovePid path)) [] bs)
   removal-good path bs all =
       good-call due anyway Anyhow co not-lost Any (AllWaited g r.ready) by (RemovePid path) [] bs refl exits-any
-      (all-waited-on g r.ready) (λ past t k h. tt) (λ text fate t h. tt) all
+      (all-waited-on g r.ready) (λ past t k h. tt) (λ handed fate t h. tt) all
 
   removes-good : (path : Option FilePath) (note : PidNote) → IsGood (removes by path note (stopped by))
   removes-good None note = leave-good
@@ -156,9 +157,9 @@ module _ (r : Record) (pattern : Pattern) where
   stop-traced q =
       let rest = removes by r.pid_path r.note (stopped by) in
       let L = reverse r.ready in
-      quits-told by g due anyway Anyhow co not-lost Any exits-any (λ past x t h. tt) (λ text x fate t h. tt) L
+      quits-told by g due anyway Anyhow co not-lost Any exits-any (λ past x t h. tt) (λ handed x fate t h. tt) L
       (awaits_gone by g L rest) (λ past. ⊤) (λ past e h. tt)
-      (λ past1 q1 k1 told h1. waits-told by g due anyway Anyhow co not-lost Any exits-any (λ past x t h. tt) (λ text x fate t h. tt) (λ past x t late h. late) (λ text x fate t h. tt) L rest (λ l. (x : ℕ) → is_in L x ≡ true → Told g x l) (λ l e h x on. told-on g x l e (h x on)) (λ l h. h)
+      (λ past1 q1 k1 told h1. waits-told by g due anyway Anyhow co not-lost Any exits-any (λ past x t h. tt) (λ handed x fate t h. tt) (λ past x t late h. late) (λ handed x fate t h. tt) L rest (λ l. (x : ℕ) → is_in L x ≡ true → Told g x l) (λ l e h x on. told-on g x l e (h x on)) (λ l h. h)
       (λ past2 q2 k2 waited h2. removes-good r.pid_path r.note past2 q2 (λ x on. waited x (in-reverse r.ready x ∙ on)) tt) past1 q1 told tt) [] q tt tt
 
 ---- The manner
@@ -177,7 +178,7 @@ leave-due g ready past _ t e h = absurd (cc e)
 
 pub stop_manner : (quick : Bool) → InManner (Stop quick)
 stop_manner true t r turns pattern a =
-    never-called is_quit_call [] (plan_tree r (Stop true) []) pattern (start_at t r.note)
+    never-called is_quit_call None (plan_tree r (Stop true) []) pattern (start_at t r.note)
     (never-kills r.generation.image r.generation r.ready (removes r.generation.image r.pid_path r.note (stopped r.generation.image)) (never-removes r.generation.image r.pid_path r.note (stopped r.generation.image) (refl, (tt, tt))))
 stop_manner false t r turns pattern a =
     let tree = plan_tree r (Stop false) [] in
@@ -185,5 +186,5 @@ stop_manner false t r turns pattern a =
     let c = own_course r pattern in
     let asked = InOrder r.generation r.ready in
     let all = from-traced asked (λ past e q. ⊤) Anyhow c [] tree at (stop-traced r pattern at) a.spared (are-mild-anyhow c tree at) in
-    let ran = run_with [] tree pattern at in
+    let ran = run_with None tree pattern at in
     (kills-traced t asked (kill-due r.generation r.ready t) [] ran.entries ran.passed all.dues, leaves-traced r asked (leave-due r.generation r.ready) ran.entries ran.passed all.dues)

@@ -22,7 +22,7 @@ use Rattle.definitions.specs.Target.{want, wanted_at, sides_of}
 use Rattle.definitions.specs.After.{next_record, record_from, master_of, setup_after}
 use Rattle.definitions.specs.Tree.{Tree, Nothing}
 use Rattle.vocabulary.specs.declared.plans.Turn.{Turn}
-use Rattle.definitions.specs.Parts.{weave, joined}
+use Rattle.definitions.specs.Plans.{weave, joined}
 use Rattle.definitions.specs.Plans.{back_from, plan_tree, on, does, settle, spawn_edges, move_aside, back_alone}
 use Rattle.definitions.specs.Plans.{new_part, old_part, taken_over, relieve, upgrade_tree}
 use Rattle.definitions.specs.Service.{service}
@@ -99,7 +99,7 @@ module _ (c : Given) (turns : List Turn) where
       (failed_at (u c) (sc files) (grounded I P (co c) (acts c) gd) p) aside only
       (band-failed (u c) (sc files) (grounded I P (co c) (acts c) gd) none r (named (g c) (is_in (R c))) (length (R c)) 0 false [] p b')
       in
-      spawn-cases (co c).text c.rec.generation.image me image fate p.table
+      spawn-cases (co c).handed c.rec.generation.image me image fate p.table
       (λ st. Answers (u c) (sc files) (grounded I P (co c) (acts c) gd) order [] bs p st) failed failed failed
       (let m = q.table.next_process in
       let ne : m ≢ c.rec.pid = λ e. absurd (omega (arith, e, next, above)) in
@@ -136,7 +136,7 @@ module _ (c : Given) (turns : List Turn) where
       rule-step-at (u c) (sc c.t.files) (grounded I P (co c) (acts c) gd) order [] bs none r (named (g c) (is_in (R c)))
       (length (R c)) 0 false [] q refl b (λ es b' fate.
       let p = after_moment es q in
-      move-cases (co c).text c.rec.generation.image me path (oldbin path) fate p.table
+      move-cases (co c).handed c.rec.generation.image me path (oldbin path) fate p.table
       (λ st. Answers (u c) (sc c.t.files) (grounded I P (co c) (acts c) gd) order [] bs p st)
       (settle-old c [] (λ e. refl) (f c) 0 0 (inl (λ a. omega arith)) c.t.files c.rec.note r 1 [] (failed_at (u c) (sc c.t.files) (grounded I P (co c) (acts c) gd) p) c.start.agrees.files only
       (band-failed (u c) (sc c.t.files) (grounded I P (co c) (acts c) gd) none r (named (g c) (is_in (R c))) (length (R c)) 0 false [] p b'))

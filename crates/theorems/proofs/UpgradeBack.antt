@@ -124,7 +124,7 @@ module _ (c : Given) (returns : List Return) (fits : Fits c returns) where
         let order = Make (MovePid (oldbin path) path) in
         let bs = note_edges (Some InPlace) (Some AtOldbin) rest in
         rule-step (u c) (sc files c.rec.note) (grounded I P (co c) (acts c) (good files c.rec.note)) order [] bs none r t count k true ls q refl b (λ p b' fate.
-        move-cases (co c).text c.rec.generation.image (record { number = c.rec.pid; holds = H0 c }) (oldbin path) path
+        move-cases (co c).handed c.rec.generation.image (record { number = c.rec.pid; holds = H0 c }) (oldbin path) path
         fate p.table
         (λ st. Answers (u c) (sc files c.rec.note) (grounded I P (co c) (acts c) (good files c.rec.note)) order [] bs p st)
         (let b2 = band-failed (u c) (sc files c.rec.note) (grounded I P (co c) (acts c) (good files c.rec.note)) none r t count k true ls p b' in
@@ -176,8 +176,8 @@ module _ (c : Given) (returns : List Return) (fits : Fits c returns) where
         let one : OneOther (view v none r0) m = ((λ e. ne (sym e)), λ j e. eqb-is j m e) in
         let alone = alone-terminated (view v none r0) (w c m hs s r) p.table.rows one (λ e. absurd (omega (arith, e))) b'.beside.0 b'.looks in
         subst (λ st. Answers v (two files) (grounded I P (co c) (acts c) (good-two files)) order [] bs p st)
-        (sym (unfailing (co c).text c.rec.generation.image me (TermMaster (new c).image) fate p.table tt))
-        (next (after_call c.rec.generation.image order [] (own_step (co c).text c.rec.generation.image me (TermMaster (new c).image) p.table) p) (record {
+        (sym (unfailing (co c).handed c.rec.generation.image me (TermMaster (new c).image) fate p.table tt))
+        (next (after_call c.rec.generation.image order [] (own_step (co c).handed c.rec.generation.image me (TermMaster (new c).image) p.table) p) (record {
           looks = alone.looks;
           enough = b'.enough;
           secured = λ a e. omega (arith, b'.secured a e, alone.same t);

@@ -12,7 +12,7 @@ use Rattle.definitions.specs.Crew.{fds_of}
 use Rattle.vocabulary.specs.declared.calls.Reply.{Reply}
 use Rattle.vocabulary.specs.declared.calls.Reply.TheVariants as reply
 use Rattle.definitions.specs.Tree.{Tree, Branches, Nothing, Ends, Does}
-use Rattle.definitions.specs.Parts.{beside, graft}
+use Rattle.definitions.specs.Plans.{beside, graft}
 use Rattle.definitions.specs.Plans.{old_part, on, round, census, census_edges, fork_edges, await_any_edges, then_edge}
 use Rattle.definitions.specs.Run.{Progress}
 use Rattle.table_laws.proofs.Rows.{both-true}

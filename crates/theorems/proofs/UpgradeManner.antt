@@ -3,7 +3,7 @@ use Rattle.std.proofs.Common.{◌≡◌, ℕ, zero, suc, ◌<◌, Bool, true, fa
 use Rattle.std.proofs.Common.{sym, ap, ◌∙◌, subst, ◌⊎◌, inl, inr, ⊎_elim}
 use Rattle.std.specs.Prelude.{⊤, ◌&&◌, reverse}
 use Rattle.std.specs.List.{list_any}
-use Rattle.listener_set.specs.Numbers.{is_in}
+use Rattle.listener_set.specs.Numbers.{is_in, lacks}
 use Rattle.vocabulary.specs.declared.names.Name.{Name}
 use Rattle.vocabulary.specs.declared.calls.Call.{Call}
 use Rattle.vocabulary.specs.declared.calls.Call.TheVariants.{OpenAt, CloseAt, Fork, AwaitReady, Census, Adopt, WritePid}
@@ -24,9 +24,10 @@ use Rattle.definitions.specs.Crew.{Crew}
 use Rattle.definitions.specs.Target.{sides_of}
 use Rattle.definitions.specs.Exits.{after_exits}
 use Rattle.definitions.specs.Calls.{Stepped, gives, each_row, drop_where, census_of, is_exited_of, step_by, step_with}
+use Rattle.definitions.specs.Calls.{Handed}
 use Rattle.definitions.specs.Tree.{Tree, Branches, Ends, Does, Nothing, Branch, among, reply_of, call_of}
 use Rattle.definitions.specs.Plans.{upgrade_tree, settle, quits, awaits_gone, gone_edges, then_edge, does}
-use Rattle.definitions.specs.Run.{Progress, Lost, start_at, outcome_of, noted, after_call}
+use Rattle.definitions.specs.Run.{Progress, Lost, start_at, outcome_of, noted, after_call, ready_after}
 use Rattle.definitions.specs.Manner.{has_ready, is_lost, is_old_side, is_process_of, is_quit_of, is_wait_of}
 use Rattle.definitions.specs.Manner.{is_wait_call, is_late, is_leave_call, was_late, IsKillDue, KillsAreDue, Manner}
 use Rattle.definitions.specs.Claims.{names_any}
@@ -41,9 +42,7 @@ use Rattle.table_laws.proofs.Small.{in-reverse}
 use Rattle.run_laws.proofs.Logic.{Unasked, Anyhow, Course, course_after, are-mild-anyhow, refused_in, run_in}
 use Rattle.call_laws.proofs.Cases.{gone-cases, unfailing}
 use Rattle.run_laws.proofs.Processes.{AnyCall, Fact, one-found, fact-any, fact-exits, fact-steps}
-use Rattle.listener_set.specs.Numbers.{lacks}
 use Rattle.vocabulary.specs.declared.plans.Turn.{Turn}
-use Rattle.definitions.specs.Path.{ready_after}
 use Rattle.theorems.proofs.UpgradeMends.{Spares}
 use Rattle.run_laws.proofs.Lights.{settle-along, first-lacks}
 use Rattle.run_laws.proofs.Staying.{Unlost, Stands, standing, stands-any, stands-exits}
@@ -60,13 +59,13 @@ use Rattle.run_laws.proofs.Waits.{Told, AllWaited, told-on, all-waited-on, quits
 
 -- Whom a count of the old master lacks, where the count tells who is Ready.
 lacks-for :
-    (c : Given) (May : ℕ → Table → Type 0) (text : List ℕ) (fate : Option Fate) (t : Table) → step_with text
+    (c : Given) (May : ℕ → Table → Type 0) (handed : Handed) (fate : Option Fate) (t : Table) → step_with handed
     c.rec.generation.image (Census (g c)) fate t ≡ gives (answer.Counted (census_of c.rec.pid (g c) t.rows))
     (each_row (drop_where (is_exited_of c.rec.pid)) t) →
     ((x : ℕ) → is_in (R c) x ≡ true → is_in (census_of c.rec.pid (g c) t.rows) x ≡ false → May x (each_row (drop_where (is_exited_of c.rec.pid)) t))
-    → (cs : List ℕ) → (step_with text c.rec.generation.image (Census (g c)) fate t).answer ≡ answer.Counted cs → (x : ℕ)
-    (xs : List ℕ) → lacks (R c) cs ≡ x ∷ xs → May x (step_with text c.rec.generation.image (Census (g c)) fate t).table
-lacks-for c May text fate t is may cs e x xs l =
+    → (cs : List ℕ) → (step_with handed c.rec.generation.image (Census (g c)) fate t).answer ≡ answer.Counted cs → (x : ℕ)
+    (xs : List ℕ) → lacks (R c) cs ≡ x ∷ xs → May x (step_with handed c.rec.generation.image (Census (g c)) fate t).table
+lacks-for c May handed fate t is may cs e x xs l =
     let same : answer.Counted (census_of c.rec.pid (g c) t.rows) ≡ answer.Counted cs = sym (ap (λ (s : Stepped). s.answer) is) ∙ e in
     let cs_is : census_of c.rec.pid (g c) t.rows ≡ cs = ap (λ a. ready_after a []) same in
     let o = first-lacks (R c) cs x xs l in
@@ -123,8 +122,8 @@ module _ (c : Given) (p k : ℕ) (on : has_ready c.t p k ≡ true) where
       subst (λ z. Traced no_asking stays (Unlost p) (co c) past (awaits_gone c.rec.generation.image (g c) z rest) q) (sym is)
       (good-step no_asking stays (Unlost p) (co c) never-lost (λ t. ⊤) Free c.rec.generation.image (AwaitGone (g c) x) [] (edges xs rest x) refl (λ es t spared mild h. tt) (λ past t known h. tt)
       (λ past q' fate known h.
-      let st = step_with (co c).text c.rec.generation.image (AwaitGone (g c) x) fate q'.table in
-      robust-behind no_asking stays (Unlost p) (λ t. ⊤) Waits (λ es t h. tt) (λ text by call fate t h. tt)
+      let st = step_with (co c).handed c.rec.generation.image (AwaitGone (g c) x) fate q'.table in
+      robust-behind no_asking stays (Unlost p) (λ t. ⊤) Waits (λ es t h. tt) (λ handed by call fate t h. tt)
       (λ past e w. any-more (λ e. is_wait_call e.call) past e w) (λ past call t w h. tt)
       (λ past e q w h old none. absurd (cc (w, none))) (co c) (edges xs rest x)
       (past ++ entry_of c.rec.generation.image (AwaitGone (g c) x) st.answer ∷ []) (reply_of [] st.answer)
@@ -141,14 +140,14 @@ module _ (c : Given) (p k : ℕ) (on : has_ready c.t p k ≡ true) where
   relieved-it rest past q known h =
       let (x, xs, is) = first-of (reverse (R c)) (in-reverse (R c) k ∙ first-in c.t c.rec c.start p k on) in
       quits-told c.rec.generation.image (g c) no_asking stays (Unlost p) (co c) never-lost (λ t. ⊤)
-      (λ es t spared mild h. tt) (λ past x t h. tt) (λ text x fate t h. tt) (reverse (R c))
+      (λ es t spared mild h. tt) (λ past x t h. tt) (λ handed x fate t h. tt) (reverse (R c))
       (awaits_gone c.rec.generation.image (g c) (reverse (R c)) rest) Free (λ past e h. tt)
       (λ past q' k' told h'. waited-any (reverse (R c)) x xs rest is past q') past q tt tt
 
   any-it :
-      (text : List ℕ) (by : ℕ) (call : Call) (fate : Option Fate) (t : Table) → AnyCall c.rec.generation.image call →
-      F t → F (step_with text by call fate t).table
-  any-it text by call fate t is h = stands-any c.rec.pid c.rec.generation.image p c.rec.generation k low text by call fate t is h
+      (handed : Handed) (by : ℕ) (call : Call) (fate : Option Fate) (t : Table) → AnyCall c.rec.generation.image call →
+      F t → F (step_with handed by call fate t).table
+  any-it handed by call fate t is h = stands-any c.rec.pid c.rec.generation.image p c.rec.generation k low handed by call fate t is h
 
   asks-it : (past : List Entry) (call : Call) (t : Table) → AnyCall c.rec.generation.image call → F t → no_asking past call t
   asks-it past call t is h = tt
@@ -159,12 +158,12 @@ module _ (c : Given) (p k : ℕ) (on : has_ready c.t p k ≡ true) where
       record {
         May = λ x t. light.May (g c) x t;
         may_exits = λ x es t spared mild m. m;
-        may_any = λ x text image call fate t is m. m;
+        may_any = λ x handed image call fate t is m. m;
         lacked =
-            λ text fate t h cs e x xs l. lacks-for c (λ x t. light.May (g c) x t) text fate t
-            (light.counted text (g c) fate t h) (λ x on off. light.lacking (g c) (R c) t x tt h on off) cs e x xs l;
+            λ handed fate t h cs e x xs l. lacks-for c (λ x t. light.May (g c) x t) handed fate t
+            (light.counted handed (g c) fate t h) (λ x on off. light.lacking (g c) (R c) t x tt h on off) cs e x xs l;
         kill_due = λ past x t h m. tt;
-        kills = λ text x fate t h m. light.kills text (g c) x fate t h m;
+        kills = λ handed x fate t h m. light.kills handed (g c) x fate t h m;
       }
 
   pub stays-traced : (turns : List Turn) → Traced no_asking stays (Unlost p) (co c) [] (tree_of c turns) (start_at c.t c.rec.note)
@@ -248,17 +247,17 @@ module _ (c : Given) (p k : ℕ) (on : has_ready c.t p k ≡ true) where
   Cut x t = each_row (drop_where (is_worker is_any c.rec.pid (g c) x)) t
 
   kill-is :
-      (text : List ℕ) (x : ℕ) (fate : Option Fate) (t : Table) → Loose t →
-      step_with text c.rec.generation.image (Kill (g c) x) fate t ≡ gives answer.Fine (Cut x t)
-  kill-is text x fate t h =
+      (handed : Handed) (x : ℕ) (fate : Option Fate) (t : Table) → Loose t →
+      step_with handed c.rec.generation.image (Kill (g c) x) fate t ≡ gives answer.Fine (Cut x t)
+  kill-is handed x fate t h =
       let (hs, found) = one-found c.rec.pid c.rec.generation.image t.rows h.one.all h.one.some in
-      ap (λ (o : Option Caller). step_by text c.rec.generation.image o (Kill (g c) x) fate t) found ∙ unfailing text
+      ap (λ (o : Option Caller). step_by handed c.rec.generation.image o (Kill (g c) x) fate t) found ∙ unfailing handed
       c.rec.generation.image (record { number = c.rec.pid; holds = hs }) (Kill (g c) x) fate t tt
 
   cut-loose : (x : ℕ) (t : Table) → Loose t → Loose (Cut x t)
   cut-loose x t h =
-      subst (λ (st : Stepped). Loose st.table) (kill-is [] x None t h)
-      (fact-steps c.rec.pid c.rec.generation.image p _ _ (loose-lasts c.rec.pid c.rec.generation.image p c.rec.generation k low) [] (Kill (g c) x) None t tt h)
+      subst (λ (st : Stepped). Loose st.table) (kill-is None x None t h)
+      (fact-steps c.rec.pid c.rec.generation.image p _ _ (loose-lasts c.rec.pid c.rec.generation.image p c.rec.generation k low) None (Kill (g c) x) None t tt h)
 
   cut-absent : (t : Table) → Loose t → Absent p (Cut k t)
   cut-absent t h = record {
@@ -295,8 +294,8 @@ module _ (c : Given) (p k : ℕ) (on : has_ready c.t p k ≡ true) where
       let P : Stepped → Type 0 =
       λ st. TracedBehind LateFirst anyway Anyhow (co c) (past ++ entry_of by (AwaitGone (g c) x) st.answer ∷ []) bs
       (reply_of [] st.answer) (after_call c.rec.generation.image (Make (AwaitGone (g c) x)) [] st q') in
-      subst (λ (o : Option Caller). P (step_by (co c).text by o (AwaitGone (g c) x) fate q'.table)) (sym found)
-      (gone-cases (co c).text by (record { number = c.rec.pid; holds = hs }) (g c) x fate q'.table P
+      subst (λ (o : Option Caller). P (step_by (co c).handed by o (AwaitGone (g c) x) fate q'.table)) (sym found)
+      (gone-cases (co c).handed by (record { number = c.rec.pid; holds = hs }) (g c) x fate q'.table P
       (let late = entry_of by (AwaitGone (g c) x) answer.Late in
       let was : was_late (g c) x (past ++ late ∷ []) ≡ true =
       then-last (λ e. is_quit_of (g c) x e.call) (λ e. is_wait_of (g c) x e.call && is_late e.answer) past late
@@ -305,8 +304,8 @@ module _ (c : Given) (p k : ℕ) (on : has_ready c.t p k ≡ true) where
       (λ l. (was_late (g c) x l ≡ true) × ((j : ℕ) → is_in ks j ≡ true → Told (g c) j l)) by (Kill (g c) x) []
       (then_edge more) refl exits-loose (λ past t k h taken. k.0)
       (λ past2 q2 fate2 k2 h2.
-      let st = step_with (co c).text by (Kill (g c) x) fate2 q2.table in
-      let is = kill-is (co c).text x fate2 q2.table h2 in
+      let st = step_with (co c).handed by (Kill (g c) x) fate2 q2.table in
+      let is = kill-is (co c).handed x fate2 q2.table h2 in
       subst
       (λ (st : Stepped). TracedBehind LateFirst anyway Anyhow (co c) (past2 ++ entry_of by (Kill (g c) x) st.answer ∷ []) (then_edge more) (reply_of [] st.answer) (after_call c.rec.generation.image (Make (Kill (g c) x)) [] st q2))
       (sym is)
@@ -324,17 +323,17 @@ module _ (c : Given) (p k : ℕ) (on : has_ready c.t p k ≡ true) where
       (quits c.rec.generation.image (g c) (reverse (R c)) (awaits_gone c.rec.generation.image (g c) (reverse (R c)) rest))
   relieved-close rest past q known h =
       quits-told c.rec.generation.image (g c) LateFirst anyway Anyhow (co c) not-lost Loose exits-loose (λ past x t h. tt)
-      (λ text x fate t h. fact-steps c.rec.pid c.rec.generation.image p _ _ (loose-lasts c.rec.pid c.rec.generation.image p c.rec.generation k low) text (Quit (g c) x) fate t tt h)
+      (λ handed x fate t h. fact-steps c.rec.pid c.rec.generation.image p _ _ (loose-lasts c.rec.pid c.rec.generation.image p c.rec.generation k low) handed (Quit (g c) x) fate t tt h)
       (reverse (R c)) (awaits_gone c.rec.generation.image (g c) (reverse (R c)) rest) Free (λ past e h. tt)
       (λ past q' k' told h'. waits-late (reverse (R c)) rest (in-reverse (R c) k ∙ first-in c.t c.rec c.start p k on) past q' told h') past q tt
       (loosens c.rec.pid c.rec.generation.image p c.rec.generation k low q.table h)
 
   any-close :
-      (text : List ℕ) (by : ℕ) (call : Call) (fate : Option Fate) (t : Table) → AnyCall c.rec.generation.image call →
-      Close t → Close (step_with text by call fate t).table
-  any-close text by call fate t is h =
+      (handed : Handed) (by : ℕ) (call : Call) (fate : Option Fate) (t : Table) → AnyCall c.rec.generation.image call →
+      Close t → Close (step_with handed by call fate t).table
+  any-close handed by call fate t is h =
       fact-any c.rec.pid c.rec.generation.image p _ _
-      (close-lasts c.rec.pid c.rec.generation.image p c.rec.generation k low) [] text by call fate t is h
+      (close-lasts c.rec.pid c.rec.generation.image p c.rec.generation k low) [] handed by call fate t is h
 
   asks-close : (past : List Entry) (call : Call) (t : Table) → AnyCall c.rec.generation.image call → Close t → LateFirst past call t
   asks-close past call t is h = unasked-late past call t is
@@ -347,12 +346,12 @@ module _ (c : Given) (p k : ℕ) (on : has_ready c.t p k ≡ true) where
         may_exits =
             λ x es t spared mild m. may-exits c.rec.pid c.rec.generation.image p c.rec.generation k low es t (g c) x
             (spares-each (co c).executing c.rec.generation.image es (acts c) spared) m;
-        may_any = λ x text image call fate t is m. may-any c.rec.pid c.rec.generation.image p c.rec.generation k low text image call fate t (g c) x is m;
+        may_any = λ x handed image call fate t is m. may-any c.rec.pid c.rec.generation.image p c.rec.generation k low handed image call fate t (g c) x is m;
         lacked =
-            λ text fate t h cs e x xs l. lacks-for c (λ x t. light.May (g c) x t) text fate t
-            (light.counted text (g c) fate t h) (λ x on off. light.lacking (g c) (R c) t x tt h on off) cs e x xs l;
+            λ handed fate t h cs e x xs l. lacks-for c (λ x t. light.May (g c) x t) handed fate t
+            (light.counted handed (g c) fate t h) (λ x on off. light.lacking (g c) (R c) t x tt h on off) cs e x xs l;
         kill_due = λ past x t h m. not-taken-late past (Kill (g c) x) t (light.kill_due (g c) x t h m);
-        kills = λ text x fate t h m. light.kills text (g c) x fate t h m;
+        kills = λ handed x fate t h m. light.kills handed (g c) x fate t h m;
       }
 
   pub late-traced : (turns : List Turn) → Traced LateFirst anyway Anyhow (co c) [] (tree_of c turns) (start_at c.t c.rec.note)
@@ -432,9 +431,9 @@ module _ (c : Given) where
       let by = c.rec.generation.image in
       let L = reverse (R c) in
       quits-told by (g c) WaitedFirst whatever Anyhow (co c) not-lost-either Any exits-any (λ past x t h. tt)
-      (λ text x fate t h. tt) L (awaits_gone by (g c) L rest) Free (λ past e h. tt)
-      (λ past1 q1 k1 told h1. waits-told by (g c) WaitedFirst whatever Anyhow (co c) not-lost-either Any exits-any (λ past x t h. tt) (λ text x fate t h. tt) (λ past x t late h. tt) (λ text x fate t h. tt) L rest (λ l. (x : ℕ) → is_in L x ≡ true → Told (g c) x l) (λ l e h x on. told-on (g c) x l e (h x on)) (λ l h. h)
-      (λ past2 q2 k2 waited h2. robust WaitedFirst whatever Anyhow Any (AllWaited (g c) (R c)) (λ es t h. tt) (λ text by call fate t h. tt) (all-waited-on (g c) (R c)) asked (λ past e q k h. tt) (co c) rest past2 q2 (λ x on. waited x (in-reverse (R c) x ∙ on)) tt)
+      (λ handed x fate t h. tt) L (awaits_gone by (g c) L rest) Free (λ past e h. tt)
+      (λ past1 q1 k1 told h1. waits-told by (g c) WaitedFirst whatever Anyhow (co c) not-lost-either Any exits-any (λ past x t h. tt) (λ handed x fate t h. tt) (λ past x t late h. tt) (λ handed x fate t h. tt) L rest (λ l. (x : ℕ) → is_in L x ≡ true → Told (g c) x l) (λ l e h x on. told-on (g c) x l e (h x on)) (λ l h. h)
+      (λ past2 q2 k2 waited h2. robust WaitedFirst whatever Anyhow Any (AllWaited (g c) (R c)) (λ es t h. tt) (λ handed by call fate t h. tt) (all-waited-on (g c) (R c)) asked (λ past e q k h. tt) (co c) rest past2 q2 (λ x on. waited x (in-reverse (R c) x ∙ on)) tt)
       past1 q1 told tt) past q tt tt
     where
       asked : (past : List Entry) (call : Call) (t : Table) → AllWaited (g c) (R c) past → Any t → WaitedFirst past call t
@@ -442,9 +441,9 @@ module _ (c : Given) where
       asked past _ t k h = tt
 
   any-any :
-      (text : List ℕ) (by : ℕ) (call : Call) (fate : Option Fate) (t : Table) → AnyCall c.rec.generation.image call →
-      Any t → Any (step_with text by call fate t).table
-  any-any text by call fate t is h = tt
+      (handed : Handed) (by : ℕ) (call : Call) (fate : Option Fate) (t : Table) → AnyCall c.rec.generation.image call →
+      Any t → Any (step_with handed by call fate t).table
+  any-any handed by call fate t is h = tt
 
   asks-any : (past : List Entry) (call : Call) (t : Table) → AnyCall c.rec.generation.image call → Any t → WaitedFirst past call t
   asks-any past call t is h = stays-on past call t (any-stays c.rec.generation.image call is)
@@ -453,10 +452,10 @@ module _ (c : Given) where
   spares-any = record {
     May = λ x t. ⊤;
     may_exits = λ x es t spared mild m. tt;
-    may_any = λ x text image call fate t is m. tt;
-    lacked = λ text fate t h cs e x xs l. tt;
+    may_any = λ x handed image call fate t is m. tt;
+    lacked = λ handed fate t h cs e x xs l. tt;
     kill_due = λ past x t h m. tt;
-    kills = λ text x fate t h m. tt;
+    kills = λ handed x fate t h m. tt;
   }
 
   pub leave-traced : (turns : List Turn) → Traced WaitedFirst whatever Anyhow (co c) [] (tree_of c turns) (start_at c.t c.rec.note)

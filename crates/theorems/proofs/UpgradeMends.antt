@@ -19,15 +19,14 @@ use Rattle.vocabulary.specs.declared.plans.Turn.TheVariants as turn
 use Rattle.vocabulary.specs.declared.reports.Entry.{Entry}
 use Rattle.definitions.specs.Table.{Table, Caller, live_master}
 use Rattle.definitions.specs.Exits.{after_exits}
-use Rattle.definitions.specs.Calls.{Stepped, step_by, step_with}
+use Rattle.definitions.specs.Calls.{Stepped, step_by, step_with, Handed}
 use Rattle.definitions.specs.Crew.{fork_of}
 use Rattle.definitions.specs.Manner.{is_leave_call}
 use Rattle.definitions.specs.Tree.{Tree, Branches, Ends, Does, Nothing, Branch, among, full_or_short, lowest, reply_of, plain_reply, replies_to}
-use Rattle.definitions.specs.Parts.{beside, graft, weave, joined}
-use Rattle.definitions.specs.Path.{Lack, lacked_by, lacked_after}
+use Rattle.definitions.specs.Plans.{beside, graft, weave, joined}
+use Rattle.definitions.specs.Run.{Lack, lacked_by, lacked_after, Progress, Lost, noted, after_call}
 use Rattle.run_laws.proofs.Rules.{own-lacked}
 use Rattle.definitions.specs.Plans.{on, others, round, census, census_edges, fork_edges, await_any_edges, then_edge, tries, tries_all}
-use Rattle.definitions.specs.Run.{Progress, Lost, noted, after_call}
 use Rattle.definitions.specs.Claims.{names_any}
 use Rattle.run_laws.proofs.Logic.{Exiting}
 use Rattle.call_laws.proofs.Cases.{fork-cases, await-cases, open-cases, adopt-cases, unfailing}
@@ -48,34 +47,34 @@ PartCall _ = ⊥
 
 -- what the last count lacked stays
 keeps-by :
-    (text : List ℕ) (image : ℕ) (call : Call) (fate : Option Fate) (t : Table) (o : Option Caller) (l : List Lack) →
-    PartCall call → lacked_after image [] (step_by text image o call fate t).answer l ≡ l
-keeps-by text image call fate t None l is = refl
-keeps-by text image (OpenAt a) fate t (Some c) l is =
-    open-cases text image c a fate t (λ st. lacked_after image [] st.answer l ≡ l) refl refl refl refl
+    (handed : Handed) (image : ℕ) (call : Call) (fate : Option Fate) (t : Table) (o : Option Caller) (l : List Lack) →
+    PartCall call → lacked_after image [] (step_by handed image o call fate t).answer l ≡ l
+keeps-by handed image call fate t None l is = refl
+keeps-by handed image (OpenAt a) fate t (Some c) l is =
+    open-cases handed image c a fate t (λ st. lacked_after image [] st.answer l ≡ l) refl refl refl refl
     (λ off room. refl)
-keeps-by text image (CloseAt a) fate t (Some c) l is =
-    subst (λ (st : Stepped). lacked_after image [] st.answer l ≡ l) (sym (unfailing text image c (CloseAt a) fate t tt))
+keeps-by handed image (CloseAt a) fate t (Some c) l is =
+    subst (λ (st : Stepped). lacked_after image [] st.answer l ≡ l) (sym (unfailing handed image c (CloseAt a) fate t tt))
     refl
-keeps-by text image (Kill h x) fate t (Some c) l is =
-    subst (λ (st : Stepped). lacked_after image [] st.answer l ≡ l) (sym (unfailing text image c (Kill h x) fate t tt))
+keeps-by handed image (Kill h x) fate t (Some c) l is =
+    subst (λ (st : Stepped). lacked_after image [] st.answer l ≡ l) (sym (unfailing handed image c (Kill h x) fate t tt))
     refl
-keeps-by text image (Fork h x fds) fate t (Some c) l is =
-    fork-cases text image c h x fds fate t (λ st. lacked_after image [] st.answer l ≡ l) refl refl (λ off. refl)
-keeps-by text image (AwaitReady h x) fate t (Some c) l is =
-    await-cases text image c h x fate t (λ st. lacked_after image [] st.answer l ≡ l) refl (λ on. refl) (λ off. refl)
-keeps-by text image Adopt fate t (Some c) l is = adopt-cases text image c fate t (λ st. lacked_after image [] st.answer l ≡ l) refl refl
-keeps-by text image _ fate t (Some c) l is = absurd is
+keeps-by handed image (Fork h x fds) fate t (Some c) l is =
+    fork-cases handed image c h x fds fate t (λ st. lacked_after image [] st.answer l ≡ l) refl refl (λ off. refl)
+keeps-by handed image (AwaitReady h x) fate t (Some c) l is =
+    await-cases handed image c h x fate t (λ st. lacked_after image [] st.answer l ≡ l) refl (λ on. refl) (λ off. refl)
+keeps-by handed image Adopt fate t (Some c) l is = adopt-cases handed image c fate t (λ st. lacked_after image [] st.answer l ≡ l) refl refl
+keeps-by handed image _ fate t (Some c) l is = absurd is
 
 keeps-lacking :
-    (text : List ℕ) (image : ℕ) (call : Call) (fate : Option Fate) (t : Table) (l : List Lack) → PartCall call →
-    lacked_after image [] (step_with text image call fate t).answer l ≡ l
-keeps-lacking text image call fate t l is = keeps-by text image call fate t (live_master image t.rows) l is
+    (handed : Handed) (image : ℕ) (call : Call) (fate : Option Fate) (t : Table) (l : List Lack) → PartCall call →
+    lacked_after image [] (step_with handed image call fate t).answer l ≡ l
+keeps-lacking handed image call fate t l is = keeps-by handed image call fate t (live_master image t.rows) l is
 
 module _ (c : Given) (due : Asking) (post : Finally) (mild : Exiting)
     (lost : (past : List Entry) (p : Progress) → post past Lost p) (F : Table → Type 0)
     (exits : (es : List Name) (t : Table) → names_any (co c).executing es ≡ false → mild es t.rows → F t → F (after_exits es t))
-    (any : (text : List ℕ) (image : ℕ) (call : Call) (fate : Option Fate) (t : Table) → AnyCall (by c) call → F t → F (step_with text image call fate t).table)
+    (any : (handed : Handed) (image : ℕ) (call : Call) (fate : Option Fate) (t : Table) → AnyCall (by c) call → F t → F (step_with handed image call fate t).table)
     (asks : (past : List Entry) (call : Call) (t : Table) → AnyCall (by c) call → F t → due past call t) where
   -- Of each number whether its worker may be killed: so it is of one that a count of the old master lacks, and no exit and no call
   -- changes that; and a kill then keeps the fact.
@@ -83,14 +82,14 @@ module _ (c : Given) (due : Asking) (post : Finally) (mild : Exiting)
     pub May : ℕ → Table → Type 0
     pub may_exits : (x : ℕ) (es : List Name) (t : Table) → names_any (co c).executing es ≡ false → mild es t.rows → May x t → May x (after_exits es t)
     pub may_any :
-        (x : ℕ) (text : List ℕ) (image : ℕ) (call : Call) (fate : Option Fate) (t : Table) → AnyCall (by c) call →
-        May x t → May x (step_with text image call fate t).table
+        (x : ℕ) (handed : Handed) (image : ℕ) (call : Call) (fate : Option Fate) (t : Table) → AnyCall (by c) call →
+        May x t → May x (step_with handed image call fate t).table
     pub lacked :
-        (text : List ℕ) (fate : Option Fate) (t : Table) → F t → (cs : List ℕ) →
-        (step_with text (by c) (Census (g c)) fate t).answer ≡ answer.Counted cs → (x : ℕ) (xs : List ℕ) →
-        lacks (R c) cs ≡ x ∷ xs → May x (step_with text (by c) (Census (g c)) fate t).table
+        (handed : Handed) (fate : Option Fate) (t : Table) → F t → (cs : List ℕ) →
+        (step_with handed (by c) (Census (g c)) fate t).answer ≡ answer.Counted cs → (x : ℕ) (xs : List ℕ) →
+        lacks (R c) cs ≡ x ∷ xs → May x (step_with handed (by c) (Census (g c)) fate t).table
     pub kill_due : (past : List Entry) (x : ℕ) (t : Table) → F t → May x t → due past (Kill (g c) x) t
-    pub kills : (text : List ℕ) (x : ℕ) (fate : Option Fate) (t : Table) → F t → May x t → F (step_with text (by c) (Kill (g c) x) fate t).table
+    pub kills : (handed : Handed) (x : ℕ) (fate : Option Fate) (t : Table) → F t → May x t → F (step_with handed (by c) (Kill (g c) x) fate t).table
 
   module _ (sp : Spares) where
     abbrev pub Tr : List Entry → Tree → Progress → Type 0
@@ -124,13 +123,13 @@ module _ (c : Given) (due : Asking) (post : Finally) (mild : Exiting)
     kept-exits (Over end) es t spared calm k = tt
 
     kept-any :
-        (place : Place) (text : List ℕ) (image : ℕ) (call : Call) (fate : Option Fate) (t : Table) →
-        AnyCall (by c) call → Kept place t → Kept place (step_with text image call fate t).table
-    kept-any (Counts rounds) text image call fate t is k = tt
-    kept-any (Forks rounds x xs) text image call fate t is k = sp.may_any x text image call fate t is k
-    kept-any (Waits rounds x xs) text image call fate t is k = sp.may_any x text image call fate t is k
-    kept-any (Kills rounds x xs) text image call fate t is k = sp.may_any x text image call fate t is k
-    kept-any (Over end) text image call fate t is k = tt
+        (place : Place) (handed : Handed) (image : ℕ) (call : Call) (fate : Option Fate) (t : Table) →
+        AnyCall (by c) call → Kept place t → Kept place (step_with handed image call fate t).table
+    kept-any (Counts rounds) handed image call fate t is k = tt
+    kept-any (Forks rounds x xs) handed image call fate t is k = sp.may_any x handed image call fate t is k
+    kept-any (Waits rounds x xs) handed image call fate t is k = sp.may_any x handed image call fate t is k
+    kept-any (Kills rounds x xs) handed image call fate t is k = sp.may_any x handed image call fate t is k
+    kept-any (Over end) handed image call fate t is k = tt
 
     listed-same : (place : Place) (l l' : List ℕ) → l' ≡ l → Listed place l → Listed place l'
     listed-same place l l' same h = subst (λ x. Listed place x) (sym same) h
@@ -224,11 +223,11 @@ module _ (c : Given) (due : Asking) (post : Finally) (mild : Exiting)
         let call = Census (g c) in
         ordered-step due post mild (co c) lost F (by c) (Make call) (R c) (census_edges ok short) past q refl exits h (λ t h'. asks past call t tt h')
         (λ q' fate h' same.
-        let st = step_with (co c).text (by c) call fate q'.table in
+        let st = step_with (co c).handed (by c) call fate q'.table in
         counted-edge ok short on_ok on_short st.answer (past ++ entry_of (by c) call st.answer ∷ [])
-        (after_call (by c) (Make call) (R c) st q') (any (co c).text (by c) call fate q'.table tt h')
+        (after_call (by c) (Make call) (R c) st q') (any (co c).handed (by c) call fate q'.table tt h')
         (λ cs e. ap (λ a. lacked_by (by c) (lacked_after (by c) (R c) a q'.lacked)) e ∙ own-lacked (by c) (R c) cs q'.lacked)
-        (λ cs e x xs l. sp.lacked (co c).text fate q'.table h' cs e x xs l))
+        (λ cs e x xs l. sp.lacked (co c).handed fate q'.table h' cs e x xs l))
 
     last-good :
         (rest : Tree) → ((past : List Entry) (q : Progress) → F q.table → Tr past rest q) →
@@ -239,9 +238,9 @@ module _ (c : Given) (due : Asking) (post : Finally) (mild : Exiting)
         ordered-step due post mild (co c) lost F (by c) (Make call) (R c)
         (on (reply.Full ∷ reply.Short ∷ []) rest Nothing) past q refl exits h (λ t h'. asks past call t tt h')
         (λ q' fate h' same.
-        let st = step_with (co c).text (by c) call fate q'.table in
+        let st = step_with (co c).handed (by c) call fate q'.table in
         last-edge rest next st.answer (past ++ entry_of (by c) call st.answer ∷ [])
-        (after_call (by c) (Make call) (R c) st q') (any (co c).text (by c) call fate q'.table tt h'))
+        (after_call (by c) (Make call) (R c) st q') (any (co c).handed (by c) call fate q'.table tt h'))
 
     fork-good :
         (wait rest : Tree) (rounds x : ℕ) (xs : List ℕ) → GoodAt (Waits rounds x xs) wait →
@@ -254,12 +253,12 @@ module _ (c : Given) (due : Asking) (post : Finally) (mild : Exiting)
         (λ es t spared calm b. (exits es t spared calm b.0, sp.may_exits x es t spared calm b.1)) (h, may)
         (λ t b. asks past call t tt b.0)
         (λ q' fate b same.
-        let st = step_with (co c).text (by c) call fate q'.table in
+        let st = step_with (co c).handed (by c) call fate q'.table in
         let past' = past ++ entry_of (by c) call st.answer ∷ [] in
         let q'' = after_call (by c) (ForkLacking (old_crew c)) [] st q' in
-        let h'' = any (co c).text (by c) call fate q'.table tt b.0 in
+        let h'' = any (co c).handed (by c) call fate q'.table tt b.0 in
         all-tr past' (fork_edges wait rest) (reply_of [] st.answer) q''
-        (on_wait past' q'' h'' (ap (λ (l : List Lack). lacked_by (by c) l) (keeps-lacking (co c).text (by c) call fate q'.table q'.lacked tt ∙ same) ∙ is) (sp.may_any x (co c).text (by c) call fate q'.table tt b.1), (on_rest past' q'' h'' tt tt, tt)))
+        (on_wait past' q'' h'' (ap (λ (l : List Lack). lacked_by (by c) l) (keeps-lacking (co c).handed (by c) call fate q'.table q'.lacked tt ∙ same) ∙ is) (sp.may_any x (co c).handed (by c) call fate q'.table tt b.1), (on_rest past' q'' h'' tt tt, tt)))
 
     wait-good :
         (rest late : Tree) (rounds x : ℕ) (xs : List ℕ) → GoodAt (Counts rounds) rest →
@@ -271,12 +270,12 @@ module _ (c : Given) (due : Asking) (post : Finally) (mild : Exiting)
         (λ es t spared calm b. (exits es t spared calm b.0, sp.may_exits x es t spared calm b.1)) (h, may)
         (λ t b. asks past call t tt b.0)
         (λ q' fate b same.
-        let st = step_with (co c).text (by c) call fate q'.table in
+        let st = step_with (co c).handed (by c) call fate q'.table in
         let past' = past ++ entry_of (by c) call st.answer ∷ [] in
         let q'' = after_call (by c) (AwaitLacking (g c)) [] st q' in
-        let h'' = any (co c).text (by c) call fate q'.table tt b.0 in
+        let h'' = any (co c).handed (by c) call fate q'.table tt b.0 in
         all-tr past' (await_any_edges rest late) (reply_of [] st.answer) q''
-        (on_rest past' q'' h'' tt tt, (on_late past' q'' h'' (ap (λ (l : List Lack). lacked_by (by c) l) (keeps-lacking (co c).text (by c) call fate q'.table q'.lacked tt ∙ same) ∙ is) (sp.may_any x (co c).text (by c) call fate q'.table tt b.1), tt)))
+        (on_rest past' q'' h'' tt tt, (on_late past' q'' h'' (ap (λ (l : List Lack). lacked_by (by c) l) (keeps-lacking (co c).handed (by c) call fate q'.table q'.lacked tt ∙ same) ∙ is) (sp.may_any x (co c).handed (by c) call fate q'.table tt b.1), tt)))
 
     kill-good : (rest : Tree) (rounds x : ℕ) (xs : List ℕ) → GoodAt (Counts rounds) rest → GoodAt (Kills rounds x xs) (killing c rest)
     kill-good rest rounds x xs on_rest past q h is may =
@@ -285,12 +284,12 @@ module _ (c : Given) (due : Asking) (post : Finally) (mild : Exiting)
         past q refl (λ es t spared calm b. (exits es t spared calm b.0, sp.may_exits x es t spared calm b.1)) (h, may)
         (λ t b. subst (λ (l : List ℕ). due past (Kill (g c) (lowest l)) t) (sym is) (sp.kill_due past x t b.0 b.1))
         (λ q' fate b same.
-        let st = step_with (co c).text (by c) call fate q'.table in
+        let st = step_with (co c).handed (by c) call fate q'.table in
         let past' = past ++ entry_of (by c) call st.answer ∷ [] in
         let q'' = after_call (by c) (KillLacking (g c)) [] st q' in
         let h'' =
-        subst (λ (l : List ℕ). F (step_with (co c).text (by c) (Kill (g c) (lowest l)) fate q'.table).table)
-        (sym is) (sp.kills (co c).text x fate q'.table b.0 b.1) in
+        subst (λ (l : List ℕ). F (step_with (co c).handed (by c) (Kill (g c) (lowest l)) fate q'.table).table)
+        (sym is) (sp.kills (co c).handed x fate q'.table b.0 b.1) in
         all-tr past' (then_edge rest) (reply_of [] st.answer) q'' (on_rest past' q'' h'' tt tt, tt))
 
     ---- Beside a step of the new part, and alone
@@ -395,15 +394,15 @@ module _ (c : Given) (due : Asking) (post : Finally) (mild : Exiting)
           (λ es t spared calm b. (exits es t spared calm b.0, kept-exits there es t spared calm b.1)) (h, k)
           (λ t b. asks past call t is b.0)
           (λ q' fate b same.
-          let st = step_with (co c).text (new c).image call fate q'.table in
+          let st = step_with (co c).handed (new c).image call fate q'.table in
           let past' = past ++ entry_of (new c).image call st.answer ∷ [] in
           let q'' = after_call (new c).image (Make call) [] st q' in
-          let h'' = any (co c).text (new c).image call fate q'.table is b.0 in
+          let h'' = any (co c).handed (new c).image call fate q'.table is b.0 in
           let l'' =
           listed-same there (lacked_by (by c) q.lacked) (lacked_by (by c) q''.lacked)
-          (ap (λ (l : List Lack). lacked_by (by c) l) (keeps-lacking (co c).text (new c).image call fate q'.table q'.lacked part) ∙ ap (λ (l : List Lack). lacked_by (by c) l) same)
+          (ap (λ (l : List Lack). lacked_by (by c) l) (keeps-lacking (co c).handed (new c).image call fate q'.table q'.lacked part) ∙ ap (λ (l : List Lack). lacked_by (by c) l) same)
           l in
-          let k'' = kept-any there (co c).text (new c).image call fate q'.table is b.1 in
+          let k'' = kept-any there (co c).handed (new c).image call fate q'.table is b.1 in
           all-tr past' bs (reply_of [] st.answer) q'' (next later there past' q'' h'' l'' k'', (alone-good back back_good there past' q'' h'' l'' k'', tt))))
           turns place
 

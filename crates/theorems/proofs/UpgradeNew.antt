@@ -21,8 +21,7 @@ use Rattle.definitions.specs.Exits.{change}
 use Rattle.definitions.specs.Manner.{is_leave_call}
 use Rattle.definitions.specs.Tree.{Tree, Branches, Nothing, plain_reply, replies_to, reply_of}
 use Rattle.definitions.specs.Plans.{on, others, tries, back_from}
-use Rattle.definitions.specs.Path.{first_cause, Lack, lacked_by}
-use Rattle.definitions.specs.Run.{Ending, Progress, after_moment, after_call, answered}
+use Rattle.definitions.specs.Run.{first_cause, Lack, lacked_by, Ending, Progress, after_moment, after_call, answered}
 use Rattle.definitions.specs.Claims.{names_any}
 use Rattle.run_laws.proofs.Refusals.{is_leave}
 use Rattle.table_laws.proofs.Rows.{both-true}
@@ -192,7 +191,7 @@ module _ (c : Given) (m : ℕ) (ne : m ≢ c.rec.pid) where
       pub step :
           (call : Call) (set : List ℕ) (rest : Tree) (x : Doing) (q : Progress) → is_leave_call call ≡ false → Held x s0
           r0 k0 w0 ls0 q →
-          ((q' : Progress) → Held x s0 r0 k0 w0 ls0 q' → Looks (w c m x.hs x.s x.r) q'.table.rows → (fate : Option Fate) → Edge call rest set q' (step_by (co c).text image (Some (record { number = m; holds = x.hs })) call fate q'.table))
+          ((q' : Progress) → Held x s0 r0 k0 w0 ls0 q' → Looks (w c m x.hs x.s x.r) q'.table.rows → (fate : Option Fate) → Edge call rest set q' (step_by (co c).handed image (Some (record { number = m; holds = x.hs })) call fate q'.table))
           → ((q' : Progress) → Held x s0 r0 k0 w0 ls0 q' → Edge call rest set q' (gives answer.MasterGone q'.table)) →
           Goes c (co c) (tries image call set rest back) q
       step call set rest x q stays b own gone =
@@ -210,16 +209,16 @@ module _ (c : Given) (m : ℕ) (ne : m ≢ c.rec.pid) where
             band-inv v (sc x) (grounded I P (co c) (acts c) (good x)) s0 r0 (named (g c) (is_in (R c))) (length (R c)) k0 w0 ls0 middle b',
             tt,
             subst
-                (λ (y : Course). Behind I P Anyhow Unasked y (edges call rest) (reply_of set (answered (co c).text image order moment.fate middle).answer) (after_call image order set (answered (co c).text image order moment.fate middle) middle))
+                (λ (y : Course). Behind I P Anyhow Unasked y (edges call rest) (reply_of set (answered (co c).handed image order moment.fate middle).answer) (after_call image order set (answered (co c).handed image order moment.fate middle) middle))
                 (sym after)
-                (⊎_elim (λ looks. subst (λ (o : Option Caller). Edge call rest set middle (step_by (co c).text image o call moment.fate middle.table)) (sym (finds (w c m x.hs x.s x.r) middle.table.rows looks)) (own middle b' looks moment.fate))
-                (λ dead. subst (λ (o : Option Caller). Edge call rest set middle (step_by (co c).text image o call moment.fate middle.table)) (sym (dead-none (w c m x.hs x.s x.r) middle.table.rows dead)) (gone middle b'))
+                (⊎_elim (λ looks. subst (λ (o : Option Caller). Edge call rest set middle (step_by (co c).handed image o call moment.fate middle.table)) (sym (finds (w c m x.hs x.s x.r) middle.table.rows looks)) (own middle b' looks moment.fate))
+                (λ dead. subst (λ (o : Option Caller). Edge call rest set middle (step_by (co c).handed image o call moment.fate middle.table)) (sym (dead-none (w c m x.hs x.s x.r) middle.table.rows dead)) (gone middle b'))
                 b'.beside.0),
           )
         where
           go :
               (b : Bool) → b ≡ false → record
-              { text = (co c).text; pattern = (co c).pattern; executing = if b then (co c).heirs else (co c).executing; heirs = (co c).heirs }
+              { handed = (co c).handed; pattern = (co c).pattern; executing = if b then (co c).heirs else (co c).executing; heirs = (co c).heirs }
               ≡ co c
           go true e = absurd (cc)
           go false e = refl
@@ -232,7 +231,7 @@ module _ (c : Given) (m : ℕ) (ne : m ≢ c.rec.pid) where
           Goes c (co c) (tries image Adopt [] rest back) q
       try-adopt rest x q aside next b =
           step Adopt [] rest x q refl b
-          (λ q' b' looks fate. adopt-cases (co c).text image (me x) fate q'.table (λ st. Edge Adopt rest [] q' st) (just-failed x q' aside b')
+          (λ q' b' looks fate. adopt-cases (co c).handed image (me x) fate q'.table (λ st. Edge Adopt rest [] q' st) (just-failed x q' aside b')
           (next (plain_with q'.table q'.ready q'.lacking q'.lacked q') (held-plain x x q'.table q'.ready q'.lacking q'.lacked q' b' b'.still.files_stay refl b'.lacking (still-framed q' b'.looks) b'.beside)))
           (λ q' b'. just-failed x q' aside b')
 
@@ -243,11 +242,11 @@ module _ (c : Given) (m : ℕ) (ne : m ≢ c.rec.pid) where
       try-close rest a x q aside next b =
           step (CloseAt a) [] rest x q refl b
           (λ q' b' looks fate.
-          let t' = (own_step (co c).text image (me x) (CloseAt a) q'.table).table in
+          let t' = (own_step (co c).handed image (me x) (CloseAt a) q'.table).table in
           let framed =
           framed-change (view v s0 r0) m (is_of m) (with_holds (lacks_address a)) q'.table.rows (apart s0 r0)
           (mine-of m, λ k zs. refl) (holds-stay (lacks_address a)) b'.looks in
-          subst (λ st. Edge (CloseAt a) rest [] q' st) (sym (unfailing (co c).text image (me x) (CloseAt a) fate q'.table tt))
+          subst (λ st. Edge (CloseAt a) rest [] q' st) (sym (unfailing (co c).handed image (me x) (CloseAt a) fate q'.table tt))
           (next (plain_with t' q'.ready q'.lacking q'.lacked q') (held-plain x (with_hs x (lacks_address a x.hs)) t' q'.ready q'.lacking q'.lacked q' b' b'.still.files_stay refl b'.lacking framed
           (inl (looks-allows (after_close a (w c m x.hs x.s x.r)) (w c m (lacks_address a x.hs) x.s x.r) (record { number = refl; others = λ k e. e; image = refl; holds = refl; starting = λ j k e. e; ready = λ j k e. e; held_starting = λ j k e. share-lacks (posts c) k a x.hs; held = λ j k e. share-lacks (posts c) k a x.hs }) t'.rows (close-looks (w c m x.hs x.s x.r) a q'.table.rows looks)), omega (arith, b'.beside.1, close-weigh m x.names a q'.table.rows)))))
           (λ q' b'. just-failed x q' aside b')
@@ -261,7 +260,7 @@ module _ (c : Given) (m : ℕ) (ne : m ≢ c.rec.pid) where
           step (OpenAt a) [] rest x q refl b
           (λ q' b' looks fate.
           let bad = just-failed x q' aside b' in
-          open-cases (co c).text image (me x) a fate q'.table (λ st. Edge (OpenAt a) rest [] q' st) bad bad bad bad
+          open-cases (co c).handed image (me x) a fate q'.table (λ st. Edge (OpenAt a) rest [] q' st) bad bad bad bad
           (λ off room.
           let h : Hold = record { fd = lowest_free hs; socket = q'.table.next_socket; address = a } in
           let t' = with_new_socket q'.table m h in
@@ -283,7 +282,7 @@ module _ (c : Given) (m : ℕ) (ne : m ≢ c.rec.pid) where
           step (fork_of (new_crew c) k) [] rest x q refl b
           (λ q' b' looks fate.
           let bad = just-failed x q' aside b' in
-          fork-cases (co c).text image (me x) (new c) k (fds_of (posts c) k) fate q'.table (λ st. Edge (fork_of (new_crew c) k) rest [] q' st) bad bad
+          fork-cases (co c).handed image (me x) (new c) k (fds_of (posts c) k) fate q'.table (λ st. Edge (fork_of (new_crew c) k) rest [] q' st) bad bad
           (λ off.
           let j = q'.table.next_process in
           let t' = with_new_row q'.table (λ j. Worker j m (new c) k Starting hold) in
@@ -320,7 +319,7 @@ module _ (c : Given) (m : ℕ) (ne : m ≢ c.rec.pid) where
           let y = readied hs (minus s (new c) k) (k ∷ done) files in
           step (AwaitReady (new c) k) [] rest x q refl b
           (λ q' b' looks fate.
-          await-cases (co c).text image (me x) (new c) k fate q'.table (λ st. Edge (AwaitReady (new c) k) rest [] q' st) (just-failed x q' aside b')
+          await-cases (co c).handed image (me x) (new c) k fate q'.table (λ st. Edge (AwaitReady (new c) k) rest [] q' st) (just-failed x q' aside b')
           (λ live.
           let t' = each_row (change (is_worker is_starting m (new c) k) made_ready) q'.table in
           let framed =
@@ -357,7 +356,7 @@ module _ (c : Given) (m : ℕ) (ne : m ≢ c.rec.pid) where
           → Held x s0 r0 k0 w0 ls0 q → Goes c (co c) (tries image (WritePid path) [] rest back) q
       try-write rest path x q aside next b =
           step (WritePid path) [] rest x q refl b
-          (λ q' b' looks fate. write-cases (co c).text image (me x) path fate q'.table (λ st. Edge (WritePid path) rest [] q' st) (just-failed x q' aside b')
+          (λ q' b' looks fate. write-cases (co c).handed image (me x) path fate q'.table (λ st. Edge (WritePid path) rest [] q' st) (just-failed x q' aside b')
           (let t' = with_files (with_file path m q'.table.files) q'.table in
           next (plain_with t' q'.ready q'.lacking q'.lacked q')
           (held-plain x (with_written x (with_file path m x.files)) t' q'.ready q'.lacking q'.lacked q' b' (ap (with_file path m) b'.still.files_stay) refl b'.lacking (record { looks = b'.looks; same = λ t. refl }) b'.beside)))

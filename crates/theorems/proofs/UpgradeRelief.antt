@@ -18,8 +18,7 @@ use Rattle.definitions.specs.Record.{FilesAre, oldbin}
 use Rattle.definitions.specs.Tree.{Tree, Nothing, reply_of}
 use Rattle.definitions.specs.Plans.{on, does, then_edge, note_edges, quits, awaits_gone, settle, remove_oldbin}
 use Rattle.definitions.specs.Plans.{hand_over, back_late, back_from, back_serving, asks, retire, relieve}
-use Rattle.definitions.specs.Run.{Ending, Progress, Return, noted, after_call, after_moment, answered}
-use Rattle.definitions.specs.Path.{lacked_by}
+use Rattle.definitions.specs.Run.{Ending, Progress, Return, noted, after_call, after_moment, answered, lacked_by}
 use Rattle.table_laws.proofs.Views.{Names, named, View, Looks, finds, eqb-is, eqb-refl}
 use Rattle.table_laws.proofs.Effects.{none, looks-allows}
 use Rattle.table_laws.proofs.Exits.{spares-each, shrinks}
@@ -140,7 +139,7 @@ module _ (c : Given) (m : ℕ) (ne : m ≢ c.rec.pid) (some : 1 ≤ m) (r0 : Nam
         let sc = last files c.rec.note in
         let gd = good-last files c.rec.note in
         rule-step (x c m hs r) sc (grounded I P (co_after c) (acts-after c) gd) order [] bs none r T (length S) 0 b ls q refl h (λ p h' fate.
-        remove-cases (co_after c).text (new c).image (record { number = m; holds = hs }) (oldbin path) fate p.table
+        remove-cases (co_after c).handed (new c).image (record { number = m; holds = hs }) (oldbin path) fate p.table
         (λ st. Answers (x c m hs r) sc (grounded I P (co_after c) (acts-after c) gd) order [] bs p st)
         (let h2 = band-anew (x c m hs r) sc (grounded I P (co_after c) (acts-after c) gd) none r T (length S) 1 true ls _ (band-failed (x c m hs r) sc (grounded I P (co_after c) (acts-after c) gd) none r T (length S) 0 b ls p h') in
         next files OldbinLeft true
@@ -177,9 +176,9 @@ module _ (c : Given) (m : ℕ) (ne : m ≢ c.rec.pid) (some : 1 ≤ m) (r0 : Nam
         let h' = band-exits v (both files) none none none 0 0 b l0 moment.exits q sp mild h in
         let looks' = (shrinks second moment.exits q.table.rows sp_new looks).looks in
         let me : Caller = record { number = c.rec.pid; holds = H0 c } in
-        let is : answered (co c).text c.rec.generation.image order moment.fate middle ≡ gives answer.Fine (each_row (without_master c.rec.pid) middle.table) =
-        ap (λ (o : Option Caller). step_by (co c).text c.rec.generation.image o Leave moment.fate middle.table)
-        (finds (view v none none) middle.table.rows h'.looks) ∙ unfailing (co c).text c.rec.generation.image me Leave
+        let is : answered (co c).handed c.rec.generation.image order moment.fate middle ≡ gives answer.Fine (each_row (without_master c.rec.pid) middle.table) =
+        ap (λ (o : Option Caller). step_by (co c).handed c.rec.generation.image o Leave moment.fate middle.table)
+        (finds (view v none none) middle.table.rows h'.looks) ∙ unfailing (co c).handed c.rec.generation.image me Leave
         moment.fate middle.table tt in
         let gone = after_call c.rec.generation.image order [] (gives answer.Fine (each_row (without_master c.rec.pid) middle.table)) middle in
         let one : OneOther second c.rec.pid = (ne, λ j e. eqb-is j c.rec.pid e) in
@@ -225,7 +224,7 @@ module _ (c : Given) (m : ℕ) (ne : m ≢ c.rec.pid) (some : 1 ≤ m) (r0 : Nam
         λ o. Answers v (both files) (grounded I P (co c) (acts c) (good files)) order [] bs p
         (asked_alive o (new c).image p.table) in
         subst (λ st. Answers v (both files) (grounded I P (co c) (acts c) (good files)) order [] bs p st)
-        (sym (unfailing (co c).text c.rec.generation.image me (Alive (new c).image) fate p.table tt))
+        (sym (unfailing (co c).handed c.rec.generation.image me (Alive (new c).image) fate p.table tt))
         (⊎_elim
         (λ looks. subst answered_by (sym (finds second p.table.rows looks))
         (leaves files b (after_call c.rec.generation.image order [] (gives answer.IsAlive p.table) p) written looks
@@ -272,7 +271,7 @@ module _ (c : Given) (m : ℕ) (ne : m ≢ c.rec.pid) (some : 1 ≤ m) (r0 : Nam
         let bs = on (reply.Go ∷ []) retiring (on (reply.Back ∷ []) serving Nothing) in
         rule-step v (both files) (grounded I P (co c) (acts c) (good files)) order [] bs none none none 0 0 b l0 q refl h (λ p h' fate.
         let me : Caller = record { number = c.rec.pid; holds = H0 c } in
-        ask-cases (co c).text c.rec.generation.image me 2 fate p.table
+        ask-cases (co c).handed c.rec.generation.image me 2 fate p.table
         (λ st. Answers v (both files) (grounded I P (co c) (acts c) (good files)) order [] bs p st)
         (goes-back-serving c p.faults (fits-attended (record { question = 2; faults = p.faults } ∷ []) is) m ne hs r T (n c) new-serves files l0 (after_call c.rec.generation.image order [] (gives answer.Back p.table) p) aside
         (record {
@@ -310,7 +309,7 @@ module _ (c : Given) (m : ℕ) (ne : m ≢ c.rec.pid) (some : 1 ≤ m) (r0 : Nam
         rule-step v sc (grounded I P (co c) (acts c) gd) order [] bs none r0 (named (g c) (is_in (R c))) (length (R c)) 0 false l0 q refl h (λ p h' fate.
         let me : Caller = record { number = c.rec.pid; holds = H0 c } in
         let back_at : Return = record { question = 1; faults = p.faults } in
-        ask-cases (co c).text c.rec.generation.image me 1 fate p.table (λ st. Answers v sc (grounded I P (co c) (acts c) gd) order [] bs p st)
+        ask-cases (co c).handed c.rec.generation.image me 1 fate p.table (λ st. Answers v sc (grounded I P (co c) (acts c) gd) order [] bs p st)
         (goes-back-from c (back_at ∷ []) (fits-attended (back_at ∷ []) is) m ne hs none r T (n c) r0 0 l0 files (after_call c.rec.generation.image order [] (gives answer.Back p.table) p) aside only0
         (record { looks = h'.looks; enough = h'.enough; secured = h'.secured; budget = h'.budget; lacking = h'.lacking; marks = marks-back false back_at p.faults p.losses (p.calls + 1) p.cause h'.marks; still = h'.still; beside = h'.beside }))
         (next (after_call c.rec.generation.image order [] (gives answer.Go p.table) p)

@@ -54,8 +54,8 @@ module _ (c : Given) (before : ℕ) (fits : Fits c (record { question = 2; fault
       let alone = alone-terminated (view v none r0) (w c m hs none r) p.table.rows one (λ e. absurd (omega (arith, e))) b'.beside.0 b'.looks in
       let excused = faults_since 2 returns p.faults in
       subst (λ st. Answers v (two files) (grounded I P (co c) (acts c) (good-two files)) order [] bs p st)
-      (sym (unfailing (co c).text c.rec.generation.image me (TermMaster (new c).image) fate p.table tt))
-      (goes-back-alone c returns fits (f c) 0 excused (inl (λ a. omega arith)) r0 0 ls files (after_call c.rec.generation.image order [] (own_step (co c).text c.rec.generation.image me (TermMaster (new c).image) p.table) p) aside only (record {
+      (sym (unfailing (co c).handed c.rec.generation.image me (TermMaster (new c).image) fate p.table tt))
+      (goes-back-alone c returns fits (f c) 0 excused (inl (λ a. omega arith)) r0 0 ls files (after_call c.rec.generation.image order [] (own_step (co c).handed c.rec.generation.image me (TermMaster (new c).image) p.table) p) aside only (record {
         looks = alone.looks;
         enough = enough-old c;
         secured = λ a e. omega (arith, b'.budget, alone.same t);

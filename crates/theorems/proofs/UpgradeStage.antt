@@ -14,7 +14,7 @@ use Rattle.definitions.specs.Table.{Address, File, Hold, Process, Table, same_ge
 use Rattle.definitions.specs.Service.{Service, service}
 use Rattle.definitions.specs.Crew.{Posts, Crew, Layout, share, group_of, posts_of, layout_in, short_at, shortfalls_of}
 use Rattle.definitions.specs.Record.{Record, Agrees, FilesAre, addresses_of, crew_of, layout_of, listener_of}
-use Rattle.definitions.specs.Target.{Sides, upgrade_generation, want, wanted_at, sides_of, text_handed}
+use Rattle.definitions.specs.Target.{Sides, upgrade_generation, want, wanted_at, sides_of, handover_for}
 use Rattle.definitions.specs.After.{crew_wanted, posts_wanted, Setup, setup_after, recorded, renewed, upgraded, next_image}
 use Rattle.definitions.specs.Tree.{Tree}
 use Rattle.definitions.specs.Run.{Pattern, Progress, Return, faults_since, Ending, At, outcome_of}
@@ -118,10 +118,10 @@ module _ (c : Given) where
 
   -- the old master executes, and then the new one
   abbrev pub co : Course
-  co = record { text = text_handed c.rec (Upgrade c.st); pattern = c.pattern; executing = g.image ∷ []; heirs = new.image ∷ [] }
+  co = record { handed = handover_for c.rec (Upgrade c.st); pattern = c.pattern; executing = g.image ∷ []; heirs = new.image ∷ [] }
 
   abbrev pub co_after : Course
-  co_after = record { text = text_handed c.rec (Upgrade c.st); pattern = c.pattern; executing = new.image ∷ []; heirs = new.image ∷ [] }
+  co_after = record { handed = handover_for c.rec (Upgrade c.st); pattern = c.pattern; executing = new.image ∷ []; heirs = new.image ∷ [] }
 
   pub acts : is_in co.executing g.image ≡ true
   acts = in-here g.image g.image [] refl

@@ -14,14 +14,14 @@ use Rattle.vocabulary.specs.declared.plans.Order.TheVariants.{Make}
 use Rattle.vocabulary.specs.declared.reports.Entry.{Entry}
 use Rattle.definitions.specs.Table.{Address, FilePath, Table}
 use Rattle.definitions.specs.Exits.{after_exits}
-use Rattle.definitions.specs.Calls.{step_with}
+use Rattle.definitions.specs.Calls.{step_with, Handed}
 use Rattle.definitions.specs.Manner.{is_leave_call}
 use Rattle.vocabulary.specs.declared.calls.Reply.TheVariants as reply
 use Rattle.definitions.specs.Tree.{Tree, Branches, Nothing, Does, plain_reply, replies_to}
 use Rattle.definitions.specs.Plans.{on, others, then_edge, note_edges, settle, back_alone, back_from, move_back}
 use Rattle.definitions.specs.Plans.{move_aside, tries, tries_all, new_calls, new_part, old_part, taken_over, pid_calls}
 use Rattle.definitions.specs.Plans.{quits, awaits_gone, asks, retire, back_serving, relieve, spawn_edges, upgrade_tree}
-use Rattle.definitions.specs.Plans.{does}
+use Rattle.definitions.specs.Plans.{does, weave, joined}
 use Rattle.definitions.specs.Run.{Progress, Lost}
 use Rattle.definitions.specs.Crew.{fork_of}
 use Rattle.definitions.specs.Record.{oldbin}
@@ -30,7 +30,6 @@ use Rattle.definitions.specs.Claims.{names_any}
 use Rattle.run_laws.proofs.Logic.{Exiting}
 use Rattle.run_laws.proofs.Processes.{AnyCall}
 use Rattle.vocabulary.specs.declared.plans.Turn.{Turn}
-use Rattle.definitions.specs.Parts.{weave, joined}
 use Rattle.theorems.proofs.UpgradeBeside.{Counts}
 use Rattle.theorems.proofs.UpgradeMends.{PartCall, Spares, tried-all}
 use Rattle.run_laws.proofs.Traces.{Asking, Finally, Good, AllGood, good-call}
@@ -72,7 +71,7 @@ module _ (c : Given) (due : Asking) (post : Finally) (mild : Exiting)
     ---- Up to the relief
 
     module _
-        (any : (text : List ℕ) (by : ℕ) (call : Call) (fate : Option Fate) (t : Table) → AnyCall c.rec.generation.image call → F t → F (step_with text by call fate t).table)
+        (any : (handed : Handed) (by : ℕ) (call : Call) (fate : Option Fate) (t : Table) → AnyCall c.rec.generation.image call → F t → F (step_with handed by call fate t).table)
         (owes : (past : List Entry) (call : Call) (t : Table) → AnyCall c.rec.generation.image call → F t → due past call t)
         (settled : IsGood Free (settle c.rec.generation.image (old_crew c) (R c) Old c.rec.retries))
         (relieved : (rest : Tree) → IsGood Free (quits c.rec.generation.image (g c) (reverse (R c)) (awaits_gone c.rec.generation.image (g c) (reverse (R c)) rest)))
@@ -82,7 +81,7 @@ module _ (c : Given) (due : Asking) (post : Finally) (mild : Exiting)
           AllGood due post mild (co c) lost F Free bs → IsGood Free (Does by (Make call) set bs)
       one-call by call set bs is all =
           good-call due post mild (co c) lost F Free by call set bs (any-stays c.rec.generation.image call is) exits
-          (λ past e k. tt) (λ past t k h. owes past call t is h) (λ text fate t h. any text by call fate t is h) all
+          (λ past e k. tt) (λ past t k h. owes past call t is h) (λ handed fate t h. any handed by call fate t is h) all
 
       apart : (new c).image ≢ c.rec.generation.image
       apart e = absurd (omega (arith, e))

@@ -1,5 +1,5 @@
 -- The manner of a change of the number of workers.
-use Rattle.std.proofs.Common.{◌≡◌, ◌≢◌, ℕ, ◌<◌, ◌≤◌, Bool, true, false, not, List, [], ◌∷◌, refl, sym, ◌∙◌, subst, arith}
+use Rattle.std.proofs.Common.{None, ◌≡◌, ◌≢◌, ℕ, ◌<◌, ◌≤◌, Bool, true, false, not, List, [], ◌∷◌, refl, sym, ◌∙◌, subst, arith}
 use Rattle.std.specs.Prelude.{⊤, ◌&&◌, ◌==◌, nat_lt, filter, reverse}
 use Rattle.std.proofs.lemmas.Bool.Decides.{nat_tests}
 use Rattle.listener_set.specs.Numbers.{is_in, numbers_below}
@@ -37,7 +37,7 @@ free-number g x k ne = go (same_generation g g) (k == x) (eqb-off k x ne)
 
 -- the course of a plan of one master
 abbrev pub own_course : Record → Pattern → Course
-own_course r pattern = record { text = []; pattern = pattern; executing = r.generation.image ∷ []; heirs = [] }
+own_course r pattern = record { handed = None; pattern = pattern; executing = r.generation.image ∷ []; heirs = [] }
 
 pub own-acts : (r : Record) (pattern : Pattern) → is_in (own_course r pattern).executing r.generation.image ≡ true
 own-acts r pattern = in-here r.generation.image r.generation.image [] refl

@@ -11,9 +11,8 @@ use Rattle.vocabulary.specs.declared.plans.PidNote.TheVariants.{InPlace, AtOldbi
 use Rattle.vocabulary.specs.declared.reports.Entry.{Entry}
 use Rattle.vocabulary.specs.declared.reports.Report.{Report}
 use Rattle.vocabulary.specs.declared.reports.Outcome.{Outcome}
-use Rattle.definitions.specs.Table.{Address, FilePath, Hold, Process, Master, Worker, Foreign, File, Table}
+use Rattle.definitions.specs.Table.{Address, FilePath, Hold, Process, Master, Worker, Foreign, File, Table, IsFormed}
 use Rattle.vocabulary.specs.Settings.{Settings}
-use Rattle.definitions.specs.Formed.{IsFormed}
 use Rattle.theorems.specs.Settling.{HasSide}
 use Rattle.definitions.specs.Service.{service}
 use Rattle.definitions.specs.Crew.{Posts}

@@ -7,9 +7,10 @@ use Rattle.vocabulary.specs.declared.plans.Side.TheVariants as side
 use Rattle.vocabulary.specs.declared.reports.Outcome.TheVariants as outcome
 use Rattle.definitions.specs.Table.{Address}
 use Rattle.definitions.specs.Crew.{Layout, layout_in}
-use Rattle.definitions.specs.Record.{Listener, Record, layout_of, started}
+use Rattle.definitions.specs.Record.{Listener, Record, layout_of}
+use Rattle.call_laws.specs.Start.{started}
 use Rattle.definitions.specs.Target.{Target, Workers, Mend, Reopen, Reload, Upgrade, Attended, Stop, layout_wanted}
-use Rattle.definitions.specs.Path.{Report, Outcome}
+use Rattle.definitions.specs.Run.{Report, Outcome}
 use Rattle.definitions.specs.After.{record_after}
 
 -- the same groups, and each listens at the same addresses

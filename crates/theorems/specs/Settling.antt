@@ -4,7 +4,7 @@ use Rattle.std.specs.List.{list_any, AllByRecursion}
 use Rattle.listener_set.specs.Numbers.{IsRising, is_in, numbers_below}
 use Rattle.listener_set.specs.AddressList.{has}
 use Rattle.definitions.specs.Table.{Address, Generation, Hold, Process, Master, Worker, Foreign, Table, live_master, is_worker, is_ready}
-use Rattle.definitions.specs.Formed.{IsFormed}
+use Rattle.definitions.specs.Table.{IsFormed}
 use Rattle.definitions.specs.Crew.{Crew, share}
 use Rattle.definitions.specs.Record.{IsRunning}
 use Rattle.vocabulary.specs.declared.table.Stance.TheVariants.{Starting, Ready, Draining, Exited}
@@ -13,6 +13,7 @@ use Rattle.vocabulary.specs.declared.plans.Side.TheVariants as side
 use Rattle.definitions.specs.Plans.{settle, starts, quits, closes, workers_tree, reload_back, full_end, short_end}
 use Rattle.definitions.specs.Run.{Pattern, Progress, Ending, At, Ran, run_with}
 use Rattle.definitions.specs.Claims.{refused_among}
+use Rattle.definitions.specs.Calls.{Handed}
 
 -- No live master of the image has another number.
 abbrev pub IsOnly : ℕ → ℕ → Process → Type 0
@@ -52,10 +53,10 @@ pub record Settles (image pid : ℕ) (holds : List Hold) (crew : Crew) (set : Li
 -- From each such table, and whatever was done before, a settle for the set settles, under each pattern that spares its master.
 abbrev pub SettlesAlways : Type 0
 SettlesAlways =
-    (text : List ℕ) (image pid : ℕ) (holds : List Hold) (crew : Crew) (set : List ℕ) (side : Side) (rounds : ℕ) (pattern : Pattern) (first : Progress) →
+    (handed : Handed) (image pid : ℕ) (holds : List Hold) (crew : Crew) (set : List ℕ) (side : Side) (rounds : ℕ) (pattern : Pattern) (first : Progress) →
     IsFormed first.table → HasSide first.table image pid holds crew set → IsRising set → AllByRecursion (λ k. k < 1024) set →
-    refused_among (image ∷ []) [] pattern first.calls (run_with text (settle image crew set side rounds) pattern first).entries ≡ None →
-    Settles image pid holds crew set side rounds first (run_with text (settle image crew set side rounds) pattern first)
+    refused_among (image ∷ []) [] pattern first.calls (run_with handed (settle image crew set side rounds) pattern first).entries ≡ None →
+    Settles image pid holds crew set side rounds first (run_with handed (settle image crew set side rounds) pattern first)
 
 ---- The way back
 
@@ -96,12 +97,12 @@ pub record IsOnReturn
 -- Each way back settles for the old side, with what was held before the addresses were opened.
 abbrev pub ReturnsAlways : Type 0
 ReturnsAlways =
-    (text : List ℕ) (image pid : ℕ) (holds : List Hold) (opened : List Address) (crew : Crew) (set : List ℕ)
+    (handed : Handed) (image pid : ℕ) (holds : List Hold) (opened : List Address) (crew : Crew) (set : List ℕ)
     (new : Crew) (forked : List ℕ) (rounds : ℕ) (pattern : Pattern) (first : Progress) →
     IsFormed first.table → IsOnReturn first.table image pid holds opened crew set new forked → IsRising set → AllByRecursion (λ k. k < 1024) set →
-    refused_among (image ∷ []) [] pattern first.calls (run_with text (back image new.generation forked opened crew set rounds) pattern first).entries ≡ None →
+    refused_among (image ∷ []) [] pattern first.calls (run_with handed (back image new.generation forked opened crew set rounds) pattern first).entries ≡ None →
     Settles image pid (without opened holds) crew set side.Old rounds first
-    (run_with text (back image new.generation forked opened crew set rounds) pattern first)
+    (run_with handed (back image new.generation forked opened crew set rounds) pattern first)
 
 -- The plans go back so: from a failed start of a change of the number of workers, and of a reload.
 pub record PlansGoBack : Type 0 where

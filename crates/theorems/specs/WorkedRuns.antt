@@ -1,5 +1,5 @@
 -- Worked examples: plans that are run on a small table, call by call.
-use Rattle.std.specs.Prelude.{ℕ, true, false, ◌≡◌, List, [], ◌∷◌, ◌++◌, Option, Some, None, codes, Ok}
+use Rattle.std.specs.Prelude.{ℕ, true, false, ◌≡◌, List, [], ◌∷◌, ◌++◌, Option, Some, None}
 use Rattle.vocabulary.specs.declared.names.Name.TheVariants as name
 use Rattle.vocabulary.specs.declared.calls.Call.TheVariants.{OpenAt, CloseAt, Fork, AwaitReady, Quit, Kill, Census}
 use Rattle.vocabulary.specs.declared.calls.Call.TheVariants.{AwaitGone, SpawnMaster, Adopt, WritePid, MovePid}
@@ -13,13 +13,12 @@ use Rattle.vocabulary.specs.declared.reports.Entry.{Entry}
 use Rattle.vocabulary.specs.declared.targets.Target.{Target}
 use Rattle.vocabulary.specs.declared.targets.Target.TheVariants.{Workers, Mend, Reopen, Reload, Upgrade, Attended, Stop}
 use Rattle.definitions.specs.Record.{Record, oldbin}
-use Rattle.definitions.specs.Reading.{reading}
-use Rattle.definitions.specs.Target.{Sides, sides_of, handover_of, text_handed}
+use Rattle.definitions.specs.Calls.{Handover}
+use Rattle.definitions.specs.Target.{Sides, sides_of, handover_for}
 use Rattle.listener_set.specs.Numbers.{numbers_below}
 use Rattle.definitions.specs.Tree.{height}
-use Rattle.definitions.specs.Parts.{Turn, New, Old}
-use Rattle.definitions.specs.Plans.{plan_tree}
-use Rattle.definitions.specs.Run.{Pattern, Ran, faults_since, run_with, start_at, report_of}
+use Rattle.definitions.specs.Plans.{Turn, New, Old, plan_tree}
+use Rattle.definitions.specs.Run.{Pattern, Ran, faults_since, report_of}
 use Rattle.definitions.specs.After.{record_after}
 use Rattle.definitions.specs.Claims.{run_of, refused_among}
 use Rattle.theorems.specs.GroupRuns.{GroupRuns}
@@ -43,94 +42,99 @@ empty_record = record {
   pid = 100;
 }
 
--- What the new master of the upgrade is handed.
-abbrev pub handed : List ℕ
-handed =
-    codes "handover 2" ++ 10 ∷ codes "old-pid 100" ++ 10 ∷ codes "generation 2 2" ++ 10 ∷ codes "listener 3 0.0.0.0:8080" ++ 10 ∷ codes "group 2" ++ 10
-    ∷ codes "want 0.0.0.0:8080" ++ 10 ∷ codes "pid-file /run/a.pid" ++ 10 ∷ codes "end" ++ 10 ∷ []
-
--- The same settings by an upgrade, whose calls are handed a text.
+-- The same settings by an upgrade.
 abbrev pub same_upgrade : Target
 same_upgrade = Upgrade (settings_of (port ∷ []) 2)
 
-abbrev pub upgrade_run_by : List Turn → List ℕ → Pattern → Ran
-upgrade_run_by turns text pattern = run_with text (plan_tree (two_ready 3) same_upgrade turns) pattern (start_at two_workers InPlace)
+-- what its new master is handed
+abbrev pub handed : Handover
+handed = record {
+  old_pid = 100;
+  generation = upgraded;
+  listeners = record { descriptor = 3; address = port } ∷ [];
+  want = port ∷ [];
+  groups = record { addresses = 1; workers = 2 } ∷ [];
+  pid_file = Some pid_file;
+}
 
-abbrev pub upgrade_run : List ℕ → Pattern → Ran
-upgrade_run text pattern = upgrade_run_by [] text pattern
+abbrev pub upgrade_run_by : List Turn → Pattern → Ran
+upgrade_run_by turns pattern = run_of (two_ready 3) same_upgrade turns pattern two_workers
+
+abbrev pub upgrade_run : Pattern → Ran
+upgrade_run pattern = upgrade_run_by [] pattern
 
 abbrev pub upgrade_sides : Sides
 upgrade_sides = sides_of (two_ready 3) same_upgrade
 
-abbrev pub refused_with : List ℕ → Pattern → Option ℕ
-refused_with text pattern = refused_among (1 ∷ []) (2 ∷ []) pattern 0 (upgrade_run text pattern).entries
+abbrev pub refused_with : Pattern → Option ℕ
+refused_with pattern = refused_among (1 ∷ []) (2 ∷ []) pattern 0 (upgrade_run pattern).entries
 
 -- The whole of an upgrade.
-abbrev pub Upgrades : List ℕ → Type 0
-Upgrades text =
-    GivesIn upgrade_sides (upgrade_run text no_fault)
+abbrev pub Upgrades : Type 0
+Upgrades =
+    GivesIn upgrade_sides (upgrade_run no_fault)
     (m1 (MovePid pid_file (oldbin pid_file)) answer.Fine ∷ m1 (SpawnMaster 2) answer.Spawned ∷ m2 Adopt answer.Adopted ∷ m2 (Fork upgraded 0 None) answer.Forked ∷ m2 (Fork upgraded 1 None) answer.Forked ∷ m2 (AwaitReady upgraded 0) answer.IsReady ∷ m2 (AwaitReady upgraded 1) answer.IsReady ∷ m1 (Census first) (answer.Counted (0 ∷ 1 ∷ [])) ∷ m2 (WritePid pid_file) answer.Fine ∷ m2 (Census upgraded) (answer.Counted (0 ∷ 1 ∷ [])) ∷ m1 (Quit first 1) answer.Fine ∷ m1 (Quit first 0) answer.Fine ∷ m1 (AwaitGone first 1) answer.Gone ∷ m1 (AwaitGone first 0) answer.Gone ∷ m1 (Alive 2) answer.IsAlive ∷ m1 Leave answer.Fine ∷ m2 (RemovePid (oldbin pid_file)) answer.Fine ∷ m2 (Census upgraded) (answer.Counted (0 ∷ 1 ∷ [])) ∷ [])
-    (report Done None InPlace (0 ∷ 1 ∷ [])) × (serving (upgrade_run text no_fault) port upgraded ≡ Some 2)
+    (report Done None InPlace (0 ∷ 1 ∷ [])) × (serving (upgrade_run no_fault) port upgraded ≡ Some 2)
 
 -- The old master counts its workers first.
-abbrev pub CountsFirst : List ℕ → Type 0
-CountsFirst text =
-    GivesIn upgrade_sides (upgrade_run_by (Old ∷ []) text no_fault)
+abbrev pub CountsFirst : Type 0
+CountsFirst =
+    GivesIn upgrade_sides (upgrade_run_by (Old ∷ []) no_fault)
     (m1 (MovePid pid_file (oldbin pid_file)) answer.Fine ∷ m1 (SpawnMaster 2) answer.Spawned ∷ m1 (Census first) (answer.Counted (0 ∷ 1 ∷ [])) ∷ m2 Adopt answer.Adopted ∷ m2 (Fork upgraded 0 None) answer.Forked ∷ m2 (Fork upgraded 1 None) answer.Forked ∷ m2 (AwaitReady upgraded 0) answer.IsReady ∷ m2 (AwaitReady upgraded 1) answer.IsReady ∷ m2 (WritePid pid_file) answer.Fine ∷ m2 (Census upgraded) (answer.Counted (0 ∷ 1 ∷ [])) ∷ m1 (Quit first 1) answer.Fine ∷ m1 (Quit first 0) answer.Fine ∷ m1 (AwaitGone first 1) answer.Gone ∷ m1 (AwaitGone first 0) answer.Gone ∷ m1 (Alive 2) answer.IsAlive ∷ m1 Leave answer.Fine ∷ m2 (RemovePid (oldbin pid_file)) answer.Fine ∷ m2 (Census upgraded) (answer.Counted (0 ∷ 1 ∷ [])) ∷ [])
     (report Done None InPlace (0 ∷ 1 ∷ []))
 
 -- The old master starts one that is gone, beside the new master's first step.
-abbrev pub MendsBeside : List ℕ → Type 0
-MendsBeside text =
+abbrev pub MendsBeside : Type 0
+MendsBeside =
     GivesIn upgrade_sides
-    (upgrade_run_by (New ∷ Old ∷ Old ∷ Old ∷ Old ∷ []) text (exits 4 (name.Worker first 1) no_fault))
+    (upgrade_run_by (New ∷ Old ∷ Old ∷ Old ∷ Old ∷ []) (exits 4 (name.Worker first 1) no_fault))
     (m1 (MovePid pid_file (oldbin pid_file)) answer.Fine ∷ m1 (SpawnMaster 2) answer.Spawned ∷ m2 Adopt answer.Adopted ∷ m1 (Census first) (answer.Counted (0 ∷ [])) ∷ m1 (Fork first 1 None) answer.Forked ∷ m1 (AwaitReady first 1) answer.IsReady ∷ m1 (Census first) (answer.Counted (0 ∷ 1 ∷ [])) ∷ m2 (Fork upgraded 0 None) answer.Forked ∷ m2 (Fork upgraded 1 None) answer.Forked ∷ m2 (AwaitReady upgraded 0) answer.IsReady ∷ m2 (AwaitReady upgraded 1) answer.IsReady ∷ m2 (WritePid pid_file) answer.Fine ∷ m2 (Census upgraded) (answer.Counted (0 ∷ 1 ∷ [])) ∷ m1 (Quit first 1) answer.Fine ∷ m1 (Quit first 0) answer.Fine ∷ m1 (AwaitGone first 1) answer.Gone ∷ m1 (AwaitGone first 0) answer.Gone ∷ m1 (Alive 2) answer.IsAlive ∷ m1 Leave answer.Fine ∷ m2 (RemovePid (oldbin pid_file)) answer.Fine ∷ m2 (Census upgraded) (answer.Counted (0 ∷ 1 ∷ [])) ∷ [])
     (report Done (Some 4) InPlace (0 ∷ 1 ∷ []))
 
 -- There is no program, and the pid file does not come back.
-abbrev pub NoImage : List ℕ → Type 0
-NoImage text =
-    GivesIn upgrade_sides (upgrade_run text (fails 2 fate.NoImage (fails 3 fate.IoFault no_fault)))
+abbrev pub NoImage : Type 0
+NoImage =
+    GivesIn upgrade_sides (upgrade_run (fails 2 fate.NoImage (fails 3 fate.IoFault no_fault)))
     (m1 (MovePid pid_file (oldbin pid_file)) answer.Fine ∷ m1 (SpawnMaster 2) answer.NoImage ∷ m1 (MovePid (oldbin pid_file) pid_file) answer.IoFault ∷ m1 (Census first) (answer.Counted (0 ∷ 1 ∷ [])) ∷ [])
     (report RolledBack (Some 2) AtOldbin (0 ∷ 1 ∷ []))
 
 -- The new master is gone when it is asked for.
-abbrev pub GoneAtLast : List ℕ → Type 0
-GoneAtLast text =
-    GivesIn upgrade_sides (upgrade_run text (exits 15 (name.Master 2) no_fault))
+abbrev pub GoneAtLast : Type 0
+GoneAtLast =
+    GivesIn upgrade_sides (upgrade_run (exits 15 (name.Master 2) no_fault))
     (m1 (MovePid pid_file (oldbin pid_file)) answer.Fine ∷ m1 (SpawnMaster 2) answer.Spawned ∷ m2 Adopt answer.Adopted ∷ m2 (Fork upgraded 0 None) answer.Forked ∷ m2 (Fork upgraded 1 None) answer.Forked ∷ m2 (AwaitReady upgraded 0) answer.IsReady ∷ m2 (AwaitReady upgraded 1) answer.IsReady ∷ m1 (Census first) (answer.Counted (0 ∷ 1 ∷ [])) ∷ m2 (WritePid pid_file) answer.Fine ∷ m2 (Census upgraded) (answer.Counted (0 ∷ 1 ∷ [])) ∷ m1 (Quit first 1) answer.Fine ∷ m1 (Quit first 0) answer.Fine ∷ m1 (AwaitGone first 1) answer.Gone ∷ m1 (AwaitGone first 0) answer.Gone ∷ m1 (Alive 2) answer.Gone ∷ m1 (TermMaster 2) answer.Fine ∷ m1 (Fork first 0 None) answer.Forked ∷ m1 (Fork first 1 None) answer.Forked ∷ m1 (AwaitReady first 0) answer.IsReady ∷ m1 (AwaitReady first 1) answer.IsReady ∷ m1 (MovePid (oldbin pid_file) pid_file) answer.Fine ∷ m1 (Census first) (answer.Counted (0 ∷ 1 ∷ [])) ∷ [])
     (report RolledBack (Some 15) InPlace (0 ∷ 1 ∷ [])) ×
-    (serving (upgrade_run text (exits 15 (name.Master 2) no_fault)) port first ≡ Some 2) ×
-    ((upgrade_run text (exits 15 (name.Master 2) no_fault)).last.faults ≡ 1) ×
-    ((upgrade_run text (exits 15 (name.Master 2) no_fault)).last.losses ≡ 2)
+    (serving (upgrade_run (exits 15 (name.Master 2) no_fault)) port first ≡ Some 2) ×
+    ((upgrade_run (exits 15 (name.Master 2) no_fault)).last.faults ≡ 1) ×
+    ((upgrade_run (exits 15 (name.Master 2) no_fault)).last.losses ≡ 2)
 
 -- The executing masters must not exit.
-abbrev pub Refused : List ℕ → Type 0
-Refused text =
-    (refused_with text (exits 16 (name.Master 2) no_fault) ≡ Some 16)
-    × (refused_with text (exits 1 (name.Master 1) no_fault) ≡ Some 1)
-    × (refused_with text (exits 15 (name.Master 2) no_fault) ≡ None)
+abbrev pub Refused : Type 0
+Refused =
+    (refused_with (exits 16 (name.Master 2) no_fault) ≡ Some 16)
+    × (refused_with (exits 1 (name.Master 1) no_fault) ≡ Some 1)
+    × (refused_with (exits 15 (name.Master 2) no_fault) ≡ None)
 
 -- The new master is gone while it starts.
-abbrev pub GoneEarly : List ℕ → Type 0
-GoneEarly text =
-    GivesIn upgrade_sides (upgrade_run text (exits 6 (name.Master 2) no_fault))
+abbrev pub GoneEarly : Type 0
+GoneEarly =
+    GivesIn upgrade_sides (upgrade_run (exits 6 (name.Master 2) no_fault))
     (m1 (MovePid pid_file (oldbin pid_file)) answer.Fine ∷ m1 (SpawnMaster 2) answer.Spawned ∷ m2 Adopt answer.Adopted ∷ m2 (Fork upgraded 0 None) answer.Forked ∷ m2 (Fork upgraded 1 None) answer.Forked ∷ m2 (AwaitReady upgraded 0) answer.MasterGone ∷ m1 (Census first) (answer.Counted (0 ∷ 1 ∷ [])) ∷ m1 (TermMaster 2) answer.Fine ∷ m1 (MovePid (oldbin pid_file) pid_file) answer.Fine ∷ m1 (Census first) (answer.Counted (0 ∷ 1 ∷ [])) ∷ [])
     (report RolledBack (Some 6) InPlace (0 ∷ 1 ∷ [])) ×
-    ((upgrade_run text (exits 6 (name.Master 2) no_fault)).last.faults ≡ 1) ×
-    ((upgrade_run text (exits 6 (name.Master 2) no_fault)).last.losses ≡ 2)
+    ((upgrade_run (exits 6 (name.Master 2) no_fault)).last.faults ≡ 1) ×
+    ((upgrade_run (exits 6 (name.Master 2) no_fault)).last.losses ≡ 2)
 
 -- A worker is gone at the last count.
-abbrev pub RepairedAtLast : List ℕ → Type 0
-RepairedAtLast text =
-    GivesIn upgrade_sides (upgrade_run text (exits 18 (name.Worker upgraded 1) no_fault))
+abbrev pub RepairedAtLast : Type 0
+RepairedAtLast =
+    GivesIn upgrade_sides (upgrade_run (exits 18 (name.Worker upgraded 1) no_fault))
     (m1 (MovePid pid_file (oldbin pid_file)) answer.Fine ∷ m1 (SpawnMaster 2) answer.Spawned ∷ m2 Adopt answer.Adopted ∷ m2 (Fork upgraded 0 None) answer.Forked ∷ m2 (Fork upgraded 1 None) answer.Forked ∷ m2 (AwaitReady upgraded 0) answer.IsReady ∷ m2 (AwaitReady upgraded 1) answer.IsReady ∷ m1 (Census first) (answer.Counted (0 ∷ 1 ∷ [])) ∷ m2 (WritePid pid_file) answer.Fine ∷ m2 (Census upgraded) (answer.Counted (0 ∷ 1 ∷ [])) ∷ m1 (Quit first 1) answer.Fine ∷ m1 (Quit first 0) answer.Fine ∷ m1 (AwaitGone first 1) answer.Gone ∷ m1 (AwaitGone first 0) answer.Gone ∷ m1 (Alive 2) answer.IsAlive ∷ m1 Leave answer.Fine ∷ m2 (RemovePid (oldbin pid_file)) answer.Fine ∷ m2 (Census upgraded) (answer.Counted (0 ∷ [])) ∷ m2 (Fork upgraded 1 None) answer.Forked ∷ m2 (AwaitReady upgraded 1) answer.IsReady ∷ m2 (Census upgraded) (answer.Counted (0 ∷ 1 ∷ [])) ∷ [])
     (report Done (Some 18) InPlace (0 ∷ 1 ∷ []))
 
 -- The old pid file cannot be removed.
-abbrev pub OldFileLeft : List ℕ → Type 0
-OldFileLeft text =
-    GivesIn upgrade_sides (upgrade_run text (fails 17 fate.IoFault no_fault))
+abbrev pub OldFileLeft : Type 0
+OldFileLeft =
+    GivesIn upgrade_sides (upgrade_run (fails 17 fate.IoFault no_fault))
     (m1 (MovePid pid_file (oldbin pid_file)) answer.Fine ∷ m1 (SpawnMaster 2) answer.Spawned ∷ m2 Adopt answer.Adopted ∷ m2 (Fork upgraded 0 None) answer.Forked ∷ m2 (Fork upgraded 1 None) answer.Forked ∷ m2 (AwaitReady upgraded 0) answer.IsReady ∷ m2 (AwaitReady upgraded 1) answer.IsReady ∷ m1 (Census first) (answer.Counted (0 ∷ 1 ∷ [])) ∷ m2 (WritePid pid_file) answer.Fine ∷ m2 (Census upgraded) (answer.Counted (0 ∷ 1 ∷ [])) ∷ m1 (Quit first 1) answer.Fine ∷ m1 (Quit first 0) answer.Fine ∷ m1 (AwaitGone first 1) answer.Gone ∷ m1 (AwaitGone first 0) answer.Gone ∷ m1 (Alive 2) answer.IsAlive ∷ m1 Leave answer.Fine ∷ m2 (RemovePid (oldbin pid_file)) answer.IoFault ∷ m2 (Census upgraded) (answer.Counted (0 ∷ 1 ∷ [])) ∷ [])
     (report Done (Some 17) OldbinLeft (0 ∷ 1 ∷ []))
 
@@ -139,11 +143,11 @@ OldFileLeft text =
 abbrev pub same_attended : Target
 same_attended = Attended (settings_of (port ∷ []) 2)
 
-abbrev pub attended_run_by : List Turn → List ℕ → Pattern → Ran
-attended_run_by turns text pattern = run_with text (plan_tree (two_ready 3) same_attended turns) pattern (start_at two_workers InPlace)
+abbrev pub attended_run_by : List Turn → Pattern → Ran
+attended_run_by turns pattern = run_of (two_ready 3) same_attended turns pattern two_workers
 
-abbrev pub attended_run : List ℕ → Pattern → Ran
-attended_run text pattern = attended_run_by [] text pattern
+abbrev pub attended_run : Pattern → Ran
+attended_run pattern = attended_run_by [] pattern
 
 -- The ten calls up to the new master's count, and those that end the old workers.
 abbrev pub until_counted : List Entry
@@ -163,24 +167,24 @@ back_alone =
     m1 (TermMaster 2) answer.Fine ∷ m1 (MovePid (oldbin pid_file) pid_file) answer.Fine ∷ m1 (Census first) (answer.Counted (0 ∷ 1 ∷ [])) ∷ []
 
 -- The operator goes on, twice.
-abbrev pub Attends : List ℕ → Type 0
-Attends text =
-    GivesIn upgrade_sides (attended_run text no_fault)
+abbrev pub Attends : Type 0
+Attends =
+    GivesIn upgrade_sides (attended_run no_fault)
     (until_counted ++ m1 (Ask 1) answer.Go ∷ until_gone ++ m1 (Ask 2) answer.Go ∷ m1 (Alive 2) answer.IsAlive ∷ m1 Leave answer.Fine
     ∷ m2 (RemovePid (oldbin pid_file)) answer.Fine ∷ m2 (Census upgraded) (answer.Counted (0 ∷ 1 ∷ [])) ∷ [])
     (report Done None InPlace (0 ∷ 1 ∷ []))
 
 -- The operator goes back before the old workers quit, which is no fault.
-abbrev pub BackAtFirst : List ℕ → Type 0
-BackAtFirst text =
-    let ran = attended_run text (fails 11 fate.Back no_fault) in
+abbrev pub BackAtFirst : Type 0
+BackAtFirst =
+    let ran = attended_run (fails 11 fate.Back no_fault) in
     GivesIn upgrade_sides ran (until_counted ++ m1 (Ask 1) answer.Back ∷ back_alone) (report RolledBack (Some 11) InPlace (0 ∷ 1 ∷ []))
     × (ran.last.faults ≡ 0)
 
 -- The operator goes back once they are gone: they are started again before the new master ends.
-abbrev pub BackAtLast : List ℕ → Type 0
-BackAtLast text =
-    let ran = attended_run text (fails 16 fate.Back no_fault) in
+abbrev pub BackAtLast : Type 0
+BackAtLast =
+    let ran = attended_run (fails 16 fate.Back no_fault) in
     GivesIn upgrade_sides ran
     (until_counted ++ m1 (Ask 1) answer.Go ∷ until_gone ++ m1 (Ask 2) answer.Back
     ∷ m1 (Fork first 0 None) answer.Forked ∷ m1 (Fork first 1 None) answer.Forked
@@ -189,9 +193,9 @@ BackAtLast text =
     × (ran.last.faults ≡ 0)
 
 -- One of them is late then, which is a fault since the operator went back.
-abbrev pub BackIsShort : List ℕ → Type 0
-BackIsShort text =
-    let ran = attended_run text (fails 16 fate.Back (fails 19 fate.Late no_fault)) in
+abbrev pub BackIsShort : Type 0
+BackIsShort =
+    let ran = attended_run (fails 16 fate.Back (fails 19 fate.Late no_fault)) in
     (ran.last.faults ≡ 1) × (ran.last.losses ≡ 0) × (faults_since 2 ran.last.returns ran.last.faults ≡ 1) × (ran.last.cause ≡ Some 16)
 
 -- The old master has mended, with one that was late, and the old service is wanted back at last: that fault was before, and counts for
@@ -202,31 +206,31 @@ all_old_first = New ∷ Old ∷ Old ∷ Old ∷ Old ∷ Old ∷ Old ∷ Old ∷ 
 abbrev pub late_then_back : Pattern
 late_then_back = exits 4 (name.Worker first 1) (fails 6 fate.Late (fails 23 fate.Back no_fault))
 
-abbrev pub BackAfterMending : List ℕ → Type 0
-BackAfterMending text =
-    GivesIn upgrade_sides (attended_run_by all_old_first text late_then_back)
+abbrev pub BackAfterMending : Type 0
+BackAfterMending =
+    GivesIn upgrade_sides (attended_run_by all_old_first late_then_back)
     (m1 (MovePid pid_file (oldbin pid_file)) answer.Fine ∷ m1 (SpawnMaster 2) answer.Spawned ∷ m2 Adopt answer.Adopted ∷ m1 (Census first) (answer.Counted (0 ∷ [])) ∷ m1 (Fork first 1 None) answer.Forked ∷ m1 (AwaitReady first 1) answer.Late ∷ m1 (Kill first 1) answer.Fine ∷ m1 (Census first) (answer.Counted (0 ∷ [])) ∷ m1 (Fork first 1 None) answer.Forked ∷ m1 (AwaitReady first 1) answer.IsReady ∷ m1 (Census first) (answer.Counted (0 ∷ 1 ∷ [])) ∷ m2 (Fork upgraded 0 None) answer.Forked ∷ m2 (Fork upgraded 1 None) answer.Forked ∷ m2 (AwaitReady upgraded 0) answer.IsReady ∷ m2 (AwaitReady upgraded 1) answer.IsReady ∷ m2 (WritePid pid_file) answer.Fine ∷ m2 (Census upgraded) (answer.Counted (0 ∷ 1 ∷ [])) ∷ m1 (Ask 1) answer.Go ∷ m1 (Quit first 1) answer.Fine ∷ m1 (Quit first 0) answer.Fine ∷ m1 (AwaitGone first 1) answer.Gone ∷ m1 (AwaitGone first 0) answer.Gone ∷ m1 (Ask 2) answer.Back ∷ m1 (Fork first 0 None) answer.Forked ∷ m1 (Fork first 1 None) answer.Forked ∷ m1 (AwaitReady first 0) answer.IsReady ∷ m1 (AwaitReady first 1) answer.IsReady ∷ m1 (TermMaster 2) answer.Fine ∷ m1 (MovePid (oldbin pid_file) pid_file) answer.Fine ∷ m1 (Census first) (answer.Counted (0 ∷ 1 ∷ [])) ∷ [])
     (report RolledBack (Some 4) InPlace (0 ∷ 1 ∷ []))
     ×
-    (let ran = attended_run_by all_old_first text late_then_back in (ran.last.faults ≡ 1) × (ran.last.losses ≡ 1) × (faults_since 2 ran.last.returns ran.last.faults ≡ 0))
+    (let ran = attended_run_by all_old_first late_then_back in (ran.last.faults ≡ 1) × (ran.last.losses ≡ 1) × (faults_since 2 ran.last.returns ran.last.faults ≡ 0))
 
 pub record WorkedRuns : Type 0 where
-  -- The text of the upgrade's handover, which is read again.
-  pub handover : (text_handed (two_ready 3) same_upgrade ≡ handed) × (reading handed ≡ Ok (handover_of (two_ready 3) (settings_of (port ∷ []) 2)))
-  pub upgrades : Upgrades (text_handed (two_ready 3) same_upgrade)
-  pub counts_first : CountsFirst (text_handed (two_ready 3) same_upgrade)
-  pub mends_beside : MendsBeside (text_handed (two_ready 3) same_upgrade)
-  pub no_image : NoImage (text_handed (two_ready 3) same_upgrade)
-  pub gone_at_last : GoneAtLast (text_handed (two_ready 3) same_upgrade)
-  pub refused : Refused (text_handed (two_ready 3) same_upgrade)
-  pub gone_early : GoneEarly (text_handed (two_ready 3) same_upgrade)
-  pub repaired_at_last : RepairedAtLast (text_handed (two_ready 3) same_upgrade)
-  pub old_file_left : OldFileLeft (text_handed (two_ready 3) same_upgrade)
-  pub attends : Attends (text_handed (two_ready 3) same_attended)
-  pub back_at_first : BackAtFirst (text_handed (two_ready 3) same_attended)
-  pub back_at_last : BackAtLast (text_handed (two_ready 3) same_attended)
-  pub back_is_short : BackIsShort (text_handed (two_ready 3) same_attended)
-  pub back_after_mending : BackAfterMending (text_handed (two_ready 3) same_attended)
+  -- What the new master of the upgrade is handed.
+  pub handover : handover_for (two_ready 3) same_upgrade ≡ Some handed
+  pub upgrades : Upgrades
+  pub counts_first : CountsFirst
+  pub mends_beside : MendsBeside
+  pub no_image : NoImage
+  pub gone_at_last : GoneAtLast
+  pub refused : Refused
+  pub gone_early : GoneEarly
+  pub repaired_at_last : RepairedAtLast
+  pub old_file_left : OldFileLeft
+  pub attends : Attends
+  pub back_at_first : BackAtFirst
+  pub back_at_last : BackAtLast
+  pub back_is_short : BackIsShort
+  pub back_after_mending : BackAfterMending
   -- One worker more.
   pub one_more :
       Gives two_ready_without_file (Workers 3) no_fault two_without_file

@@ -10,14 +10,12 @@ use Rattle.vocabulary.specs.declared.plans.Side.TheVariants as side
 use Rattle.vocabulary.specs.declared.reports.Entry.{Entry}
 use Rattle.vocabulary.specs.declared.reports.Outcome.TheVariants.{Done, RolledBack, Degraded, Lost}
 use Rattle.vocabulary.specs.declared.targets.Target.TheVariants.{Workers, Reload, Stop}
-use Rattle.definitions.specs.Table.{Master, Worker, Table, Caller}
+use Rattle.definitions.specs.Table.{Master, Worker, Table, Caller, IsFormed}
 use Rattle.definitions.specs.Service.{service}
 use Rattle.call_laws.specs.Aside.{LeavesAlone}
 use Rattle.definitions.specs.Tree.{Tree, Ends}
-use Rattle.definitions.specs.Parts.{Turn, Old, weave, joined}
-use Rattle.definitions.specs.Plans.{tries, old_part}
+use Rattle.definitions.specs.Plans.{Turn, Old, weave, joined, tries, old_part}
 use Rattle.theorems.specs.Apart.{WalksAll}
-use Rattle.definitions.specs.Formed.{IsFormed}
 use Rattle.definitions.specs.Crew.{layout_in}
 use Rattle.definitions.specs.Record.{Agrees, FilesAre, crew_of, layout_of}
 use Rattle.definitions.specs.Target.{want, wanted_at}

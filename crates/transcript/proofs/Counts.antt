@@ -1,6 +1,6 @@
 -- What the last count among calls said.
 use Rattle.std.proofs.Common.{◌≡◌, ℕ, List, [], ◌∷◌, ◌++◌, refl}
-use Rattle.definitions.specs.Path.{ready_after}
+use Rattle.definitions.specs.Run.{ready_after}
 use Rattle.vocabulary.specs.declared.reports.Entry.{Entry}
 use Rattle.transcript.specs.Reading.{count_after, last_count}
 

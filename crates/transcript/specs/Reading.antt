@@ -1,6 +1,6 @@
 -- Texts of several blocks, read line by line.
 use Rattle.std.specs.Prelude.{ℕ, ◌+◌, ◌==◌, List, [], ◌∷◌, ◌++◌, length, Option, Some, None, option_map, Result, Ok, Err, if◌then◌else◌}
-use Rattle.definitions.specs.Path.{ready_after}
+use Rattle.definitions.specs.Run.{ready_after}
 use Rattle.vocabulary.specs.declared.reports.Entry.{Entry}
 use Rattle.vocabulary.specs.declared.reports.Report.{Report}
 use Rattle.control_words.specs.declared.words.Word.{Word}

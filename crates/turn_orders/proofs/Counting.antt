@@ -1,6 +1,6 @@
 -- How many orders there are.
 use Rattle.std.proofs.Common.{◌≡◌, ◌<◌, ◌+◌, ◌-◌, ℕ, zero, suc, List, [], ◌∷◌, ◌++◌, map, length, refl, ap, sym, ◌∙◌, arith}
-use Rattle.definitions.specs.Parts.{Turn, New, Old}
+use Rattle.definitions.specs.Plans.{Turn, New, Old}
 use Rattle.turn_orders.specs.Orders.{orders}
 use Rattle.turn_orders.proofs.Listing.{length_each, both_go_on}
 

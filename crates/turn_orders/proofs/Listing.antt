@@ -1,7 +1,7 @@
 -- Orders, added one stretch after another.
 use Rattle.std.proofs.Common.{◌≡◌, ◌<◌, ◌+◌, ◌-◌, ℕ, zero, suc, List, [], ◌∷◌, ◌++◌, map, length, refl, ap, sym, ◌∙◌, arith}
 use Rattle.std.proofs.lemmas.List.{append_assoc}
-use Rattle.definitions.specs.Parts.{Turn, New, Old}
+use Rattle.definitions.specs.Plans.{Turn, New, Old}
 use Rattle.turn_orders.specs.Orders.{orders, begun_with}
 
 begun-more : (begun : List Turn) (turn : Turn) (lists : List (List Turn)) → begun_with (begun ++ turn ∷ []) lists ≡ begun_with begun (map (λ turns. turn ∷ turns) lists)

@@ -1,7 +1,7 @@
 -- The orders of turns that two masters can take.
 use Rattle.std.specs.Prelude.{ℕ, zero, suc, ◌≡◌, ◌≢◌, ◌+◌, List, [], ◌∷◌, ◌++◌, map}
 use Rattle.std.specs.List.{AllPairs, AllByRecursion, Contains}
-use Rattle.definitions.specs.Parts.{Turn, New, Old}
+use Rattle.definitions.specs.Plans.{Turn, New, Old}
 
 -- All lists of so many turns of the old master and so many of the new one, those first in which the new one goes on.
 abbrev pub orders : ℕ → ℕ → List (List Turn)

@@ -6,3 +6,4 @@ pub mod Lengths
 pub mod Upgrades
 pub mod Drawn
 pub mod Masters
+pub mod Handing

@@ -9,11 +9,11 @@ use Rattle.vocabulary.specs.declared.targets.Target.TheVariants as target
 use Rattle.vocabulary.specs.declared.plans.End.{End}
 use Rattle.definitions.specs.Crew.{Posts, Crew, fork_of}
 use Rattle.definitions.specs.Record.{Record, addresses_of, crew_of}
-use Rattle.definitions.specs.Target.{only_in, upgrade_generation, numbers_wanted, addresses_wanted, text_handed}
+use Rattle.definitions.specs.Target.{only_in, upgrade_generation, numbers_wanted, addresses_wanted, handover_for}
 use Rattle.definitions.specs.After.{next_image, numbered, posts_wanted, crew_wanted}
 use Rattle.definitions.specs.Calls.{Call, OpenAt, CloseAt, AwaitReady, Adopt, Census, WritePid}
 use Rattle.definitions.specs.Tree.{Tree, Ends, Done, RolledBack, ShortOld, ShortTarget, Split, JoinReady, JoinBack, Join, height}
-use Rattle.definitions.specs.Parts.{Turn, graft}
+use Rattle.definitions.specs.Plans.{Turn, graft}
 use Rattle.definitions.specs.Plans.{move_aside, new_calls, new_part, pid_calls, plan_tree, plan_length, relieve, taken_over, tries, tries_all, upgrade_tree, upgrade_length}
 use Rattle.plan_steps.specs.Stretches.{is_last, aside, longest_of}
 use Rattle.plan_steps.specs.Woven.{part_end}
@@ -118,9 +118,9 @@ pub same_numbers : (attended : Bool) (r : Record) (s : Settings) → numbers_wan
 same_numbers true r s = refl
 same_numbers false r s = refl
 
-pub same_text : (attended : Bool) (r : Record) (s : Settings) → text_handed r (asked_for attended s) ≡ text_handed r (target.Upgrade s)
-same_text true r s = refl
-same_text false r s = refl
+pub same_handover : (attended : Bool) (r : Record) (s : Settings) → handover_for r (asked_for attended s) ≡ handover_for r (target.Upgrade s)
+same_handover true r s = refl
+same_handover false r s = refl
 
 pub same_addresses : (attended : Bool) (r : Record) (s : Settings) → addresses_wanted r (asked_for attended s) ≡ s.listeners
 same_addresses true r s = refl

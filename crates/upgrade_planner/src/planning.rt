@@ -1,10 +1,10 @@
 //! The plan of an upgrade.
 ghost use Rattle.std.specs.Prelude.{◌≡◌, ◌≤◌, ◌↔◌, List, length, IfOk, IsErrOf, IsOkUnless, IsTrue};
 ghost use Rattle.vocabulary.specs.declared.targets.Target.TheVariants as target;
-ghost use Rattle.definitions.specs.After as after;
-ghost use Rattle.definitions.specs.Target.{sides_of, text_handed, upgrade_generation};
-ghost use Rattle.definitions.specs.Parts.{Turn};
-ghost use Rattle.definitions.specs.Plans.{plan_tree, plan_length};
+ghost use Rattle.service_state.specs.Targets.{lacks_generation};
+ghost use Rattle.definitions.specs.Target.{handover_for, sides_of, upgrade_generation};
+ghost use Rattle.definitions.specs.Plans.{Turn, plan_tree, plan_length};
+ghost use Rattle.handover_text.specs.Reading.{Hands};
 ghost use Rattle.rollback_plan.specs.Plans.{tree_under, length_of, note_of, sides_told, text_of, trees_in};
 ghost use Rattle.reload_planner.specs.Planning.{most_steps};
 ghost use Rattle.upgrade_planner.specs.Trees.{asked_for};
@@ -33,7 +33,7 @@ fn handed(
     generation: Generation,
 ) -> Result<Vec<u8>, AllocError>
     requires { generation ≡ upgrade_generation state.now.generation }
-    ensures { IfOk result (λ text. text.items ≡ text_handed state.now (target.Upgrade settings.now)) }
+    ensures { IfOk result (λ text. Hands text.items (handover_for state.now (target.Upgrade settings.now))) }
 {
     let handover = Handover {
         old_pid: state.pid,
@@ -70,7 +70,7 @@ fn plan_to(
     ensures longest { IfOk result (λ plan. length_of plan ≡ plan_length state.now (asked_for attended settings.now)) }
     ensures note { IfOk result (λ plan. note_of plan ≡ state.now.note) }
     ensures sides { IfOk result (λ plan. sides_told plan ≡ sides_of state.now (asked_for attended settings.now)) }
-    ensures text { IfOk result (λ plan. text_of plan ≡ text_handed state.now (asked_for attended settings.now)) }
+    ensures text { IfOk result (λ plan. Hands (text_of plan) (handover_for state.now (asked_for attended settings.now))) }
     ensures few { IfOk result (λ plan. length (trees_in plan) ≤ most_steps state.now (asked_for attended settings.now)) }
     ensures memory { IsOkUnless result PlanRefusal.Memory }
 {
@@ -119,9 +119,9 @@ fn plan_next(
     ensures longest { IfOk result (λ plan. length_of plan ≡ plan_length state.now (asked_for attended settings.now)) }
     ensures note { IfOk result (λ plan. note_of plan ≡ state.now.note) }
     ensures sides { IfOk result (λ plan. sides_told plan ≡ sides_of state.now (asked_for attended settings.now)) }
-    ensures text { IfOk result (λ plan. text_of plan ≡ text_handed state.now (asked_for attended settings.now)) }
+    ensures text { IfOk result (λ plan. Hands (text_of plan) (handover_for state.now (asked_for attended settings.now))) }
     ensures few { IfOk result (λ plan. length (trees_in plan) ≤ most_steps state.now (asked_for attended settings.now)) }
-    ensures numbered { IsErrOf result PlanRefusal.NoGeneration ↔ IsTrue (after.lacks_generation state.now (asked_for attended settings.now)) }
+    ensures numbered { IsErrOf result PlanRefusal.NoGeneration ↔ IsTrue (lacks_generation state.now (asked_for attended settings.now)) }
     ensures not_large { IsErrOf result PlanRefusal.TooLarge → ⊥ }
     ensures planned_here { IsErrOf result PlanRefusal.Unplanned → ⊥ }
 {
@@ -141,9 +141,9 @@ pub fn plan(alloc: Global, state: &Record, settings: &Settings) -> Result<Plan, 
     ensures longest { IfOk result (λ plan. length_of plan ≡ plan_length state.now (target.Upgrade settings.now)) }
     ensures note { IfOk result (λ plan. note_of plan ≡ state.now.note) }
     ensures sides { IfOk result (λ plan. sides_told plan ≡ sides_of state.now (target.Upgrade settings.now)) }
-    ensures text { IfOk result (λ plan. text_of plan ≡ text_handed state.now (target.Upgrade settings.now)) }
+    ensures text { IfOk result (λ plan. Hands (text_of plan) (handover_for state.now (target.Upgrade settings.now))) }
     ensures few { IfOk result (λ plan. length (trees_in plan) ≤ most_steps state.now (target.Upgrade settings.now)) }
-    ensures numbered { IsErrOf result PlanRefusal.NoGeneration ↔ IsTrue (after.lacks_generation state.now (target.Upgrade settings.now)) }
+    ensures numbered { IsErrOf result PlanRefusal.NoGeneration ↔ IsTrue (lacks_generation state.now (target.Upgrade settings.now)) }
     ensures not_large { IsErrOf result PlanRefusal.TooLarge → ⊥ }
     ensures planned_here { IsErrOf result PlanRefusal.Unplanned → ⊥ }
 {
@@ -162,9 +162,9 @@ pub fn plan_attended(
     ensures longest { IfOk result (λ plan. length_of plan ≡ plan_length state.now (target.Attended settings.now)) }
     ensures note { IfOk result (λ plan. note_of plan ≡ state.now.note) }
     ensures sides { IfOk result (λ plan. sides_told plan ≡ sides_of state.now (target.Attended settings.now)) }
-    ensures text { IfOk result (λ plan. text_of plan ≡ text_handed state.now (target.Attended settings.now)) }
+    ensures text { IfOk result (λ plan. Hands (text_of plan) (handover_for state.now (target.Attended settings.now))) }
     ensures few { IfOk result (λ plan. length (trees_in plan) ≤ most_steps state.now (target.Attended settings.now)) }
-    ensures numbered { IsErrOf result PlanRefusal.NoGeneration ↔ IsTrue (after.lacks_generation state.now (target.Attended settings.now)) }
+    ensures numbered { IsErrOf result PlanRefusal.NoGeneration ↔ IsTrue (lacks_generation state.now (target.Attended settings.now)) }
     ensures not_large { IsErrOf result PlanRefusal.TooLarge → ⊥ }
     ensures planned_here { IsErrOf result PlanRefusal.Unplanned → ⊥ }
 {

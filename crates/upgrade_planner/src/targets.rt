@@ -1,9 +1,9 @@
 //! The plan of a target, by the planner that plans such a target.
 ghost use Rattle.std.specs.Prelude.{◌≡◌, ◌≤◌, ◌↔◌, List, length, IfOk, IsErrOf, IsTrue};
-ghost use Rattle.definitions.specs.Target.{IsTarget, sides_of, text_handed};
-ghost use Rattle.definitions.specs.After.{lacks_generation};
-ghost use Rattle.definitions.specs.Parts.{Turn};
-ghost use Rattle.definitions.specs.Plans.{plan_tree, plan_length};
+ghost use Rattle.definitions.specs.Target.{handover_for, sides_of};
+ghost use Rattle.service_state.specs.Targets.{IsTarget, lacks_generation};
+ghost use Rattle.definitions.specs.Plans.{Turn, plan_tree, plan_length};
+ghost use Rattle.handover_text.specs.Reading.{Hands};
 ghost use Rattle.rollback_plan.specs.Plans.{tree_under, length_of, note_of, sides_told, text_of, trees_in};
 ghost use Rattle.reload_planner.specs.Planning.{most_steps};
 ghost use Rattle.upgrade_planner.specs.Planned.{HasPlan};
@@ -27,7 +27,7 @@ pub fn plan_target(alloc: Global, state: &Record, target: &Target) -> Result<Pla
     ensures longest { IfOk result (λ plan. length_of plan ≡ plan_length state.now target.now) }
     ensures note { IfOk result (λ plan. note_of plan ≡ state.now.note) }
     ensures sides { IfOk result (λ plan. sides_told plan ≡ sides_of state.now target.now) }
-    ensures text { IfOk result (λ plan. text_of plan ≡ text_handed state.now target.now) }
+    ensures text { IfOk result (λ plan. Hands (text_of plan) (handover_for state.now target.now)) }
     ensures few { IfOk result (λ plan. length (trees_in plan) ≤ most_steps state.now target.now) }
     ensures numbered { IsErrOf result PlanRefusal.NoGeneration ↔ IsTrue (lacks_generation state.now target.now) }
     ensures not_large { IsErrOf result PlanRefusal.TooLarge → ⊥ }

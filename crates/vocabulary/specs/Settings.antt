@@ -1,7 +1,8 @@
 -- What a configuration says.
-use Rattle.std.specs.Prelude.{◌≡◌, ℕ, ◌≤◌, List, [], ◌∷◌, Option, Some, None, length, codes}
+use Rattle.std.specs.Prelude.{◌≡◌, ℕ, ◌+◌, ◌≤◌, List, [], ◌∷◌, Option, Some, None, length, codes}
 use Rattle.worker_groups.specs.declared.groups.Group.{Group}
 use Rattle.worker_groups.specs.Groups.{addresses_in, workers_in, AreGroups}
+use Rattle.vocabulary.specs.declared.table.Listener.{Listener}
 
 pub record Settings : Type 0 where
   pub listeners : List (List ℕ)
@@ -31,3 +32,8 @@ pub record IsInRange (s : Settings) : Type 0 where
 -- the settings of an empty configuration
 abbrev pub plain_settings : Settings
 plain_settings = record { listeners = codes "0.0.0.0:8080" ∷ []; workers = 1; groups = record { addresses = 1; workers = 1 } ∷ []; timeout = 60; retries = 3; pid = None }
+
+-- addresses in order, from a descriptor on
+abbrev pub listeners_from : ℕ → List (List ℕ) → List Listener
+listeners_from fd [] = []
+listeners_from fd (a ∷ rest) = (record { descriptor = fd; address = a }) ∷ listeners_from (fd + 1) rest

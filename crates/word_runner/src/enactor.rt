@@ -1,7 +1,7 @@
 //! What carries targets out.
 ghost use Rattle.std.specs.Prelude.{◌≡◌, ℕ, List, OnErr, IfOk, IfErr, IsErrOf};
 ghost use Rattle.definitions.specs.Record.{Record as Known};
-ghost use Rattle.definitions.specs.Target.{IsTarget};
+ghost use Rattle.service_state.specs.Targets.{IsTarget};
 ghost use Rattle.vocabulary.specs.declared.targets.Target.{Target as Wanted};
 ghost use Rattle.word_runner.specs.declared.enactor.Enacted.{Enacted as Done};
 ghost use Rattle.word_runner.specs.Enactors.{HasCode};

@@ -2,7 +2,7 @@ use Rattle.std.proofs.Common.{rules, ◌≡◌, ◌⊎◌, inl, [], ◌∷◌, R
 use Rattle.std.proofs.lemmas.Result.{err_from_is_err_and}
 use mathlib.Core.Bool.{true≢false}
 use Rattle.definitions.specs.Record.{Record, Agrees}
-use Rattle.definitions.specs.Target.{text_handed, sides_of}
+use Rattle.definitions.specs.Target.{handover_for, sides_of}
 use Rattle.definitions.specs.Plans.{plan_length}
 use Rattle.plan_walk.specs.Path.{begin}
 use Rattle.definitions.specs.Claims.{heirs_of}
@@ -85,7 +85,7 @@ returns-in_err-replay-clause-exact c =
     let p = err_from_is_err_and c.from_residual-in_err-replay.result c.from_residual-in_err-replay.ensures.1 in
     let why = c.in_err-replay.field-0.0 in
     let alike : p.0 ≡ why = cc in
-    let stops = subst (λ (X : Type 0). X) (λ i. StopsBy (c.in_ok-plan.ensures.text i) (same i) (start i) es why) c.in_err-replay.ensures.err in
+    let stops = subst (λ (X : Type 0). X) (λ i. StopsBy (c.in_ok-plan.ensures.text.read i) (same i) (start i) es why) c.in_err-replay.ensures.err in
     let failed : Result Section Mismatch = Err why in
     subst (IsExactly (IsNoBeginning t r target es)) (sym (p.1 ∙ ap Err alike)) (answered-beginning t r target es ready failed tt stops).1
 
@@ -107,13 +107,13 @@ returns c =
     let same : listed c.heir_of-heir.result ≡ heirs_of r target = c.heir_of-heir.ensures in
     let start : planned_start c.in_ok-plan.plan c.in_ok-copy.copy.table c.state.inside.generation.image ≡ starts t r target =
     λ i. record { trail = λ turns. begin (c.in_ok-plan.ensures.tree turns i) (c.in_ok-plan.ensures.note i); table = (c.in_ok-copy.ensures.same i).table; executing = image i ∷ [] } in
-    let text = text_handed r target in
+    let handed = handover_for r target in
     let heirs = heirs_of r target in
     let sides = sides_of r target in
     let from = starts t r target in
     let x = c.in_ok-replay.replay in
-    let taken : HasTaken text heirs sides from es x =
-    subst (λ (X : Type 0). X) (λ i. HasTaken (c.in_ok-plan.ensures.text i) (same i) (c.in_ok-plan.ensures.sides i) (start i) es x) c.in_ok-replay.ensures.ok in
+    let taken : HasTaken handed heirs sides from es x =
+    subst (λ (X : Type 0). X) (λ i. HasTaken (c.in_ok-plan.ensures.text.read i) (same i) (c.in_ok-plan.ensures.sides i) (start i) es x) c.in_ok-replay.ensures.ok in
     let found : Result Section Mismatch = Ok c.shown.result in
-    let all = answered-beginning t r target es ready found (shows-all text heirs sides from es x taken c.shown.result c.shown.ensures.pattern c.shown.ensures.turns) tt in
+    let all = answered-beginning t r target es ready found (shows-all handed heirs sides from es x taken c.shown.result c.shown.ensures.pattern c.shown.ensures.turns) tt in
     record { ok = all.0; exact = all.1; complete = λ section is. complete-beginning t r target es section found all.1 is; memory = λ _. record { agrees = agrees; spared = λ p none. no_plan r target p none plan } }

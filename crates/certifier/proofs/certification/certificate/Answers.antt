@@ -2,7 +2,7 @@ use Rattle.std.proofs.Common.{rules, ◌≡◌, ◌⊎◌, inl, [], ◌∷◌, R
 use Rattle.std.proofs.lemmas.Result.{err_from_is_err_and}
 use mathlib.Core.Bool.{true≢false}
 use Rattle.definitions.specs.Record.{Record, Agrees}
-use Rattle.definitions.specs.Target.{text_handed, sides_of}
+use Rattle.definitions.specs.Target.{handover_for, sides_of}
 use Rattle.definitions.specs.Plans.{plan_length}
 use Rattle.plan_walk.specs.Path.{begin}
 use Rattle.definitions.specs.Claims.{heirs_of}
@@ -96,10 +96,10 @@ returns-in_err-replay-clause-exact c =
     let p = err_from_is_err_and c.from_residual-in_err-replay.result c.from_residual-in_err-replay.ensures.1 in
     let why = c.in_err-replay.field-0.0 in
     let alike : p.0 ≡ why = cc in
-    let stops = subst (λ (X : Type 0). X) (λ i. StopsBy (c.in_ok-plan.ensures.text i) (same i) (start i) es why) c.in_err-replay.ensures.err in
+    let stops = subst (λ (X : Type 0). X) (λ i. StopsBy (c.in_ok-plan.ensures.text.read i) (same i) (start i) es why) c.in_err-replay.ensures.err in
     let failed : Result Certificate Mismatch = Err why in
     subst (IsExact t r target es report) (sym (p.1 ∙ ap Err alike))
-    (answered (λ (it : Certificate). it.section) t r target es report ready failed tt (stops-so (text_handed r target) (heirs_of r target) (sides_of r target) (starts t r target) es report why stops))
+    (answered (λ (it : Certificate). it.section) t r target es report ready failed tt (stops-so (handover_for r target) (heirs_of r target) (sides_of r target) (starts t r target) es report why stops))
 
 pub returns-in_err-replay-clause-complete : goal.returns-in_err-replay-clause-complete
 returns-in_err-replay-clause-complete c =
@@ -138,16 +138,16 @@ returns c =
     let same : listed c.heir_of-heir.result ≡ heirs_of r target = c.heir_of-heir.ensures in
     let start : planned_start c.in_ok-plan.plan c.in_ok-copy.copy.table c.state.inside.generation.image ≡ starts t r target =
     λ i. record { trail = λ turns. begin (c.in_ok-plan.ensures.tree turns i) (c.in_ok-plan.ensures.note i); table = (c.in_ok-copy.ensures.same i).table; executing = image i ∷ [] } in
-    let text = text_handed r target in
+    let handed = handover_for r target in
     let heirs = heirs_of r target in
     let sides = sides_of r target in
     let from = starts t r target in
     let x = c.in_ok-replay.replay in
-    let taken : HasTaken text heirs sides from es x =
-    subst (λ (X : Type 0). X) (λ i. HasTaken (c.in_ok-plan.ensures.text i) (same i) (c.in_ok-plan.ensures.sides i) (start i) es x) c.in_ok-replay.ensures.ok in
-    let holds = ends-well text heirs sides from es x taken report c.end.result c.end.ensures.ok in
-    let led = ends-led text heirs sides from es x taken (plan_length r target) (c.in_ok-replay.ensures.left ∙ c.in_ok-plan.ensures.longest) report c.end.result c.end.ensures.ok c.end.ensures.kernel in
-    let exact = answered (λ (it : Certificate). it.section) t r target es report ready c.end.result holds (ends-badly text heirs sides from es x taken report c.end.result c.end.ensures.err) in
+    let taken : HasTaken handed heirs sides from es x =
+    subst (λ (X : Type 0). X) (λ i. HasTaken (c.in_ok-plan.ensures.text.read i) (same i) (c.in_ok-plan.ensures.sides i) (start i) es x) c.in_ok-replay.ensures.ok in
+    let holds = ends-well handed heirs sides from es x taken report c.end.result c.end.ensures.ok in
+    let led = ends-led handed heirs sides from es x taken (plan_length r target) (c.in_ok-replay.ensures.left ∙ c.in_ok-plan.ensures.longest) report c.end.result c.end.ensures.ok c.end.ensures.kernel in
+    let exact = answered (λ (it : Certificate). it.section) t r target es report ready c.end.result holds (ends-badly handed heirs sides from es x taken report c.end.result c.end.ensures.err) in
     record {
       ok = has-enacted c.args.kernel.now r target es report ready due c.end.result holds led;
       exact = exact;

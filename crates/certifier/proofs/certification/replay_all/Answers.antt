@@ -1,3 +1,4 @@
+use Rattle.handover_text.specs.Reading.{handed_by}
 use Rattle.std.proofs.Common.{◌≡◌, ◌+◌, ◌<◌, length, List, ◌∷◌, [], ◌++◌, take, refl, sym, ◌∙◌, ap, subst, arith}
 use Rattle.std.proofs.lemmas.Bool.{false≢true}
 use Rattle.std.proofs.lemmas.List.{take_more}
@@ -13,7 +14,7 @@ use Rattle.certifier.proofs.certification.replay_all.Goals as goal
 pub loop-place-init : goal.loop-place-init
 loop-place-init c =
     let before = c.new-replay.ensures in (
-      subst (λ (X : Type 0). X) (λ i. HasTaken (before.text i) (ap listed before.heir i) (before.sides i) (before.start i) [] c.new-replay.result) before.taken,
+      subst (λ (X : Type 0). X) (λ i. HasTaken (handed_by (before.text i)) (ap listed before.heir i) (before.sides i) (before.start i) [] c.new-replay.result) before.taken,
       omega (arith, before.room, c.requires),
     )
 
@@ -29,8 +30,8 @@ loop-place-preserved c =
     let longer : take (place + 1) entries ≡ take place entries ++ e ∷ [] = take_more entries place e within ∙ ap (λ x. take place entries ++ x ∷ []) (((get_or_from_slice_get entries place e e c.get.ensures))) in
     let left = c.in_ok-take.ensures.left c.if-not-branch.false in
     let before = c.loop-place.invariant.1 in (
-      subst (λ (es : List Entry). HasTaken (text_of plan) heirs (sides_told plan) from es c.take.new.self) (sym longer)
-          (taken-on (text_of plan) heirs (sides_told plan) from (take place entries) e c.loop-place.replay c.loop-place.invariant.0 c.take.new.self (c.in_ok-take.ensures.taken c.if-not-branch.false)),
+      subst (λ (es : List Entry). HasTaken (handed_by (text_of plan)) heirs (sides_told plan) from es c.take.new.self) (sym longer)
+          (taken-on (handed_by (text_of plan)) heirs (sides_told plan) from (take place entries) e c.loop-place.replay c.loop-place.invariant.0 c.take.new.self (c.in_ok-take.ensures.taken c.if-not-branch.false)),
       omega (arith, left, before),
     )
 
@@ -54,6 +55,6 @@ returns-then-not-branch-clause-err c =
           λ others all. false≢true
           (sym c.if-not-branch.true
           ∙ c.in_ok-take.ensures.next.1
-          (next-then (text_of plan) heirs (sides_told plan) from (take place entries) e c.loop-place.replay c.loop-place.invariant.0 others
-          (subst (λ (es : List Entry). AreNextUnder (text_of plan) heirs from others es) longer all)));
+          (next-then (handed_by (text_of plan)) heirs (sides_told plan) from (take place entries) e c.loop-place.replay c.loop-place.invariant.0 others
+          (subst (λ (es : List Entry). AreNextUnder (handed_by (text_of plan)) heirs from others es) longer all)));
     }

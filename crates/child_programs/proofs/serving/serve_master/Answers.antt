@@ -1,5 +1,5 @@
 use Rattle.std.proofs.Common.{◌≡◌, ℕ, List, Option, Some, Ok, inl, inr, refl, sym, ap, subst, ◌∙◌}
-use Rattle.definitions.specs.Reading.{reading}
+use Rattle.handover_text.specs.Reading.{reading}
 use Rattle.child_processes.specs.NextLine.{unheard}
 use Rattle.child_programs.specs.declared.answering.Refusing.{Refusing}
 use Rattle.child_programs.specs.Served.{IsNextLine}

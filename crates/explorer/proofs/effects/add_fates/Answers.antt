@@ -9,10 +9,11 @@ use Rattle.vocabulary.specs.declared.calls.Fate.TheVariants.{InUse}
 use Rattle.explorer.proofs.Listing.{passes-next}
 use Rattle.explorer.proofs.effects.add_fates.Goals as goal
 use Rattle.explorer.proofs.effects.add_fates.Goals.{then-branch+in_ok-push, else-branch}
+use Rattle.handover_text.specs.Reading.{handed_by}
 
 pub loop-fate-preserved : goal.loop-fate-preserved
 loop-fate-preserved c =
-    let test = takes_effect c.args.text.now c.args.by c.args.call.now c.args.kernel.now.table in
+    let test = takes_effect (handed_by c.args.text.now) c.args.by c.args.call.now c.args.kernel.now.table in
     let all : List Mishap = c.args.mishaps.now.items ++ map Fail (filter test all_fates) in
     elim c.if-branch.branch [
       | then-branch+in_ok-push w ↦

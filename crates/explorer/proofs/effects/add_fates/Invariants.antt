@@ -1,3 +1,4 @@
+use Rattle.handover_text.specs.Reading.{handed_by}
 use Rattle.std.proofs.Common.{◌≡◌, ◌++◌, map, drop}
 use Rattle.std.specs.List.{filter}
 use Rattle.explorer.specs.declared.events.Mishap.TheVariants.{Fail}
@@ -7,5 +8,5 @@ use Rattle.explorer.proofs.effects.add_fates.Given as goal
 
 abbrev pub invariant-loop-fate : goal.invariant-loop-fate
 invariant-loop-fate l =
-    let test = takes_effect l.text l.by l.call l.kernel.table in
+    let test = takes_effect (handed_by l.text) l.by l.call l.kernel.table in
     l.mishaps.items ++ map Fail (filter test (drop l.fate-index all_fates)) ≡ l.fn.mishaps.items ++ map Fail (filter test all_fates)

@@ -39,7 +39,7 @@ loop-due-preserved g c =
       counts = turned start None (with-first r to turns t pairs) (firsts-counting r to turns t pairs) run c.make.new.self due c.args.found.now.tally c.loop-due.found.tally c.count_all_with_pairs.new.found.tally is (λ p q at come.
           let all = subst (AllByRecursion (IsKnownAt run (run.made + 1))) (sym c.deref.ensures.value) (kept.known p at due.by due.call c.in-Some.ensures.some) in
           let opened : map (event_at (run.made + 1)) c.deref-in-Some.result.now ≡ open_now run due quiet None =
-          ap (map (event_at (run.made + 1))) (c.deref-in-Some.ensures.value ∙ c.in_ok-mishaps.ensures ∙ (λ i. mishaps_at (come.text i) due.by due.call (waiting due.call (listed run.heir)) 0 run.kernel.table)) in
+          ap (map (event_at (run.made + 1))) (c.deref-in-Some.ensures.value ∙ c.in_ok-mishaps.ensures ∙ (λ i. mishaps_at (come.handed i) due.by due.call (waiting due.call (listed run.heir)) 0 run.kernel.table)) in
           c.in_ok-known.ensures.counted q come all ∙ (λ i. with_runs (kept.state i) (kept.target i) (kept.turns i) ((kept.first i).table) (each_with_pairs (kept.state i) (kept.target i) (kept.turns i) ((kept.first i).table) pairs (opened i)) (c.look.ensures.tally i))) kept.counts;
     }
 

@@ -1,6 +1,6 @@
 use Rattle.std.proofs.Common.{◌≡◌, ◌+◌, Some, map, sym, ap, ◌∙◌, arith}
 use Rattle.definitions.specs.Run.{quiet}
-use Rattle.definitions.specs.Target.{text_handed}
+use Rattle.definitions.specs.Target.{handover_for}
 use Rattle.plan_executor.specs.Naming.{listed}
 use Rattle.plan_walk.specs.Course.{turns_of}
 use Rattle.explorer.specs.declared.events.Tried.TheVariants.{Two}
@@ -35,7 +35,7 @@ loop-due-preserved g c =
       counts = turned start (Some first) (with-second r to turns t first) (seconds-counting r to turns t first) run c.make.new.self due c.args.found.now.tally c.loop-due.found.tally c.count_pairs.new.found.tally is (λ p q at come.
           let waits = waiting due.call (listed run.heir) in
           let opened : map (event_at (run.made + 1)) c.deref.result.now ≡ open_now run due quiet (Some first) =
-          ap (map (event_at (run.made + 1))) (c.deref.ensures.value ∙ c.in_ok-mishaps.ensures ∙ (λ i. mishaps_at (come.text i) due.by due.call waits 0 run.kernel.table) ∙ sym (open-behind (text_handed run.state.now run.target.now) due.by due.call waits first (run.made + 1) run.kernel.table (omega (arith, kept.made)))) in
+          ap (map (event_at (run.made + 1))) (c.deref.ensures.value ∙ c.in_ok-mishaps.ensures ∙ (λ i. mishaps_at (come.handed i) due.by due.call waits 0 run.kernel.table) ∙ sym (open-behind (handover_for run.state.now run.target.now) due.by due.call waits first (run.made + 1) run.kernel.table (omega (arith, kept.made)))) in
           c.in_ok-count_pairs.ensures q come ∙ (λ i. with_runs (kept.state i) (kept.target i) (kept.turns i) ((kept.first i).table) (map (Two first) (opened i)) (c.look.ensures.tally i))) kept.counts;
     }
 

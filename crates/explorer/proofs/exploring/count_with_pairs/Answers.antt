@@ -5,7 +5,7 @@ use Rattle.vocabulary.specs.declared.reports.Report.{Report}
 use Rattle.definitions.specs.Table.{Table}
 use Rattle.definitions.specs.Exits.{after_exits}
 use Rattle.definitions.specs.Run.{Moment, quiet}
-use Rattle.definitions.specs.Target.{text_handed}
+use Rattle.definitions.specs.Target.{handover_for}
 use Rattle.plan_walk.specs.Course.{turns_of, trail_on}
 use Rattle.plan_walk.proofs.Paths.{asks_height}
 use Rattle.plan_executor.specs.Naming.{listed}
@@ -51,7 +51,7 @@ returns-clause-counted g c = λ p at all.
     let to = run.target.now in
     let turns = turns_of run.course in
     let t = run.first.now.table in
-    let text = text_handed r to in
+    let handed = handover_for r to in
     let waits = waiting due.call (listed run.heir) in
     let n = run.made + 1 in
     let first = event_at n c.args.mishap in
@@ -62,12 +62,12 @@ returns-clause-counted g c = λ p at all.
     let on = c.in_ok-behind.ensures in
     let behind = c.in_ok-behind.behind in
     let onto = after_due (record run { tried = One first }) m p in
-    let here : List Mishap = beside text due.by due.call waits c.args.mishap (after_exits m.exits run.kernel.table) in
+    let here : List Mishap = beside handed due.by due.call waits c.args.mishap (after_exits m.exits run.kernel.table) in
     let events : events_after r to turns t (One first) ≡ map (event_at n) here ++ left behind onto (Some first) =
     there.come.meets (pattern_of (One first)) first (λ k le. refl) (omega arith)
-    ∙ ap (λ (x : Table). met text (Some first) (pattern_of (One first)) (listed run.heir) run.made x (rest_run text (trail_on run.course).rest (pattern_of (One first)) p).entries) at.table
+    ∙ ap (λ (x : Table). met handed (Some first) (pattern_of (One first)) (listed run.heir) run.made x (rest_run handed (trail_on run.course).rest (pattern_of (One first)) p).entries) at.table
     ∙ on.left p (Some first) there
-    ∙ ap (λ (ms : List Mishap). map (event_at n) ms ++ left behind onto (Some first)) (open-beside text due.by due.call waits first n (after_exits m.exits run.kernel.table) refl) in
+    ∙ ap (λ (ms : List Mishap). map (event_at n) ms ++ left behind onto (Some first)) (open-beside handed due.by due.call waits first n (after_exits m.exits run.kernel.table) refl) in
     let one : c.count_report.new.found.tally ≡ with_runs r to turns t (One first ∷ []) c.args.found.now.tally =
     c.in_ok-count_report.ensures
     ∙ ap (λ (x : Report). counted (One first) x.outcome c.rest_of_run.new.found.tally) (c.in_ok-rest.ensures.report p at all)

@@ -3,7 +3,7 @@ use Rattle.std.specs.Prelude.{IfOk}
 use Rattle.std.specs.List.{slice_split}
 use Rattle.std.proofs.lemmas.Result.{err_from_is_err_and}
 use Rattle.plain_text.proofs.CutTexts.{cut_parts, cut_missing, cut_shorter}
-use Rattle.definitions.specs.Reading.{read_line, read_pieces}
+use Rattle.handover_text.specs.Reading.{read_line, read_pieces}
 use Rattle.handover_text.specs.Ranges.{IsSpelling}
 use Rattle.handover_text.proofs.SoFar.{is_newline, number_small, pieces_last, line_taken, line_refused, taken_in_range}
 use Rattle.handover_text.proofs.Spelled.{reading_spelled}

@@ -1,6 +1,6 @@
 use Rattle.std.proofs.Common.{◌≡◌, ◌≤◌, length}
 use Rattle.std.specs.List.{slice_split}
-use Rattle.definitions.specs.Reading.{read_pieces, reading}
+use Rattle.handover_text.specs.Reading.{read_pieces, reading}
 use Rattle.handover_text.specs.Ranges.{IsReadTo}
 use Rattle.handover_text.proofs.SoFar.{is_newline}
 use Rattle.handover_text.proofs.reading.read.Given as goal

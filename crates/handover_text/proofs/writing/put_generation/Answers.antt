@@ -3,7 +3,7 @@ use Rattle.std.specs.Prelude.{codes}
 use Rattle.std.specs.Fmt.{decimal}
 use Rattle.std.proofs.lemmas.Result.{IfOk-equal}
 use Rattle.std.proofs.lemmas.List.{append_assoc}
-use Rattle.definitions.specs.Handover.{line_of}
+use Rattle.handover_text.specs.Spelling.{line_of}
 use Rattle.handover_text.proofs.writing.put_generation.Goals as goal
 
 -- the end of a line behind its beginning is the line

@@ -1,8 +1,8 @@
 use Rattle.std.proofs.Common.{◌≡◌, ◌++◌, length, drop}
 use Rattle.std.specs.List.{list_all}
 use Rattle.worker_groups.specs.Groups.{addresses_in}
-use Rattle.definitions.specs.Handover.{group_lines}
-use Rattle.definitions.specs.Reading.{is_address}
+use Rattle.handover_text.specs.Spelling.{group_lines}
+use Rattle.handover_text.specs.Reading.{is_address}
 use Rattle.handover_text.proofs.writing.put_groups.Given as goal
 
 abbrev pub invariant-loop-group : goal.invariant-loop-group

@@ -1,7 +1,7 @@
 use Rattle.std.proofs.Common.{◌≡◌, ◌++◌, true, take}
 use Rattle.std.specs.List.{flat_map, list_all}
-use Rattle.definitions.specs.Handover.{listener_line}
-use Rattle.definitions.specs.Reading.{is_address}
+use Rattle.handover_text.specs.Spelling.{listener_line}
+use Rattle.handover_text.specs.Reading.{is_address}
 use Rattle.vocabulary.specs.declared.table.Listener.{Listener}
 use Rattle.handover_text.proofs.writing.put_listeners.Given as goal
 

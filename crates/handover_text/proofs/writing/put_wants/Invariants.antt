@@ -1,7 +1,7 @@
 use Rattle.std.proofs.Common.{◌≡◌, ◌++◌, true, take}
 use Rattle.std.specs.List.{flat_map, list_all}
-use Rattle.definitions.specs.Handover.{want_line}
-use Rattle.definitions.specs.Reading.{is_address}
+use Rattle.handover_text.specs.Spelling.{want_line}
+use Rattle.handover_text.specs.Reading.{is_address}
 use Rattle.handover_text.proofs.writing.put_wants.Given as goal
 
 abbrev pub invariant-loop-address : goal.invariant-loop-address

@@ -1,8 +1,9 @@
 use Rattle.std.proofs.Common.{◌≡◌, ◌++◌, Ok, arith, ap, subst, ◌∙◌}
 use Rattle.std.specs.Prelude.{codes}
 use Rattle.std.specs.List.{flat_map}
-use Rattle.definitions.specs.Handover.{Handover, Two, spelling, line_of, listener_line, group_lines, pid_file_line}
-use Rattle.definitions.specs.Reading.{reading}
+use Rattle.definitions.specs.Calls.{Handover}
+use Rattle.handover_text.specs.Spelling.{Two, spelling, line_of, listener_line, group_lines, pid_file_line}
+use Rattle.handover_text.specs.Reading.{reading}
 use Rattle.handover_text.proofs.Spelled.{old_pid_line, generation_line, spelled_whole}
 use Rattle.handover_text.specs.Ranges.{IsHandover}
 use Rattle.handover_text.proofs.Taken.{reading-spelling}

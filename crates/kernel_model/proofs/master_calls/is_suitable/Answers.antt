@@ -1,6 +1,6 @@
 use Rattle.std.proofs.Common.{sym, ap, ◌∙◌}
-use Rattle.definitions.specs.Handover.{Handover}
-use Rattle.definitions.specs.Calls.{suits}
+use Rattle.std.specs.Result.{result_ok}
+use Rattle.definitions.specs.Calls.{Handover, suits}
 use Rattle.kernel_rows.specs.Holds.{seen_holds}
 use Rattle.kernel_model.proofs.Adopted.{suits-image}
 use Rattle.kernel_model.proofs.master_calls.is_suitable.Goals as goal
@@ -12,4 +12,4 @@ returns-then-handover-image c =
     let image = sym (ap (λ (x : Handover). x.generation.image) c.handover.view_is) ∙ c.if-handover-image.true in
     let listeners = c.as_slice.ensures.items ∙ ap (λ (x : Handover). x.listeners) c.handover.view_is in
     let is = rw (c.deref.ensures.value, listeners) at c.are_listeners.ensures in
-    suits-image h c.args.image holds c.are_listeners.result image is ∙ ap (λ r. suits r c.args.image holds) (sym c.in-Ok.is ∙ c.read.ensures.exact)
+    suits-image h c.args.image holds c.are_listeners.result image is ∙ ap (λ r. suits (result_ok r) c.args.image holds) (sym c.in-Ok.is ∙ c.read.ensures.exact)

@@ -1,5 +1,5 @@
 use Rattle.std.proofs.Common.{[], ◌∷◌, ◌++◌, ap, ◌∙◌}
-use Rattle.definitions.specs.Parts.{Old}
+use Rattle.definitions.specs.Plans.{Old}
 use Rattle.master_on_children.proofs.Alternating.{once-more}
 use Rattle.master_on_children.proofs.taking_turns.turns_by_turns.Goals as goal
 

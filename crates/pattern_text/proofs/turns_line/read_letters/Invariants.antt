@@ -1,6 +1,6 @@
 use Rattle.std.proofs.Common.{◌≡◌, ◌++◌, List, drop, Some}
 use Rattle.std.specs.Prelude.{option_map}
-use Rattle.definitions.specs.Parts.{Turn}
+use Rattle.definitions.specs.Plans.{Turn}
 use Rattle.pattern_text.specs.TurnsText.{turns_for}
 use Rattle.pattern_text.proofs.turns_line.read_letters.Given as goal
 

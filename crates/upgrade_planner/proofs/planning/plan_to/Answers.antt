@@ -7,15 +7,16 @@ use Rattle.vocabulary.specs.declared.table.Listener.{Listener}
 use Rattle.definitions.specs.Crew.{Crew}
 use Rattle.definitions.specs.Record.{Record, addresses_of, crew_of}
 use Rattle.definitions.specs.After.{posts_wanted}
-use Rattle.definitions.specs.Target.{only_in, upgrade_generation}
-use Rattle.definitions.specs.Parts.{Turn}
-use Rattle.definitions.specs.Plans.{plan_tree, plan_length}
-use Rattle.rollback_plan.specs.Plans.{tree_under, length_of}
+use Rattle.vocabulary.specs.declared.targets.Target.TheVariants as target
+use Rattle.definitions.specs.Target.{handover_for, only_in, upgrade_generation}
+use Rattle.handover_text.specs.Reading.{Hands}
+use Rattle.definitions.specs.Plans.{Turn, plan_tree, plan_length}
+use Rattle.rollback_plan.specs.Plans.{tree_under, length_of, text_of}
 use Rattle.reload_planner.proofs.Sets.{filter_few, length-below}
 use Rattle.upgrade_planner.specs.Trees.{asked_for}
 use Rattle.upgrade_planner.proofs.Drawn.{drawn_parts, drawn_fit, drawn_tree, drawn_length}
 use Rattle.upgrade_planner.proofs.Masters.{drawn_apart}
-use Rattle.upgrade_planner.proofs.Upgrades.{same_numbers, same_addresses, same_text, upgrade_is, as_long}
+use Rattle.upgrade_planner.proofs.Upgrades.{same_numbers, same_addresses, same_handover, upgrade_is, as_long}
 use Rattle.upgrade_planner.proofs.planning.plan_to.Goals as goal
 
 pub finish_in_parts-requires-clause-parts : goal.finish_in_parts-requires-clause-parts
@@ -61,7 +62,10 @@ pub returns-clause-longest : goal.returns-clause-longest
 returns-clause-longest c = (planned c).1
 
 pub returns-clause-text : goal.returns-clause-text
-returns-clause-text c = c.in_ok-finish_in_parts.ensures.text ∙ (c.in_ok-text.ensures ∙ sym (same_text c.args.attended c.args.state.now c.args.settings.now))
+returns-clause-text c =
+    let s = c.args.settings.now in
+    subst (Hands (text_of c.in_ok-finish_in_parts.field-0)) (sym (same_handover c.args.attended c.args.state.now s))
+    (subst (λ text. Hands text (handover_for c.args.state.now (target.Upgrade s))) (sym c.in_ok-finish_in_parts.ensures.text) c.in_ok-text.ensures)
 
 pub returns-clause-few : goal.returns-clause-few
 returns-clause-few c =

@@ -1,6 +1,6 @@
 use Rattle.std.proofs.Common.{[], refl, sym, ◌∙◌, subst}
 use Rattle.std.proofs.lemmas.Bool.{false≢true}
-use Rattle.definitions.specs.Path.{Report}
+use Rattle.definitions.specs.Run.{Report}
 use Rattle.plan_walk.specs.Path.{Reports}
 use Rattle.plan_walk.specs.Walk.{trail_under, sides_in}
 use Rattle.certifier.proofs.Asking.{one-report}

@@ -8,7 +8,8 @@ use Rattle.definitions.specs.Exits.{after_exits}
 use Rattle.call_replies.specs.Replies.{is_listed}
 use Rattle.definitions.specs.Run.{Moment}
 use Rattle.definitions.specs.Claims.{names_any, executing_at}
-use Rattle.definitions.specs.Parts.{Turn}
+use Rattle.definitions.specs.Plans.{Turn}
+use Rattle.handover_text.specs.Reading.{handed_by}
 use Rattle.rollback_plan.specs.Bounds.{lacked_in}
 use Rattle.plan_walk.specs.Fit.{height_next}
 use Rattle.plan_walk.specs.Rests.{rest_in}
@@ -55,9 +56,9 @@ after_at-self-requires-clause-listed c =
     let e = c.args.entry.now in
     let m = seen_moment c.moment-moment.result in
     let t = after_exits m.exits c.args.self.now.kernel.table in
-    let gave : c.call-answer.result ≡ (step_with c.args.self.now.text.now e.by e.call m.fate t).answer = ap (λ (s : Stepped). s.answer) c.call-answer.ensures.step in
+    let gave : c.call-answer.result ≡ (step_with (handed_by c.args.self.now.text.now) e.by e.call m.fate t).answer = ap (λ (s : Stepped). s.answer) c.call-answer.ensures.step in
     let same : c.call-answer.result ≡ e.answer = c.is_same_answer.ensures.0 c.if-not-is_same_answer.false in
-    subst (λ (a : Answer). is_listed e.call a ≡ true) (sym gave ∙ same) (step-listed c.args.self.now.text.now e.by e.call m.fate t)
+    subst (λ (a : Answer). is_listed e.call a ≡ true) (sym gave ∙ same) (step-listed (handed_by c.args.self.now.text.now) e.by e.call m.fate t)
 
 pub returns-then-not-asks-clause-next : goal.returns-then-not-asks-clause-next
 returns-then-not-asks-clause-next c = (
@@ -70,7 +71,7 @@ returns-then-names_executing-clause-next c =
     let old = c.args.self.now in
     let e = c.args.entry.now in
     let k = old.number + 1 in
-    let m = moment_shown old.text.now old.kernel.table e in
+    let m = moment_shown (handed_by old.text.now) old.kernel.table e in
     let here : nat_eq k k ≡ true = grind (arith, nat_tests) in
     let shown : seen_moment c.moment-moment.result ≡ m =
     c.moment-moment.ensures ∙ (c.in_ok-show.ensures k ∙ ap (λ b. if b then m else moment_at old.pattern k) here) in
@@ -85,12 +86,12 @@ returns-then-not-is_same_answer-clause-next c =
     let old = c.args.self.now in
     let e = c.args.entry.now in
     let k = old.number + 1 in
-    let m = moment_shown old.text.now old.kernel.table e in
+    let m = moment_shown (handed_by old.text.now) old.kernel.table e in
     let here : nat_eq k k ≡ true = grind (arith, nat_tests) in
     let shown : seen_moment c.moment-moment.result ≡ m =
     c.moment-moment.ensures ∙ (c.in_ok-show.ensures k ∙ ap (λ b. if b then m else moment_at old.pattern k) here) in
-    let gave : c.call-answer.result ≡ (stepped_at old.text.now old.kernel.table m e).answer =
-    ap (λ (s : Stepped). s.answer) c.call-answer.ensures.step ∙ ap (λ (x : Moment). (stepped_at old.text.now old.kernel.table x e).answer) shown in (
+    let gave : c.call-answer.result ≡ (stepped_at (handed_by old.text.now) old.kernel.table m e).answer =
+    ap (λ (s : Stepped). s.answer) c.call-answer.ensures.step ∙ ap (λ (x : Moment). (stepped_at (handed_by old.text.now) old.kernel.table x e).answer) shown in (
       λ no. absurd (false≢true no),
       λ some. absurd (false≢true (sym c.if-not-is_same_answer.true ∙ c.is_same_answer.ensures.1 (gave ∙ some.1.gives))),
     )
@@ -101,12 +102,12 @@ returns-clause-next c =
     let e = c.args.entry.now in
     let turn = c.turn_of-turn.result in
     let k = old.number + 1 in
-    let m = moment_shown old.text.now old.kernel.table e in
+    let m = moment_shown (handed_by old.text.now) old.kernel.table e in
     let here : nat_eq k k ≡ true = grind (arith, nat_tests) in
     let shown : seen_moment c.moment-moment.result ≡ m =
     c.moment-moment.ensures ∙ (c.in_ok-show.ensures k ∙ ap (λ b. if b then m else moment_at old.pattern k) here) in
-    let gave : c.call-answer.result ≡ (stepped_at old.text.now old.kernel.table m e).answer =
-    ap (λ (s : Stepped). s.answer) c.call-answer.ensures.step ∙ ap (λ (x : Moment). (stepped_at old.text.now old.kernel.table x e).answer) shown in
+    let gave : c.call-answer.result ≡ (stepped_at (handed_by old.text.now) old.kernel.table m e).answer =
+    ap (λ (s : Stepped). s.answer) c.call-answer.ensures.step ∙ ap (λ (x : Moment). (stepped_at (handed_by old.text.now) old.kernel.table x e).answer) shown in
     let same : c.call-answer.result ≡ e.answer = c.is_same_answer.ensures.0 c.if-not-is_same_answer.false in
     let spared : names_any (executing_at e.call (listed old.executing) (listed old.heir)) m.exits ≡ false =
     ap (λ (x : Moment). names_any (executing_at e.call (listed old.executing) (listed old.heir)) x.exits) (sym shown) ∙ (sym c.names_executing.ensures ∙ c.if-names_executing.false) in
@@ -123,14 +124,14 @@ returns-clause-taken c = λ there.
     let after = c.after_at-self.result in
     let uses = c.in_ok-follow.ensures.used in
     let k = old.number + 1 in
-    let m = moment_shown old.text.now old.kernel.table e in
+    let m = moment_shown (handed_by old.text.now) old.kernel.table e in
     let here : nat_eq k k ≡ true = grind (arith, nat_tests) in
     let shown : seen_moment c.moment-moment.result ≡ m =
     c.moment-moment.ensures ∙ (c.in_ok-show.ensures k ∙ ap (λ b. if b then m else moment_at old.pattern k) here) in
-    let stepped : record { answer = c.call-answer.result; table = c.call-answer.new.self.table } ≡ stepped_at old.text.now old.kernel.table m e =
-    c.call-answer.ensures.step ∙ ap (λ (x : Moment). stepped_at old.text.now old.kernel.table x e) shown in
+    let stepped : record { answer = c.call-answer.result; table = c.call-answer.new.self.table } ≡ stepped_at (handed_by old.text.now) old.kernel.table m e =
+    c.call-answer.ensures.step ∙ ap (λ (x : Moment). stepped_at (handed_by old.text.now) old.kernel.table x e) shown in
     let same : c.call-answer.result ≡ e.answer = c.is_same_answer.ensures.0 c.if-not-is_same_answer.false in
-    let gives : (stepped_at old.text.now old.kernel.table m e).answer ≡ e.answer = sym (ap (λ (s : Stepped). s.answer) stepped) ∙ same in
+    let gives : (stepped_at (handed_by old.text.now) old.kernel.table m e).answer ≡ e.answer = sym (ap (λ (s : Stepped). s.answer) stepped) ∙ same in
     let spared : names_any (executing_at e.call (listed old.executing) (listed old.heir)) m.exits ≡ false =
     ap (λ (x : Moment). names_any (executing_at e.call (listed old.executing) (listed old.heir)) x.exits) (sym shown) ∙ (sym c.names_executing.ensures ∙ c.if-names_executing.false) in
     let goes : GoesOnBy old.walk after turn e = record { asks = λ turns first. (c.asks.ensures turns first).0 c.if-not-asks.false; leads = c.after_at-self.ensures.trail } in

@@ -1,6 +1,6 @@
 use Rattle.std.proofs.Common.{List, [], ◌∷◌, ◌++◌, replicate, append_assoc, sym, ◌∙◌, ap}
 use Rattle.std.proofs.lemmas.List.{replicate_more}
-use Rattle.definitions.specs.Parts.{Turn, New}
+use Rattle.definitions.specs.Plans.{Turn, New}
 use Rattle.certifier.specs.Turns.{used_in}
 use Rattle.certifier.proofs.turns_used.TurnsUsed.add.Goals as goal
 

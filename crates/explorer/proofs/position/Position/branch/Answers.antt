@@ -5,6 +5,7 @@ use Rattle.definitions.specs.Calls.{step_with}
 use Rattle.definitions.specs.Exits.{after_exits}
 use Rattle.plan_walk.specs.Path.{Asks, advance}
 use Rattle.definitions.specs.Run.{Moment}
+use Rattle.handover_text.specs.Reading.{handed_by}
 use Rattle.kernel_model.specs.State.{State}
 use Rattle.plan_walk.specs.Course.{trail_on}
 use Rattle.plan_walk.proofs.Paths.{asks_height}
@@ -30,7 +31,7 @@ returns c =
     let due = c.args.due.now in
     later (record old { tried = c.args.tried }) due m c.after.result c.answered-entry.new.kernel c.waiting.result c.answered-entry.result.answer
     (record { room = c.requires.fit.room; countable = c.requires.fit.countable }) c.requires.due c.requires.moment (record {
-      step = c.answered-entry.ensures.step ∙ ap (λ (s : State). step_with old.text.now due.by due.call m.fate (after_exits m.exits s.table)) c.in_ok-kernel.ensures;
+      step = c.answered-entry.ensures.step ∙ ap (λ (s : State). step_with (handed_by old.text.now) due.by due.call m.fate (after_exits m.exits s.table)) c.in_ok-kernel.ensures;
       room = c.answered-entry.ensures.room ∙ ap (λ (s : State). s.room) c.in_ok-kernel.ensures ∙ c.room.ensures;
       trail = c.after.ensures.trail ∙ ap (advance (trail_on old.course)) c.answered-entry.ensures.entry;
       sides = c.after.ensures.sides;

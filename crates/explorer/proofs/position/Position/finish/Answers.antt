@@ -1,7 +1,7 @@
 use Rattle.std.proofs.Common.{◌≡◌, ◌+◌, refl, ap, subst, ◌∙◌, arith}
 use Rattle.plan_walk.specs.Path.{Reports}
 use Rattle.definitions.specs.Run.{quiet}
-use Rattle.definitions.specs.Target.{sides_of, text_handed}
+use Rattle.definitions.specs.Target.{sides_of, handover_for}
 use Rattle.definitions.specs.Claims.{run_of}
 use Rattle.plan_walk.specs.Course.{turns_of, trail_on}
 use Rattle.explorer.specs.declared.events.Tried.{Tried}
@@ -43,8 +43,8 @@ returns-clause-report c = λ p at.
     let kept = c.loop-due.invariant in
     let run = c.loop-due.self in
     let q = kept.at p at in
-    let text = text_handed run.state.now run.target.now in
+    let handed = handover_for run.state.now run.target.now in
     let over = c.in_default.ensures.none in
     let whole : c.report.result ≡ report_under run.state.now run.target.now (turns_of run.course) run.first.now.table run.tried =
-    reported text (sides_of run.state.now run.target.now) (trail_on run.course) (pattern_of run.tried) q.0 (run_of run.state.now run.target.now (turns_of run.course) (pattern_of run.tried) run.first.now.table) c.report.result over q.1.trail (q.1.come.ends (pattern_of run.tried) (λ m le. refl)) (subst (λ sides. Reports sides (trail_on run.course) c.report.result) q.1.sides c.report.ensures) in
+    reported handed (sides_of run.state.now run.target.now) (trail_on run.course) (pattern_of run.tried) q.0 (run_of run.state.now run.target.now (turns_of run.course) (pattern_of run.tried) run.first.now.table) c.report.result over q.1.trail (q.1.come.ends (pattern_of run.tried) (λ m le. refl)) (subst (λ sides. Reports sides (trail_on run.course) c.report.result) q.1.sides c.report.ensures) in
     whole ∙ (λ i. report_under (kept.state i) (kept.target i) (kept.turns i) (kept.first i).table (kept.tried i))

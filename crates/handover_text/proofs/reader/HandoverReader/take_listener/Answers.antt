@@ -1,5 +1,5 @@
 use Rattle.std.proofs.Common.{arith, sym, ◌∙◌}
-use Rattle.definitions.specs.Reading.{listener_read}
+use Rattle.handover_text.specs.Reading.{listener_read}
 use Rattle.master_listeners.proofs.Listed.{AreListedFrom-push, length-listed_below}
 use Rattle.handover_text.proofs.LinesRead.{listener_bounds, listener_taken}
 use Rattle.handover_text.proofs.reader.HandoverReader.take_listener.Goals as goal

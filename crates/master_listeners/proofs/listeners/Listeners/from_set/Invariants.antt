@@ -1,5 +1,5 @@
 use Rattle.std.proofs.Common.{◌≡◌, take}
-use Rattle.definitions.specs.Record.{listeners_from}
+use Rattle.vocabulary.specs.Settings.{listeners_from}
 use Rattle.master_listeners.proofs.listeners.Listeners.from_set.Given as goal
 
 abbrev pub invariant-loop-place : goal.invariant-loop-place

@@ -1,6 +1,6 @@
 use Rattle.std.proofs.Common.{Option, ◌∙◌, ap}
 use Rattle.std.specs.Prelude.{unwrap_or}
-use Rattle.definitions.specs.Parts.{Turn, New}
+use Rattle.definitions.specs.Plans.{Turn, New}
 use Rattle.plan_walk.proofs.TurnsUsed.{turn_there}
 use Rattle.plan_walk.proofs.course.Course.turn.Goals as goal
 

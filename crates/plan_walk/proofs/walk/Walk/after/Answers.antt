@@ -1,5 +1,5 @@
 use Rattle.std.proofs.Common.{◌≤◌, ◌+◌, List, [], refl, sym, ◌∙◌, ap, subst}
-use Rattle.definitions.specs.Parts.{Turn}
+use Rattle.definitions.specs.Plans.{Turn}
 use Rattle.plan_walk.specs.Fit.{height_next}
 use Rattle.plan_walk.specs.Walk.{trail_under}
 use Rattle.plan_walk.proofs.TurnsUsed.{turn_read}

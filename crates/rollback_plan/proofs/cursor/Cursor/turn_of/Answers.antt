@@ -1,6 +1,6 @@
 use Rattle.std.proofs.Common.{[], ◌∷◌, refl, sym, ◌∙◌}
 use Rattle.std.proofs.lemmas.Bool.{eqb-true, eq-eqb, false≢true}
-use Rattle.definitions.specs.Parts.{Old}
+use Rattle.definitions.specs.Plans.{Old}
 use Rattle.rollback_plan.specs.Cursors.{rest_under}
 use Rattle.rollback_plan.proofs.Apart.{shown_by, none_begins}
 use Rattle.rollback_plan.proofs.cursor.Cursor.turn_of.Goals as goal

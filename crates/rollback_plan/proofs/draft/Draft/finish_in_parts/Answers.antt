@@ -2,7 +2,7 @@ use Rattle.std.proofs.Common.{◌≡◌, false, true, sym, ◌∙◌, ap, arith}
 use Rattle.std.proofs.lemmas.Bool.{and_from}
 use Rattle.definitions.specs.Tree.{Tree}
 use Rattle.plan_steps.specs.Fit.{is_fit}
-use Rattle.definitions.specs.Parts.{graft}
+use Rattle.definitions.specs.Plans.{graft}
 use Rattle.plan_steps.specs.Stretches.{longest_of}
 use Rattle.plan_steps.specs.Woven.{part_end, answers}
 use Rattle.plan_steps.proofs.StepTrees.{length-trees, length-trees_from}

@@ -1,20 +1,24 @@
 -- Reading a handover line by line: what a text reads as, or its first faulty line.
 --
--- Each line is one of those that can come next (`Reached`), or it is the faulty one. No reader of the headline needs more of
--- this than `reading`: that it reads each spelling back, and nothing else, is proved in `handover_text`.
+-- Each line is one of those that can come next (`Reached`), or it is the faulty one. That this reads each spelling
+-- back, and nothing else, is `handovers_have_one_text`.
 
-use Rattle.std.specs.Prelude.{◌≡◌, ◌+◌, ◌==◌, ◌&&◌, ◌∷◌, ◌++◌, if◌then◌else◌}
-use Rattle.vocabulary.specs.Words.{refl, ℕ, nat_lt, nat_le, not, Bool, true, false, List, [], length, Option, Some}
-use Rattle.vocabulary.specs.Words.{None, is_none, Result, Ok, Err, codes, bytes_eq, list_any, list_all, before_first}
-use Rattle.vocabulary.specs.Words.{after_first, slice_split, Group, workers_in, group_refused}
-use Rattle.definitions.specs.Handover.refusal
+use Rattle.std.specs.Prelude.{◌≡◌, ◌+◌, ◌==◌, ◌&&◌, ◌∷◌, ◌++◌, if◌then◌else◌, refl, ℕ, nat_lt, nat_le, not, Bool, true}
+use Rattle.std.specs.Prelude.{false, List, [], length, Option, Some, None, is_none, Result, Ok, Err, codes, bytes_eq}
+use Rattle.std.specs.List.{list_any, list_all, before_first, after_first, slice_split}
+use Rattle.worker_groups.specs.declared.groups.Group.{Group}
+use Rattle.worker_groups.specs.Groups.{workers_in, group_refused}
+use Rattle.std.specs.Result.{result_ok}
 use Rattle.plain_text.specs.NumberText.{number_of, number_within}
 use Rattle.plain_text.specs.Cuts.{after_prefix}
 use Rattle.listener_set.specs.AddressText.{check}
 use Rattle.listener_set.specs.declared.address.AddressRefusal.{AddressRefusal}
 use Rattle.listener_set.specs.PathText.{is_path}
 use Rattle.definitions.specs.Table.{Listener}
-use Rattle.definitions.specs.Handover.{Handover, line_of, HandoverVersion, One, Two, HandoverRefusal}
+use Rattle.definitions.specs.Calls.{Handover, Handed}
+use Rattle.master_listeners.specs.Listeners.{is_above}
+use Rattle.handover_text.specs.Spelling.refusal
+use Rattle.handover_text.specs.Spelling.{line_of, HandoverVersion, One, Two, HandoverRefusal, text_handed}
 
 ---- Values in lines
 
@@ -85,9 +89,6 @@ abbrev pub listener_read : List ℕ → Option Listener
 listener_read rest =
     listener_if (number_within 3 66 (before_first is_space rest)) (after_first is_space rest)
     (is_address (after_first is_space rest))
-
-abbrev pub is_above : ℕ → List Listener → Bool
-is_above fd listeners = list_all (λ l. nat_lt l.descriptor fd) listeners
 
 -- Its descriptor is above the ones before, and then its address is a new one.
 abbrev pub with_listener : ℕ → HandoverVersion → Handover → Option Listener → Read
@@ -216,6 +217,15 @@ read_pieces n place h (line ∷ next ∷ more) =
 -- What reading a text gives: the handover, or its first faulty line.
 abbrev pub reading : List ℕ → Result Handover HandoverRefusal
 reading text = read_pieces 1 AtVersion nothing_read (slice_split (λ c. c == 10) text)
+
+-- What a text hands to a new master: the handover that it reads as.
+abbrev pub handed_by : List ℕ → Handed
+handed_by text = result_ok (reading text)
+
+-- The text is the one that hands it over, and hands over nothing else.
+pub record Hands (text : List ℕ) (handed : Handed) : Type 0 where
+  pub written : text ≡ text_handed handed
+  pub read : handed_by text ≡ handed
 
 ---- An example: a version that there is not
 

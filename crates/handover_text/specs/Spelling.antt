@@ -1,27 +1,19 @@
--- The handover: the text by which an old master tells a new one what it has and what is wanted.
+-- The text of a handover, by which an old master tells a new one what it has and what is wanted.
 --
 -- nginx hands its new master the open descriptors in an environment variable; this text is our own. Each handover has
 -- one spelling in each of two versions, and a reader refuses any other text, naming its first faulty line.
 
-use Rattle.std.specs.Prelude.{◌≡◌, ◌∷◌, ◌++◌}
-use Rattle.vocabulary.specs.Words.{refl, ℕ, List, [], take, drop, Option, Some, None, codes, flat_map, decimal, Group}
-use Rattle.vocabulary.specs.Words.{workers_in}
-use Rattle.definitions.specs.Table.{Address, FilePath, Generation, Listener}
+use Rattle.std.specs.Prelude.{◌≡◌, ◌∷◌, ◌++◌, refl, ℕ, List, [], take, drop, Option, Some, None, codes}
+use Rattle.std.specs.List.{flat_map}
+use Rattle.std.specs.Fmt.{decimal}
+use Rattle.worker_groups.specs.declared.groups.Group.{Group}
+use Rattle.worker_groups.specs.Groups.{workers_in}
+use Rattle.definitions.specs.Table.{Address, FilePath, Listener}
+use Rattle.definitions.specs.Calls.{Handover, Handed}
 pub use Rattle.vocabulary.specs.declared.handover.HandoverVersion.{HandoverVersion}
 pub use Rattle.vocabulary.specs.declared.handover.HandoverVersion.TheVariants.{One, Two}
 pub use Rattle.vocabulary.specs.declared.handover.HandoverRefusal.{HandoverRefusal}
 pub use Rattle.vocabulary.specs.declared.handover.HandoverRefusal.TheVariants as refusal
-
--- The old master's process number, the generation that is to run, the old master's listeners in ascending
--- descriptors, the addresses that are wanted, the groups of workers, each of which takes the next so many of these
--- addresses, and the pid file.
-pub record Handover : Type 0 where
-  pub old_pid : ℕ
-  pub generation : Generation
-  pub listeners : List Listener
-  pub want : List Address
-  pub groups : List Group
-  pub pid_file : Option FilePath
 
 ---- The spelling of a handover: one for each version
 
@@ -70,6 +62,11 @@ spelled version h =
 -- as it is written
 abbrev pub spelling : Handover → List ℕ
 spelling h = spelled Two h
+
+-- the text that hands it over; where there is nothing to hand, none
+abbrev pub text_handed : Handed → List ℕ
+text_handed None = []
+text_handed (Some h) = spelling h
 
 ---- An example: the line of an address that is wanted
 
