@@ -201,13 +201,8 @@ def master_of(s: Setup | None, t: Table) -> int | None:
     return None if caller is None else caller.number
 
 
-def reigning(r: Record, t: Target, outcome: AnyOutcome, table: Table) -> int | None:
-    """The process number of the master that reigns in a table after an outcome: the live master of the image of the
-    service that the outcome names."""
-    return master_of(setup_after(outcome, r, t), table)
-
-
 def next_record(r: Record, t: Target, report: Report, last: Table) -> Record | None:
-    """The record that a report leaves to the master that reigns in the last table."""
-    pid = reigning(r, t, report.outcome, last)
+    """The record that a report leaves to the master that reigns in the last table: the live master of the image of the
+    service that the outcome names."""
+    pid = master_of(setup_after(report.outcome, r, t), last)
     return None if pid is None else record_after(r, t, report, pid)

@@ -383,10 +383,6 @@ def own_step_of_masters(handed: Handed, image: int, c: Caller, call: Call, t: Ta
             raise ValueError(call)
 
 
-def fault_if(holds: bool, a: Answer) -> Answer | None:
-    return a if holds else None
-
-
 def fault_of(c: Caller, call: Call, f: Fate, t: Table) -> Answer | None:
     """The fault that a fate gives at a call; one that is not the call's, or whose condition does not hold, gives
     none."""
@@ -396,9 +392,9 @@ def fault_of(c: Caller, call: Call, f: Fate, t: Table) -> Answer | None:
         case Fork(), Fate.Again | Fate.NoMemory:
             return Answer(f.value)
         case AwaitReady(g, k), Fate.Late:
-            return fault_if(has_worker(is_starting, c.number, g, k, t.rows), Answer.Late)
+            return Answer.Late if has_worker(is_starting, c.number, g, k, t.rows) else None
         case AwaitGone(g, k), Fate.Late:
-            return fault_if(has_worker(is_draining, c.number, g, k, t.rows), Answer.Late)
+            return Answer.Late if has_worker(is_draining, c.number, g, k, t.rows) else None
         case SpawnMaster(), Fate.Again | Fate.NoMemory | Fate.NoImage:
             return Answer(f.value)
         case Adopt(), Fate.Refused:

@@ -8,10 +8,11 @@ from reader import names as name
 from reader.addresses import Address, FilePath, has
 from reader.after import next_config, next_image, next_record
 from reader.crew import Layout, short_at
+from reader.lengths import plan_length
 from reader.manner import Manner, is_leave_call
 from reader.names import Name
 from reader.numbers import IsRising, Numbers, RisesFrom, is_in
-from reader.plans import Turns, plan_length, plan_tree
+from reader.plans import Turns, plan_tree
 from reader.record import Agrees, IsRecord, Record, layout_of, oldbin
 from reader.run import Pattern, Progress, Ran, faults_since, report_of, run_with, start_at
 from reader.service import Counts, IsSame, Service, is_live_with, service
@@ -90,16 +91,11 @@ def IsFewerAt(m: int, full: Counts | None, less: Counts | None) -> bool:
     return differing == ([m] if m else [])
 
 
-def IsFewer(layout: Layout, shortfalls: Numbers, full: Service, less: Service) -> bool:
-    """The same addresses, at each the number of workers that it is short by fewer."""
-    return all(IsFewerAt(short_at(layout, shortfalls, a), full.get(a), less.get(a)) for a in full.keys() | less.keys())
-
-
 def FallsShort(layout: Layout, shortfalls: Numbers, full: Service, less: Service) -> bool:
     """One service is the other less the shortfalls of its groups, each at the addresses where the group listens. There
     is one for each group, and one of them is at least 1."""
-    return (
-        len(shortfalls) == len(layout.groups) and 1 <= sum(shortfalls) and IsFewer(layout, shortfalls, full, less)
+    return len(shortfalls) == len(layout.groups) and 1 <= sum(shortfalls) and all(
+        IsFewerAt(short_at(layout, shortfalls, a), full.get(a), less.get(a)) for a in full.keys() | less.keys()
     )
 
 
@@ -292,21 +288,6 @@ def EndsAsReported(t: Table, r: Record, target: Target, ran: Ran) -> Claims:
     }
 
 
-def leasts_of(t: Table, r: Record, target: Target) -> list[Least]:
-    wanted = {a: wanted_at(r, target, a) for a in addresses_wanted(r, target)}
-    return least_of(service(t), want(r, target), t, wanted)
-
-
-def KeepsFloor(t: Table, r: Record, target: Target, ran: Ran) -> bool:
-    least = leasts_of(t, r, target)
-    return all(Floor(least, p) for p in distinct(ran.passed))
-
-
-def KeepsAttendedFloor(t: Table, r: Record, target: Target, ran: Ran) -> bool:
-    least = leasts_of(t, r, target)
-    return all(AttendedFloor(least, p) for p in distinct(ran.passed))
-
-
 def HasDescriptors(t: Table, r: Record) -> bool:
     """Descriptors rise, from 3 on, and a process may have at most 64."""
     return RisesFrom(3, [l.descriptor for l in r.listeners]) and t.limits.descriptors <= 64
@@ -330,16 +311,22 @@ def IsAccepted(t: Table, r: Record, target: Target, pattern: Pattern, ran: Ran) 
     return IsStart(t, r) and Accepts(t, r, target) and refusal_of(r, target, pattern, ran) is None
 
 
+def leasts_of(t: Table, r: Record, target: Target) -> list[Least]:
+    wanted = {a: wanted_at(r, target, a) for a in addresses_wanted(r, target)}
+    return least_of(service(t), want(r, target), t, wanted)
+
+
 def HasFloor(t: Table, r: Record, target: Target, ran: Ran) -> bool:
-    """The floor holds where a target quits nobody, or only when others are ready. A mend kills first, and a stop leaves
-    none."""
+    """The floor holds at each table of the run where a target quits nobody, or only when others are ready. A mend kills
+    first, and a stop leaves none."""
+    least = leasts_of(t, r, target)
     match target:
         case Attended():
-            return KeepsAttendedFloor(t, r, target, ran)
+            return all(AttendedFloor(least, p) for p in distinct(ran.passed))
         case Mend() | Stop():
             return True
         case _:
-            return KeepsFloor(t, r, target, ran)
+            return all(Floor(least, p) for p in distinct(ran.passed))
 
 
 def KeepsPromise(t: Table, r: Record, target: Target, ran: Ran) -> Claims:

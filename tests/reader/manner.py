@@ -29,19 +29,15 @@ def is_active_process(p: int, row: Process) -> bool:
     return isinstance(row, Worker) and is_active(row.stance) and row.number == p
 
 
-def has_active(t: Table, p: int) -> bool:
-    return any(is_active_process(p, row) for row in t.rows)
-
-
-def has_process(t: Table, p: int) -> bool:
-    return any(number_of(row) == p for row in t.rows)
-
-
 def is_lost(p: int, passed: tuple[Progress, ...]) -> bool:
     """A process is a loss where the exits of a moment end it while it is Starting or Ready. The tables of a run come
     in pairs, before and after the exits of a moment, and the last one."""
     pairs = zip(passed[:-1:2], passed[1::2])
-    return any(has_active(before.table, p) and not has_active(middle.table, p) for before, middle in pairs)
+    return any(
+        any(is_active_process(p, row) for row in before.table.rows)
+        and not any(is_active_process(p, row) for row in middle.table.rows)
+        for before, middle in pairs
+    )
 
 
 def ready_first(first: Table) -> list[tuple[int, int]]:
@@ -58,7 +54,7 @@ def Stays(first: Table, stays: Callable[[int], bool], ran: Ran) -> bool:
 
 def Goes(first: Table, goes: Callable[[int], bool], ran: Ran) -> bool:
     """No process that was Ready at first, of these worker numbers, is in the last table."""
-    return not any(has_process(ran.last.table, p) for p, k in ready_first(first) if goes(k))
+    return not any(number_of(row) == p for p, k in ready_first(first) if goes(k) for row in ran.last.table.rows)
 
 
 # Entries
@@ -138,8 +134,8 @@ def before_leave(entries: Entries) -> Entries | None:
 
 def LeavesLast(r: Record, ran: Ran) -> bool:
     """Before a Leave, each number that was ready was told to quit and waited for."""
-    entries = before_leave(ran.entries)
-    return entries is None or all(was_waited_for(r.generation, k, entries) for k in r.ready)
+    before = before_leave(ran.entries)
+    return before is None or all(was_waited_for(r.generation, k, before) for k in r.ready)
 
 
 # The manner of each target
@@ -147,11 +143,6 @@ def LeavesLast(r: Record, ran: Ran) -> bool:
 
 def is_old_side(outcome: AnyOutcome) -> bool:
     return outcome is Outcome.RolledBack or (isinstance(outcome, Degraded) and outcome.side is Side.Old)
-
-
-def stays_below(n: int, end: AnyOutcome, k: int) -> bool:
-    """Which worker numbers stay: on the old side all."""
-    return is_old_side(end) or k < n
 
 
 def stays_all(_: int) -> bool:
@@ -171,13 +162,13 @@ def ReopenManner(r: Record, first: Table, ran: Ran) -> bool:
 
 
 def Manner(r: Record, target: Target, end: AnyOutcome, first: Table, ran: Ran) -> bool:
-    """A change of the number of workers leaves those alone whose number stays; a mend leaves all that aren't overdue,
-    and ends the others; a reopening leaves and tells all; a reload that comes back leaves all. Outside a mend and a
-    quick stop a worker is killed only after it was told to quit and was late; before a master leaves in peace its
-    workers were told to quit and waited for; at a quick stop none is told to quit."""
+    """A change of the number of workers leaves those alone whose number stays, and all on the old side; a mend leaves
+    all that aren't overdue, and ends the others; a reopening leaves and tells all; a reload that comes back leaves all.
+    Outside a mend and a quick stop a worker is killed only after it was told to quit and was late; before a master
+    leaves in peace its workers were told to quit and waited for; at a quick stop none is told to quit."""
     match target:
         case Workers(n):
-            return Stays(first, lambda k: stays_below(n, end, k), ran) and KillsOnlyLate(first, ran)
+            return Stays(first, lambda k: is_old_side(end) or k < n, ran) and KillsOnlyLate(first, ran)
         case Mend(overdue):
             stay = Stays(first, lambda k: not is_in(overdue, k), ran)
             return stay and Goes(first, lambda k: is_in(overdue, k), ran)

@@ -10,8 +10,8 @@ from reader.numbers import Numbers, is_in, numbers_below
 from reader.record import Record, addresses_of, crew_of, oldbin
 from reader.target import Attended, Mend, Reload, Reopen, Stop, Target, Upgrade, Workers, only_in
 from reader.tree import (
-    AwaitLacking, Branch, Branches, Does, Ends, ForkLacking, KillLacking, Later, Make, Tree, height, plain_reply,
-    replies_to, shown,
+    AwaitLacking, Branch, Branches, Does, Ends, ForkLacking, KillLacking, Later, Make, Tree, plain_reply, replies_to,
+    shown,
 )
 from reader.vocabulary import (
     Adopt, Alive, Ask, AwaitGone, AwaitReady, Call, Census, CloseAt, End, Generation, Kill, Leave, MovePid, OpenAt,
@@ -23,7 +23,6 @@ Turns = tuple[Turn, ...]
 # Edges
 
 Replies = tuple[Reply, ...]
-UNFORKED = (Reply.Again, Reply.NoMemory)
 
 
 def on(replies: Replies, rest: Tree, more: Branches = ()) -> Branches:
@@ -32,7 +31,7 @@ def on(replies: Replies, rest: Tree, more: Branches = ()) -> Branches:
 
 
 def fork_edges(ok: Tree, bad: Tree) -> Branches:
-    return on((Reply.Forked,), ok, on(UNFORKED, bad))
+    return on((Reply.Forked,), ok, on((Reply.Again, Reply.NoMemory), bad))
 
 
 def await_edges(ok: Tree, gone: Tree, late: Tree) -> Branches:
@@ -50,15 +49,6 @@ def then_edge(rest: Tree) -> Branches:
 
 def census_edges(full: Tree, short: Tree) -> Branches:
     return on((Reply.Full,), full, on((Reply.Short,), short))
-
-
-def open_edges(ok: Tree, bad: Tree) -> Branches:
-    return on((Reply.Opened,), ok, on((Reply.InUse, Reply.TooMany, Reply.Denied, Reply.NoMemory), bad))
-
-
-def fork_any_edges(rest: Tree) -> Branches:
-    """Whatever is answered."""
-    return on((Reply.Forked, *UNFORKED), rest)
 
 
 def gone_edges(gone: Tree, late: Tree) -> Branches:
@@ -142,7 +132,7 @@ def quits(by: int, g: Generation, ks: Numbers, rest: Tree) -> Tree:
 def forks_any(by: int, crew: Crew, ks: Numbers, rest: Tree) -> Tree:
     """Fork these numbers upwards, whatever is answered."""
     for k in reversed(ks):
-        rest = does(by, fork_of(crew, k), fork_any_edges(rest))
+        rest = does(by, fork_of(crew, k), on((Reply.Forked, Reply.Again, Reply.NoMemory), rest))
     return rest
 
 
@@ -191,7 +181,8 @@ def opens(
     if not addresses:
         return ok(done)
     rest = opens(by, addresses[1:], (addresses[0], *done), ok, bad)
-    return does(by, OpenAt(addresses[0]), open_edges(rest, Later(lambda: bad(done))))
+    unopened = on((Reply.InUse, Reply.TooMany, Reply.Denied, Reply.NoMemory), Later(lambda: bad(done)))
+    return does(by, OpenAt(addresses[0]), on((Reply.Opened,), rest, unopened))
 
 
 def closes(by: int, addresses: Addresses, rest: Tree) -> Tree:
@@ -356,8 +347,8 @@ def joined(ready: Tree, back: Tree, end: End) -> Tree:
 
 def tries(by: int, call: Call, numbers: Numbers, rest: Tree, back: Tree) -> Tree:
     """A step of the new master: the plain reply goes on; any other, and that the master is gone, goes back."""
-    others = (*replies_to(call)[1:], Reply.MasterGone)
-    return Does(by, Make(call), numbers, on((plain_reply(call),), rest, on(others, back)))
+    failed = on((*replies_to(call)[1:], Reply.MasterGone), back)
+    return Does(by, Make(call), numbers, on((plain_reply(call),), rest, failed))
 
 
 def tries_all(by: int, calls: tuple[Call, ...], rest: Tree, back: Tree) -> Tree:
@@ -511,20 +502,6 @@ def upgrade_tree(attended: bool, r: Record, new: Crew, wanted: Addresses, n: int
     return move_aside(by, r.pid_path, r.note, spawn, settle(by, old, r.ready, Side.Old, r.retries))
 
 
-def upgrade_length(attended: bool, r: Record, new: Crew, wanted: Addresses, n: int) -> int:
-    """The steps on its longest path: those before the parts, both parts, and the longer of what follows them."""
-    by, old, heir = r.generation.image, crew_of(r), new.generation.image
-    back = back_from(by, heir, old, r.ready, r.retries, r.pid_path)
-    spawn = does(by, SpawnMaster(heir), spawn_edges(Ends(End.Split), Ends(End.Done)))
-    ready = taken_over(attended, by, old, new, r.ready, r.retries, r.pid_path, n, back)
-    return (
-        height(move_aside(by, r.pid_path, r.note, spawn, Ends(End.Done)))
-        + height(new_part(new, addresses_of(r), wanted, n))
-        + height(old_part(by, old, r.ready, r.retries))
-        + max(height(ready), height(back))
-    )
-
-
 # The plan of a target
 
 
@@ -547,14 +524,3 @@ def plan_tree(r: Record, target: Target, turns: Turns) -> Tree:
             return upgrade_tree(True, r, crew_wanted(r, target), s.listeners, s.workers, turns)
         case Stop(quick):
             return stop_tree(by, r.generation, r.ready, r.pid_path, r.note, quick)
-
-
-def plan_length(r: Record, target: Target) -> int:
-    """The steps on the longest path of a target's plan."""
-    match target:
-        case Upgrade(s):
-            return upgrade_length(False, r, crew_wanted(r, target), s.listeners, s.workers)
-        case Attended(s):
-            return upgrade_length(True, r, crew_wanted(r, target), s.listeners, s.workers)
-        case _:
-            return height(plan_tree(r, target, ()))

@@ -64,16 +64,12 @@ def first_cause(cause: int | None, wrong: bool, n: int) -> int | None:
     return cause if cause is not None else n if wrong else None
 
 
-def is_plain(call: Call, a: AnyAnswer) -> bool:
-    """The answer that a call is meant to have; of a census, each count."""
-    return isinstance(a, Counted) or same_reply(reply_of((), a), plain_reply(call))
-
-
 def is_fault(call: Call, a: AnyAnswer) -> bool:
-    """Whether an answer counts as a fault: each one that is not plain, except that the operator goes back."""
-    if isinstance(call, Ask) and a is Answer.Back:
+    """Whether an answer counts as a fault: each one that is not plain, except a count and that the operator goes
+    back."""
+    if isinstance(a, Counted) or (isinstance(call, Ask) and a is Answer.Back):
         return False
-    return not is_plain(call, a)
+    return not same_reply(reply_of((), a), plain_reply(call))
 
 
 class Return(NamedTuple):

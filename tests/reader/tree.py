@@ -131,7 +131,7 @@ def replies_to(call: Call) -> tuple[Reply, ...]:
 
 
 def plain_reply(call: Call) -> Reply:
-    """The plain reply to a call; of a census, a full one."""
+    """The plain reply to a call, the first one; of a census, a full one."""
     return replies_to(call)[0]
 
 
@@ -141,24 +141,6 @@ def plain_reply(call: Call) -> Reply:
 def branch(branches: Branches, r: Reply) -> Branch | None:
     """What follows a reply: the first edge that has it."""
     return next((edge for edge in branches if among(edge.replies, r)), None)
-
-
-# the trees that were measured, each with its height
-Measured = dict[int, tuple[Tree, int]]
-
-
-def height(tree: Tree, measured: Measured | None = None) -> int:
-    """The number of steps on the longest path."""
-    # (a tree that is in several places is measured once)
-    measured = {} if measured is None else measured
-    if id(tree) not in measured:
-        at = shown(tree)
-        measured[id(tree)] = tree, 0 if isinstance(at, Ends) else 1 + highest(at.branches, measured)
-    return measured[id(tree)][1]
-
-
-def highest(branches: Branches, measured: Measured) -> int:
-    return max((height(edge.rest, measured) for edge in branches), default=0)
 
 
 def lowest(numbers: Numbers) -> int:

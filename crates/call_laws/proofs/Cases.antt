@@ -7,7 +7,8 @@ use Rattle.definitions.specs.Table.{is_active, is_starting, is_exited, Address, 
 use Rattle.vocabulary.specs.declared.table.Stance.TheVariants.{Starting}
 use Rattle.listener_set.specs.declared.generation.Generation.{Generation}
 use Rattle.definitions.specs.Calls.{suits, is_image, with_file, moved_if, with_files, without_file, Stepped, gives}
-use Rattle.definitions.specs.Calls.{step_by, fault_if, fault_or_own, own_step, with_new_row, shared, each_row}
+use Rattle.definitions.specs.Calls.{step_by, fault_or_own, own_step, with_new_row, shared, each_row}
+use Rattle.std.specs.Bool.{then_some}
 use Rattle.definitions.specs.Calls.{has_process_room, drop_where, made_ready, lowest_free, with_new_socket, Handed}
 use Rattle.vocabulary.specs.declared.calls.Fate.{Fate}
 use Rattle.definitions.specs.Exits.{change}
@@ -51,7 +52,7 @@ await-own handed image c g x t P ok gone = pick P (list_any (is_worker is_active
 
 late-or :
     (b : Bool) (handed : Handed) (image : ℕ) (c : Caller) (call : Call) (t : Table) (P : Stepped → Type 0) →
-    P (gives Late t) → P (own_step handed image c call t) → P (fault_or_own (fault_if b Late) handed image c call t)
+    P (gives Late t) → P (own_step handed image c call t) → P (fault_or_own (then_some b Late) handed image c call t)
 late-or true handed image c call t P late h = late
 late-or false handed image c call t P late h = h
 

@@ -1,8 +1,7 @@
 //! Which replies a call can have.
-ghost use Rattle.std.specs.Prelude.{◌≡◌, ◌++◌, ◌∷◌, []};
+ghost use Rattle.std.specs.Prelude.{◌≡◌, ◌++◌, ◌∷◌, [], drop};
 ghost use Rattle.vocabulary.specs.declared.calls.Reply.TheVariants.{MasterGone};
 ghost use Rattle.definitions.specs.Tree as tree;
-ghost use Rattle.definitions.specs.Plans.{others};
 ghost use Rattle.call_replies.specs.Replies.{order_replies};
 
 use vocabulary::{Call, Order, Reply};
@@ -99,14 +98,14 @@ pub fn plain_replies(call: &Call) -> &'static [Reply]
 
 /// The other replies to a call, and last that the master is gone.
 pub fn other_replies(call: &Call) -> &'static [Reply]
-    ensures { result.now ≡ others (tree.replies_to call.now) ++ MasterGone ∷ [] }
+    ensures { result.now ≡ drop 1 (tree.replies_to call.now) ++ MasterGone ∷ [] }
 {
     &replies_to(call)[1..]
 }
 
 /// The other replies to a call, while its master lives.
 pub fn failed_replies(call: &Call) -> &'static [Reply]
-    ensures { result.now ≡ others (tree.replies_to call.now) }
+    ensures { result.now ≡ drop 1 (tree.replies_to call.now) }
 {
     let others = other_replies(call);
     &others[..others.len() - 1]

@@ -5,7 +5,7 @@ use Rattle.definitions.specs.Table.{Table}
 use Rattle.definitions.specs.Record.{Record}
 use Rattle.vocabulary.specs.declared.targets.Target.{Target}
 use Rattle.definitions.specs.Target.{handover_for, sides_of}
-use Rattle.definitions.specs.Plans.{plan_length}
+use Rattle.call_laws.specs.Lengths.{plan_length}
 use Rattle.definitions.specs.Run.{Entry, Report}
 use Rattle.definitions.specs.Claims.{heirs_of}
 use Rattle.kernel_model.specs.State.{State}

@@ -17,7 +17,8 @@ use Rattle.vocabulary.specs.declared.calls.Fate.{Fate}
 use Rattle.vocabulary.specs.declared.calls.Fate.TheVariants as fate
 use Rattle.vocabulary.specs.declared.calls.Reply.{Reply}
 use Rattle.definitions.specs.Table.{Table, Address, Generation, Starting, Master, Worker, Caller, FilePath, live_master, is_worker, is_active, is_starting, is_draining, is_held, owner_at}
-use Rattle.definitions.specs.Calls.{Stepped, gives, opened, forked, spawned, awaited, awaited_gone, lowest_free, with_new_socket, with_new_row, shared, step_with, step_by, own_step, fault_of, fault_if, fault_or_own, has_process_room, is_image, moved_if, suits}
+use Rattle.definitions.specs.Calls.{Stepped, gives, opened, forked, spawned, awaited, awaited_gone, lowest_free, with_new_socket, with_new_row, shared, step_with, step_by, own_step, fault_of, fault_or_own, has_process_room, is_image, moved_if, suits}
+use Rattle.std.specs.Bool.{then_some}
 use Rattle.definitions.specs.Tree.{reply_of, same_reply}
 use Rattle.definitions.specs.Run.{Moment}
 use Rattle.definitions.specs.Calls.{Handed}
@@ -121,7 +122,7 @@ module _ (handed : Handed) (image : ℕ) (c : Caller) (t : Table) where
   adopting true = other answer.Refused answer.Adopted t refl
   adopting false = itself answer.Refused
 
-  late : (b : Bool) (a : Answer) → fault_if b answer.Late ≡ Some a → Some answer.Late ≡ Some a
+  late : (b : Bool) (a : Answer) → then_some b answer.Late ≡ Some a → Some answer.Late ≡ Some a
   late true a h = h
   late false a h = absurd (none-some a h)
 

@@ -9,7 +9,8 @@ use Rattle.definitions.specs.Table.{Table}
 use Rattle.definitions.specs.Record.{Record}
 use Rattle.vocabulary.specs.declared.targets.Target.{Target}
 use Rattle.definitions.specs.Target.{handover_for, sides_of}
-use Rattle.definitions.specs.Plans.{Turn, plan_tree, plan_length}
+use Rattle.definitions.specs.Plans.{Turn, plan_tree}
+use Rattle.call_laws.specs.Lengths.{plan_length}
 use Rattle.definitions.specs.Run.{Entry, Report}
 use Rattle.plan_walk.specs.Path.{KeepsPathLaw}
 use Rattle.definitions.specs.Claims.{refused_among, refusal_of, heirs_of}

@@ -1,6 +1,7 @@
 -- A replay before its first entry.
 use Rattle.std.proofs.Common.{◌≡◌, ℕ, zero, suc, ◌≤◌, ◌<◌, ◌^◌, List, [], ◌∷◌, ◌++◌, replicate, Option, None, Some, refl, sym, ◌∙◌, ap, subst, arith}
-use Rattle.definitions.specs.Tree.{Tree, height, End}
+use Rattle.definitions.specs.Tree.{Tree, End}
+use Rattle.call_laws.specs.Lengths.{height}
 use Rattle.vocabulary.specs.declared.plans.End.TheVariants.{Done, RolledBack, ShortOld, ShortTarget, Split, JoinReady, JoinBack, Join}
 use Rattle.definitions.specs.Plans.{Turn, New, graft, joined}
 use Rattle.theorems.specs.Apart.{Plays}

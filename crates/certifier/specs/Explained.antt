@@ -5,7 +5,8 @@ use Rattle.definitions.specs.Record.{Record, Agrees}
 use Rattle.vocabulary.specs.declared.targets.Target.{Target}
 use Rattle.definitions.specs.Target.{handover_for, sides_of}
 use Rattle.service_state.specs.Targets.{lacks_generation}
-use Rattle.definitions.specs.Plans.{Turn, plan_tree, plan_length}
+use Rattle.definitions.specs.Plans.{Turn, plan_tree}
+use Rattle.call_laws.specs.Lengths.{plan_length}
 use Rattle.definitions.specs.Run.{Entry, Report, Pattern}
 use Rattle.plan_walk.specs.Path.{Trail, begin, trail_after, Follows, IsOver, Reports}
 use Rattle.plan_executor.specs.Replays.{Replays}

@@ -3,9 +3,9 @@
 -- After POSIX: a descriptor that is opened is the lowest free one. Our own: after a way back a master is what it was.
 
 use Rattle.std.specs.Prelude.{◌≡◌, ◌+◌, ◌==◌, ◌&&◌, ◌∷◌, if◌then◌else◌}
-use Rattle.vocabulary.specs.Words.{refl, codes, ℕ, nat_lt, nat_le, Bool, true, false, not, List, [], Option, Some, None}
+use Rattle.vocabulary.specs.Words.{refl, codes, ℕ, nat_lt, nat_le, Bool, not, List, [], Option, Some, None}
 use Rattle.vocabulary.specs.Words.{is_none, option_map, option_and_then, unwrap_or, filter, bytes_eq, length, list_any}
-use Rattle.vocabulary.specs.Words.{has, first_from, Settings}
+use Rattle.vocabulary.specs.Words.{has, first_from, Settings, then_some}
 use Rattle.vocabulary.specs.declared.reports.Outcome.TheVariants as outcome
 use Rattle.vocabulary.specs.declared.targets.Target.TheVariants as target
 use Rattle.definitions.specs.Table.{Address, FilePath, Generation, Table, Caller, live_master}
@@ -181,13 +181,9 @@ abbrev pub keeps_rules : Record → Bool
 keeps_rules r =
     nat_le 1 (length r.listeners) && (nat_le r.wanted 1024 && (is_none (first_from r.wanted r.ready) && nat_le 1 r.pid))
 
-abbrev pub record_if : Bool → Record → Option Record
-record_if true r = Some r
-record_if false r = None
-
 abbrev pub record_from : Option Setup → Option FilePath → Report → ℕ → Option Record
 record_from None path report pid = None
-record_from (Some s) path report pid = record_if (keeps_rules (recorded s path report pid)) (recorded s path report pid)
+record_from (Some s) path report pid = then_some (keeps_rules (recorded s path report pid)) (recorded s path report pid)
 
 -- The record after a plan for a target: the service that the report names, with its ready numbers and its note. There
 -- is none after a stop or where the run was lost, nor where the result would break the rules of a record.
@@ -201,14 +197,11 @@ abbrev pub master_of : Option Setup → Table → Option ℕ
 master_of None t = None
 master_of (Some s) t = option_map (λ (c : Caller). c.number) (live_master s.generation.image t.rows)
 
--- The process number of the master that reigns in a table after an outcome: the live master of the image of the
+-- The record that a report leaves to the master that reigns in the last table: the live master of the image of the
 -- service that the outcome names.
-abbrev pub reigning : Record → Target → Outcome → Table → Option ℕ
-reigning r t outcome table = master_of (setup_after outcome r t) table
-
--- The record that a report leaves to the master that reigns in the last table.
 abbrev pub next_record : Record → Target → Report → Table → Option Record
-next_record r t report last = option_and_then (record_after r t report) (reigning r t report.outcome last)
+next_record r t report last =
+    option_and_then (record_after r t report) (master_of (setup_after report.outcome r t) last)
 
 ---- An example: the gap in the descriptors is filled first
 

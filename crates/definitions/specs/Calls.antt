@@ -6,7 +6,7 @@
 use Rattle.std.specs.Prelude.{◌≡◌, ◌+◌, ◌&&◌, ◌==◌, ◌∷◌, ◌++◌, if◌then◌else◌}
 use Rattle.vocabulary.specs.Words.{refl, ℕ, Bool, true, false, nat_lt, not, List, [], Option, Some, None, filter}
 use Rattle.vocabulary.specs.Words.{count_by, length, zero, suc, bytes_eq, list_any, filter_map, Group}
-use Rattle.vocabulary.specs.Words.{numbers_below, is_in}
+use Rattle.vocabulary.specs.Words.{numbers_below, is_in, then_some}
 use Rattle.vocabulary.specs.declared.calls.Answer.TheVariants as answer
 use Rattle.vocabulary.specs.declared.calls.Fate.TheVariants as fate
 use Rattle.definitions.specs.Table.{Listener, FilePath, File, owner_at, is_draining, Address, Generation, Hold}
@@ -300,10 +300,6 @@ own_step handed image c (Usr1 g k) t = gives answer.Fine t
 own_step handed image c (TermMaster i) t = terminated i t
 own_step handed image c (Ask n) t = gives answer.Go t
 
-abbrev pub fault_if : Bool → Answer → Option Answer
-fault_if true a = Some a
-fault_if false a = None
-
 -- the fault that a fate gives at a call; one that is not the call's, or whose condition does not hold, gives none
 abbrev pub fault_of : Caller → Call → Fate → Table → Option Answer
 fault_of c (OpenAt a) fate.InUse t = Some answer.InUse
@@ -312,8 +308,8 @@ fault_of c (OpenAt a) fate.Denied t = Some answer.Denied
 fault_of c (OpenAt a) fate.NoMemory t = Some answer.NoMemory
 fault_of c (Fork g k fds) fate.Again t = Some answer.Again
 fault_of c (Fork g k fds) fate.NoMemory t = Some answer.NoMemory
-fault_of c (AwaitReady g k) fate.Late t = fault_if (list_any (is_worker is_starting c.number g k) t.rows) answer.Late
-fault_of c (AwaitGone g k) fate.Late t = fault_if (list_any (is_worker is_draining c.number g k) t.rows) answer.Late
+fault_of c (AwaitReady g k) fate.Late t = then_some (list_any (is_worker is_starting c.number g k) t.rows) answer.Late
+fault_of c (AwaitGone g k) fate.Late t = then_some (list_any (is_worker is_draining c.number g k) t.rows) answer.Late
 fault_of c (SpawnMaster i) fate.Again t = Some answer.Again
 fault_of c (SpawnMaster i) fate.NoMemory t = Some answer.NoMemory
 fault_of c (SpawnMaster i) fate.NoImage t = Some answer.NoImage

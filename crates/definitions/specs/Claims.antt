@@ -84,15 +84,12 @@ IsFewerAt m (Some full) (Some less) =
 IsFewerAt m None (Some less) = ⊥
 IsFewerAt m (Some full) None = ⊥
 
--- The same addresses, at each so many workers fewer.
-abbrev pub IsFewer : (Address → ℕ) → Service → Service → Type 0
-IsFewer short full less = (a : Address) → IsFewerAt (short a) (full a) (less a)
-
 -- One service is the other less the shortfalls of its groups, each at the addresses where the group listens. There is
 -- one for each group, and one of them is at least 1.
 abbrev pub FallsShort : Layout → List ℕ → Service → Service → Type 0
 FallsShort layout shortfalls full less =
-    (length shortfalls ≡ length layout.groups) × (1 ≤ sum shortfalls) × IsFewer (short_at layout shortfalls) full less
+    (length shortfalls ≡ length layout.groups) × (1 ≤ sum shortfalls)
+    × ((a : Address) → IsFewerAt (short_at layout shortfalls a) (full a) (less a))
 
 -- What an outcome says of the last table: Done, the target's service; RolledBack, the one of the first table;
 -- Degraded, that side's less the named shortfalls. Lost never comes.
@@ -217,13 +214,6 @@ pub record EndsAsReported (t : Table) (r : Record) (target : Target) (ran : Ran)
   pub cause : HasCause (report_of (sides_of r target) ran).outcome ran.last.cause
   pub paid : IsPaid r.retries (report_of (sides_of r target) ran).outcome ran.last
 
-abbrev pub KeepsFloor : Table → Record → Target → Ran → Type 0
-KeepsFloor t r target ran = AllByRecursion (Floor (service t) (want r target) t (wanted_at r target)) ran.passed
-
-abbrev pub KeepsAttendedFloor : Table → Record → Target → Ran → Type 0
-KeepsAttendedFloor t r target ran =
-    AllByRecursion (AttendedFloor (service t) (want r target) t (wanted_at r target)) ran.passed
-
 -- Descriptors rise, from 3 on, and a process may have at most 64.
 pub record HasDescriptors (t : Table) (r : Record) : Type 0 where
   pub descriptors : RisesFrom 3 (map (λ (l : Listener). l.descriptor) r.listeners)
@@ -242,13 +232,14 @@ pub record IsAccepted (t : Table) (r : Record) (target : Target) (turns : List T
   pub accepts : Accepts t r target
   pub spared : refusal_of r target turns pattern t ≡ None
 
--- The floor holds where a target quits nobody, or only when others are ready. A mend kills first, and a stop leaves
--- none.
+-- The floor holds at each table of the run where a target quits nobody, or only when others are ready. A mend kills
+-- first, and a stop leaves none.
 abbrev pub HasFloor : Table → Record → Target → Ran → Type 0
-HasFloor t r (Attended s) ran = KeepsAttendedFloor t r (Attended s) ran
+HasFloor t r (Attended s) ran =
+    AllByRecursion (AttendedFloor (service t) (want r (Attended s)) t (wanted_at r (Attended s))) ran.passed
 HasFloor t r (Mend overdue) ran = ⊤
 HasFloor t r (Stop quick) ran = ⊤
-HasFloor t r target ran = KeepsFloor t r target ran
+HasFloor t r target ran = AllByRecursion (Floor (service t) (want r target) t (wanted_at r target)) ran.passed
 
 -- What is promised of a run: it ends as its report says and keeps what it has to, the floor too, in the target's
 -- manner.

@@ -4,8 +4,8 @@
 -- worker that exits is in the table until its master hears of it.
 
 use Rattle.std.specs.Prelude.{◌≡◌, ◌-◌, ◌==◌, ◌∷◌, if◌then◌else◌}
-use Rattle.vocabulary.specs.Words.{refl, ℕ, Bool, true, false, not, List, [], Option, Some, None, count_by, list_any}
-use Rattle.vocabulary.specs.Words.{filter_map}
+use Rattle.vocabulary.specs.Words.{refl, ℕ, Bool, false, not, List, [], Option, Some, None, count_by, list_any}
+use Rattle.vocabulary.specs.Words.{filter_map, then_some}
 use Rattle.vocabulary.specs.declared.names.Name.TheVariants as name
 use Rattle.definitions.specs.Table.{Ready, Generation, Exited, Process, Master, Worker, Foreign, Table, with_rows}
 use Rattle.definitions.specs.Table.{is_active, is_draining, is_named, Caller, live_master, is_live_master}
@@ -31,18 +31,14 @@ first_changed test f (p ∷ ps) = if test p then f p ∷ ps else p ∷ first_cha
 abbrev pub draining_exits : Generation → ℕ → List Process → List Process
 draining_exits g k rows = first_changed (is_named is_draining g k) made_exited rows
 
-abbrev pub kept_if : {X : Type 0} → Bool → X → Option X
-kept_if true x = Some x
-kept_if false x = None
-
 -- What becomes of a row where the live master with the number exits: its own row stays, exited and without holds,
 -- where its parent is a live master, and leaves otherwise; its workers leave; a master whose parent it was gets
 -- parent 1.
 abbrev pub without_exited : ℕ → (ℕ → Bool) → Process → Option Process
 without_exited gone lives (Master n q i live hs) =
-    if n == gone then kept_if (lives q) (Master n q i false [])
+    if n == gone then then_some (lives q) (Master n q i false [])
     else Some (Master n (if q == gone then 1 else q) i live hs)
-without_exited gone lives (Worker n q g k s hs) = kept_if (not (q == gone)) (Worker n q g k s hs)
+without_exited gone lives (Worker n q g k s hs) = then_some (not (q == gone)) (Worker n q g k s hs)
 without_exited gone lives (Foreign n hs) = Some (Foreign n hs)
 
 abbrev pub caller_exits : Option Caller → List Process → List Process

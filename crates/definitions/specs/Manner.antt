@@ -4,7 +4,7 @@
 
 use Rattle.std.specs.Prelude.{◌≡◌, ◌==◌, ◌&&◌, ◌||◌, ◌∷◌, ◌++◌, ◌⊎◌, if◌then◌else◌}
 use Rattle.vocabulary.specs.Words.{refl, ℕ, nat_lt, Bool, true, false, not, List, [], Option, Some, None, ⊤, list_any}
-use Rattle.vocabulary.specs.Words.{AllByRecursion, is_in}
+use Rattle.vocabulary.specs.Words.{AllByRecursion, IfSome, is_in, option_map}
 use Rattle.vocabulary.specs.declared.calls.Answer.TheVariants as answer
 use Rattle.vocabulary.specs.declared.reports.Outcome.TheVariants as outcome
 use Rattle.vocabulary.specs.declared.plans.Side.TheVariants as side
@@ -29,16 +29,12 @@ abbrev pub is_active_process : ℕ → Process → Bool
 is_active_process p (Worker n q g k s hs) = is_active s && (n == p)
 is_active_process p _ = false
 
-abbrev pub has_active : Table → ℕ → Bool
-has_active t p = list_any (is_active_process p) t.rows
-
-abbrev pub has_process : Table → ℕ → Bool
-has_process t p = list_any (λ row. number_of row == p) t.rows
-
 -- A process is a loss where the exits of a moment end it while it is Starting or Ready. The tables of a run come in
 -- pairs, before and after the exits of a moment, and the last one.
 abbrev pub is_lost : ℕ → List Progress → Bool
-is_lost p (before ∷ middle ∷ rest) = (has_active before.table p && not (has_active middle.table p)) || is_lost p rest
+is_lost p (before ∷ middle ∷ rest) =
+    (list_any (is_active_process p) before.table.rows && not (list_any (is_active_process p) middle.table.rows))
+    || is_lost p rest
 is_lost p _ = false
 
 -- Each process that is Ready at first, of these worker numbers, is Ready at the end or is a loss.
@@ -49,7 +45,9 @@ Stays first stays ran =
 
 -- No process that was Ready at first, of these worker numbers, is in the last table.
 abbrev pub Goes : Table → (ℕ → Bool) → Ran → Type 0
-Goes first goes ran = (p k : ℕ) → has_ready first p k ≡ true → goes k ≡ true → has_process ran.last.table p ≡ false
+Goes first goes ran =
+    (p k : ℕ) → has_ready first p k ≡ true → goes k ≡ true →
+    list_any (λ row. number_of row == p) ran.last.table.rows ≡ false
 
 ---- Entries
 
@@ -116,22 +114,17 @@ KillsAreDue first before (e ∷ entries) (p ∷ []) = ⊥
 abbrev pub KillsOnlyLate : Table → Ran → Type 0
 KillsOnlyLate first ran = KillsAreDue first [] ran.entries ran.passed
 
-abbrev pub onto : Entry → Option (List Entry) → Option (List Entry)
-onto e None = None
-onto e (Some entries) = Some (e ∷ entries)
-
 -- the entries before a Leave, where there is one
 abbrev pub before_leave : List Entry → Option (List Entry)
 before_leave [] = None
-before_leave (e ∷ entries) = if is_leave_call e.call then Some [] else onto e (before_leave entries)
-
-abbrev pub AreWaitedFor : Record → Option (List Entry) → Type 0
-AreWaitedFor r None = ⊤
-AreWaitedFor r (Some entries) = AllByRecursion (λ k. was_waited_for r.generation k entries ≡ true) r.ready
+before_leave (e ∷ entries) =
+    if is_leave_call e.call then Some [] else option_map (λ before. e ∷ before) (before_leave entries)
 
 -- Before a Leave, each number that was ready was told to quit and waited for.
 abbrev pub LeavesLast : Record → Ran → Type 0
-LeavesLast r ran = AreWaitedFor r (before_leave ran.entries)
+LeavesLast r ran =
+    IfSome (before_leave ran.entries)
+    (λ before. AllByRecursion (λ k. was_waited_for r.generation k before ≡ true) r.ready)
 
 ---- The manner of each target
 
@@ -140,22 +133,18 @@ is_old_side outcome.RolledBack = true
 is_old_side (outcome.Degraded side.Old shortfalls) = true
 is_old_side _ = false
 
--- Which worker numbers stay: on the old side all.
-abbrev pub stays_below : ℕ → Outcome → ℕ → Bool
-stays_below n end k = is_old_side end || nat_lt k n
-
 -- An upgrade that comes back leaves all workers, unless it had waited for them to go.
 abbrev pub UpgradeManner : Record → Outcome → Table → Ran → Type 0
 UpgradeManner r end first ran =
     (is_old_side end ≡ true → list_any (λ e. is_wait_call e.call) ran.entries ≡ false → Stays first (λ k. true) ran)
     × KillsOnlyLate first ran × LeavesLast r ran
 
--- A change of the number of workers leaves those alone whose number stays; a mend leaves all that aren't overdue, and
--- ends the others; a reopening leaves and tells all; a reload that comes back leaves all. Outside a mend and a quick
--- stop a worker is killed only after it was told to quit and was late; before a master leaves in peace its workers
--- were told to quit and waited for; at a quick stop none is told to quit.
+-- A change of the number of workers leaves those alone whose number stays, and all on the old side; a mend leaves all
+-- that aren't overdue, and ends the others; a reopening leaves and tells all; a reload that comes back leaves all.
+-- Outside a mend and a quick stop a worker is killed only after it was told to quit and was late; before a master
+-- leaves in peace its workers were told to quit and waited for; at a quick stop none is told to quit.
 abbrev pub Manner : Record → Target → Outcome → Table → Ran → Type 0
-Manner r (Workers n) end first ran = Stays first (stays_below n end) ran × KillsOnlyLate first ran
+Manner r (Workers n) end first ran = Stays first (λ k. is_old_side end || nat_lt k n) ran × KillsOnlyLate first ran
 Manner r (Mend overdue) end first ran = Stays first (λ k. not (is_in overdue k)) ran × Goes first (is_in overdue) ran
 Manner r Reopen end first ran =
     Stays first (λ k. true) ran

@@ -4,9 +4,9 @@
 -- can't open its addresses goes on with the old configuration; USR2 moves the pid file aside, and back when the new
 -- master is gone.
 
-use Rattle.std.specs.Prelude.{◌≡◌, ◌+◌, ◌||◌, ◌∷◌, ◌++◌}
-use Rattle.vocabulary.specs.Words.{refl, ℕ, zero, suc, max, not, nat_lt, Bool, true, false, List, [], Option, Some}
-use Rattle.vocabulary.specs.Words.{None, filter, map, reverse, numbers_below, is_in}
+use Rattle.std.specs.Prelude.{◌≡◌, ◌||◌, ◌∷◌, ◌++◌}
+use Rattle.vocabulary.specs.Words.{refl, ℕ, zero, suc, not, nat_lt, Bool, true, false, List, [], Option, Some}
+use Rattle.vocabulary.specs.Words.{None, drop, filter, map, reverse, numbers_below, is_in}
 use Rattle.vocabulary.specs.declared.plans.Side.TheVariants as side
 use Rattle.vocabulary.specs.declared.calls.Reply.TheVariants as reply
 use Rattle.definitions.specs.Table.{Address, FilePath, Generation}
@@ -17,8 +17,8 @@ use Rattle.definitions.specs.Record.{Record, PidNote, InPlace, AtOldbin, OldbinL
 use Rattle.definitions.specs.Record.{crew_of}
 use Rattle.definitions.specs.Target.{Target, Workers, Mend, Reopen, Reload, Upgrade, Attended, Stop, only_in}
 use Rattle.definitions.specs.Tree.{Reply, plain_reply, replies_to, Side, End, Done, RolledBack, ShortOld, ShortTarget}
-use Rattle.definitions.specs.Tree.{Split, JoinReady, JoinBack, Join, Make, ForkLacking, AwaitLacking, KillLacking, Tree}
-use Rattle.definitions.specs.Tree.{Branches, Ends, Does, Nothing, Branch, height}
+use Rattle.definitions.specs.Tree.{JoinReady, JoinBack, Join, Make, ForkLacking, AwaitLacking, KillLacking, Tree}
+use Rattle.definitions.specs.Tree.{Branches, Ends, Does, Nothing, Branch}
 use Rattle.definitions.specs.After.{crew_wanted}
 pub use Rattle.vocabulary.specs.declared.plans.Turn.{Turn}
 pub use Rattle.vocabulary.specs.declared.plans.Turn.TheVariants.{New, Old}
@@ -44,14 +44,6 @@ then_edge rest = on (reply.Fine ∷ []) rest Nothing
 
 abbrev pub census_edges : Tree → Tree → Branches
 census_edges full short = on (reply.Full ∷ []) full (on (reply.Short ∷ []) short Nothing)
-
-abbrev pub open_edges : Tree → Tree → Branches
-open_edges ok bad =
-    on (reply.Opened ∷ []) ok (on (reply.InUse ∷ reply.TooMany ∷ reply.Denied ∷ reply.NoMemory ∷ []) bad Nothing)
-
--- whatever is answered
-abbrev pub fork_any_edges : Tree → Branches
-fork_any_edges next = on (reply.Forked ∷ reply.Again ∷ reply.NoMemory ∷ []) next Nothing
 
 abbrev pub gone_edges : Tree → Tree → Branches
 gone_edges gone late = on (reply.Gone ∷ []) gone (on (reply.Late ∷ []) late Nothing)
@@ -118,7 +110,8 @@ quits by g (k ∷ ks) rest = does by (Quit g k) (then_edge (quits by g ks rest))
 -- Fork these numbers upwards, whatever is answered.
 abbrev pub forks_any : ℕ → Crew → List ℕ → Tree → Tree
 forks_any by crew [] rest = rest
-forks_any by crew (k ∷ ks) rest = does by (fork_of crew k) (fork_any_edges (forks_any by crew ks rest))
+forks_any by crew (k ∷ ks) rest =
+    does by (fork_of crew k) (on (reply.Forked ∷ reply.Again ∷ reply.NoMemory ∷ []) (forks_any by crew ks rest) Nothing)
 
 -- Wait for these numbers upwards, whatever is answered; one that is late is killed.
 abbrev pub awaits_any : ℕ → Generation → List ℕ → Tree → Tree
@@ -151,7 +144,9 @@ awaits_gone by g (k ∷ ks) rest =
 -- Open these in their order. The first that fails leads to `bad` of those that were opened, the last first.
 abbrev pub opens : ℕ → List Address → List Address → (List Address → Tree) → (List Address → Tree) → Tree
 opens by [] done ok bad = ok done
-opens by (a ∷ rest) done ok bad = does by (OpenAt a) (open_edges (opens by rest (a ∷ done) ok bad) (bad done))
+opens by (a ∷ rest) done ok bad =
+    does by (OpenAt a) (on (reply.Opened ∷ []) (opens by rest (a ∷ done) ok bad)
+    (on (reply.InUse ∷ reply.TooMany ∷ reply.Denied ∷ reply.NoMemory ∷ []) (bad done) Nothing))
 
 abbrev pub closes : ℕ → List Address → Tree → Tree
 closes by [] rest = rest
@@ -275,15 +270,11 @@ joined ready back _ = back
 
 ---- Upgrade
 
-abbrev pub others : List Reply → List Reply
-others [] = []
-others (r ∷ rs) = rs
-
 -- A step of the new master: the plain reply goes on; any other, and that the master is gone, goes back.
 abbrev pub tries : ℕ → Call → List ℕ → Tree → Tree → Tree
 tries by call set rest back =
     Does by (Make call) set
-    (on (plain_reply call ∷ []) rest (on (others (replies_to call) ++ reply.MasterGone ∷ []) back Nothing))
+    (on (plain_reply call ∷ []) rest (on (drop 1 (replies_to call) ++ reply.MasterGone ∷ []) back Nothing))
 
 abbrev pub tries_all : ℕ → List Call → Tree → Tree → Tree
 tries_all by [] rest back = rest
@@ -401,16 +392,6 @@ upgrade_tree attended by old new ready retries path note held wanted n turns =
     (back_alone by old ready retries path)))
     (settle by old ready side.Old retries)
 
--- The steps on its longest path: those before the parts, both parts, and the longer of what follows them.
-abbrev pub upgrade_length :
-    Bool → ℕ → Crew → Crew → List ℕ → ℕ → Option FilePath → PidNote → List Address → List Address → ℕ → ℕ
-upgrade_length attended by old new ready retries path note held wanted n =
-    let heir = new.generation.image in
-    let back = back_from by heir old ready retries path in
-    height (move_aside by path note (does by (SpawnMaster heir) (spawn_edges (Ends Split) (Ends Done))) (Ends Done))
-    + height (new_part new held wanted n) + height (old_part by old ready retries)
-    + max (height (taken_over attended by old new ready retries path n back)) (height back)
-
 ---- The plan of a target
 
 -- Turns are used in upgrades alone, attended or not.
@@ -429,17 +410,7 @@ plan_tree r (Attended s) turns =
     (addresses_of r) s.listeners s.workers turns
 plan_tree r (Stop quick) turns = stop_tree r.generation.image r.generation r.ready r.pid_path r.note quick
 
--- The steps on the longest path of a target's plan.
-abbrev pub plan_length : Record → Target → ℕ
-plan_length r (Upgrade s) =
-    upgrade_length false r.generation.image (crew_of r) (crew_wanted r (Upgrade s)) r.ready r.retries r.pid_path r.note
-    (addresses_of r) s.listeners s.workers
-plan_length r (Attended s) =
-    upgrade_length true r.generation.image (crew_of r) (crew_wanted r (Attended s)) r.ready r.retries r.pid_path r.note
-    (addresses_of r) s.listeners s.workers
-plan_length r target = height (plan_tree r target [])
+---- An example: nobody quits, so what follows is the whole tree
 
----- An example: a settle with one round makes five calls at most: count, fork, wait, kill, count
-
-example : (by : ℕ) (crew : Crew) (set : List ℕ) (side : Side) → height (settle by crew set side 1) ≡ 5
-example by crew set side = refl
+example : (by : ℕ) (g : Generation) (rest : Tree) → quits by g [] rest ≡ rest
+example by g rest = refl

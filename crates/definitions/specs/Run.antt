@@ -65,15 +65,11 @@ first_cause (Some k) wrong n = Some k
 first_cause None true n = Some n
 first_cause None false n = None
 
--- The answer that a call is meant to have; of a census, each count.
-abbrev pub is_plain : Call → Answer → Bool
-is_plain call (answer.Counted ns) = true
-is_plain call a = same_reply (reply_of [] a) (plain_reply call)
-
--- Whether an answer counts as a fault: each one that is not plain, except that the operator goes back.
+-- Whether an answer counts as a fault: each one that is not plain, except a count and that the operator goes back.
 abbrev pub is_fault : Call → Answer → Bool
+is_fault call (answer.Counted ns) = false
 is_fault (Ask n) answer.Back = false
-is_fault call a = not (is_plain call a)
+is_fault call a = not (same_reply (reply_of [] a) (plain_reply call))
 
 -- The operator went back at a question: which one, and how many faults the run had before it.
 pub record Return : Type 0 where

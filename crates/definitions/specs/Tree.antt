@@ -3,7 +3,7 @@
 -- Our own. Other masters go on after a failure as their code happens to; a plan has an edge for every reply.
 
 use Rattle.std.specs.Prelude.{◌≡◌, ◌∷◌}
-use Rattle.vocabulary.specs.Words.{refl, ℕ, suc, max, Bool, true, false, List, [], Option, Some, None, list_any, lacks}
+use Rattle.vocabulary.specs.Words.{get_or, refl, ℕ, Bool, true, false, List, [], Option, Some, None, list_any, lacks}
 use Rattle.vocabulary.specs.declared.calls.Answer.TheVariants as answer
 use Rattle.vocabulary.specs.declared.calls.Reply.TheVariants as reply
 use denote.Enum.Bare.{sameb}
@@ -85,18 +85,9 @@ replies_to (Alive i) = reply.IsAlive ∷ reply.Gone ∷ []
 replies_to (Ask n) = reply.Go ∷ reply.Back ∷ []
 replies_to _ = reply.Fine ∷ []
 
--- the plain reply to a call; of a census, a full one
+-- the plain reply to a call, the first one; of a census, a full one
 abbrev pub plain_reply : Call → Reply
-plain_reply (OpenAt a) = reply.Opened
-plain_reply (Fork g k fds) = reply.Forked
-plain_reply (AwaitReady g k) = reply.IsReady
-plain_reply (Census g) = reply.Full
-plain_reply (AwaitGone g k) = reply.Gone
-plain_reply (SpawnMaster i) = reply.Spawned
-plain_reply Adopt = reply.Adopted
-plain_reply (Alive i) = reply.IsAlive
-plain_reply (Ask n) = reply.Go
-plain_reply _ = reply.Fine
+plain_reply call = get_or (replies_to call) 0 reply.Fine
 
 ---- Edges
 
@@ -108,16 +99,6 @@ branch (Branch replies said rest more) r =
       | true ↦ Some (said, rest)
       | false ↦ branch more r
     ]
-
--- The number of steps on the longest path.
-abbrev mutual
-  pub height : Tree → ℕ
-  height (Ends end) = 0
-  height (Does by order set branches) = suc (highest branches)
-
-  pub highest : Branches → ℕ
-  highest Nothing = 0
-  highest (Branch replies said rest more) = max (height rest) (highest more)
 
 -- the number that a settle's step names: the lowest that the last census lacked
 abbrev pub lowest : List ℕ → ℕ

@@ -8,7 +8,8 @@ use Rattle.vocabulary.specs.declared.calls.Answer.{Answer}
 use Rattle.vocabulary.specs.declared.calls.Call.{Call}
 use Rattle.vocabulary.specs.declared.calls.Call.TheVariants.{OpenAt, CloseAt, Fork, AwaitReady, Quit, Kill, Census, AwaitGone, SpawnMaster, Adopt, WritePid, MovePid, RemovePid, Alive, Leave, Usr1, TermMaster, Ask}
 use Rattle.definitions.specs.Table.{FilePath, Hold, Starting, Process, Master, Worker, Foreign, Table, number_of, is_active, is_starting, is_exited, is_any, is_draining, is_named, is_worker, is_held, is_live_master, Caller, live_master, owner_at}
-use Rattle.definitions.specs.Exits.{change, made_exited, kept_if, without_exited, caller_exits, exited, all_exited, after_exits}
+use Rattle.definitions.specs.Exits.{change, made_exited, without_exited, caller_exits, exited, all_exited, after_exits}
+use Rattle.std.specs.Bool.{then_some}
 use Rattle.definitions.specs.Calls.{Fate, Stepped, with_holds, made_ready, made_draining, drop_where, without_master, with_new_row, lacks_address, put_hold, lowest_free, shared, suits, has_process_room, is_row, is_of, is_exited_of, is_image, is_of_image, moved_if, asked_alive, own_step, fault_at, fault_or_own, step_by, step_with}
 use Rattle.definitions.specs.Table.{IsAscending}
 use Rattle.definitions.specs.Calls.{Handed}
@@ -59,7 +60,7 @@ same-holds f (Worker n q g k s hs) = refl
 same-holds f (Master n q i live hs) = refl
 same-holds f (Foreign n hs) = refl
 
-kept : (b : Bool) (p p' : Process) → IsSame p p' → IfSome (kept_if b p') (IsSame p)
+kept : (b : Bool) (p p' : Process) → IsSame p p' → IfSome (then_some b p') (IsSame p)
 kept true p p' same = same
 kept false p p' same = tt
 
@@ -68,7 +69,7 @@ same-without gone lives (Worker n q g k s hs) = kept (not (q == gone)) (Worker n
 same-without gone lives (Foreign n hs) = refl
 same-without gone lives (Master n q i live hs) = at (n == gone)
   where
-    at : (b : Bool) → IfSome (cond b (kept_if (lives q) (Master n q i false [])) (Some (Master n (cond (q == gone) 1 q) i live hs))) (IsSame (Master n q i live hs))
+    at : (b : Bool) → IfSome (cond b (then_some (lives q) (Master n q i false [])) (Some (Master n (cond (q == gone) 1 q) i live hs))) (IsSame (Master n q i live hs))
     at true = kept (lives q) (Master n q i live hs) (Master n q i false []) refl
     at false = refl
 

@@ -5,7 +5,7 @@ ghost use Rattle.definitions.specs.Calls.{step_with};
 ghost use Rattle.call_replies.specs.Replies.{is_listed};
 ghost use Rattle.plan_walk.specs.Path.{IsOver};
 ghost use Rattle.definitions.specs.Table.{IsFormed};
-ghost use Rattle.definitions.specs.Plans.{plan_length};
+ghost use Rattle.call_laws.specs.Lengths.{plan_length};
 ghost use Rattle.definitions.specs.Run.{Progress};
 ghost use Rattle.handover_text.specs.Reading.{handed_by};
 ghost use Rattle.kernel_model.specs.Room.{LacksNumbers};

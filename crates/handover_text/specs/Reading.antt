@@ -5,7 +5,7 @@
 
 use Rattle.std.specs.Prelude.{◌≡◌, ◌+◌, ◌==◌, ◌&&◌, ◌∷◌, ◌++◌, if◌then◌else◌, refl, ℕ, nat_lt, nat_le, not, Bool, true}
 use Rattle.std.specs.Prelude.{false, List, [], length, Option, Some, None, is_none, Result, Ok, Err, codes, bytes_eq}
-use Rattle.std.specs.List.{list_any, list_all, before_first, after_first, slice_split}
+use Rattle.std.specs.List.{list_any, before_first, after_first, slice_split}
 use Rattle.worker_groups.specs.declared.groups.Group.{Group}
 use Rattle.worker_groups.specs.Groups.{workers_in, group_refused}
 use Rattle.std.specs.Result.{result_ok}

@@ -6,7 +6,8 @@ use Rattle.std.proofs.lemmas.Bool.{true≢false}
 use Rattle.std.proofs.lemmas.Bool.Decides.{nat_tests}
 use Rattle.std.proofs.lemmas.List.Folds.{list_any-append}
 use Rattle.definitions.specs.Table.{Hold, Process, Master, Worker, Foreign, is_active, is_worker, is_live_master, live_master, caller_if}
-use Rattle.definitions.specs.Exits.{kept_if, without_exited}
+use Rattle.definitions.specs.Exits.{without_exited}
+use Rattle.std.specs.Bool.{then_some}
 use Rattle.definitions.specs.Calls.{drop_where, is_image, is_image_row, is_of_image, without_master}
 use Rattle.definitions.specs.Table.{IsQuiet, HasParent}
 use Rattle.kernel_table.specs.Room.{HasSockets}
@@ -70,7 +71,7 @@ leaves-alike : (m : ℕ) (p : Process) → without_exited m (λ q. false) p ≡ 
 leaves-alike m (Master n q i live hs) = refl
 leaves-alike m (Worker n q g k s hs) = at (nat_eq q m)
   where
-    at : (b : Bool) → kept_if (not b) (Worker n q g k s hs) ≡ cond b None (Some (Worker n q g k s hs))
+    at : (b : Bool) → then_some (not b) (Worker n q g k s hs) ≡ cond b None (Some (Worker n q g k s hs))
     at true = refl
     at false = refl
 leaves-alike m (Foreign n hs) = refl

@@ -9,7 +9,8 @@ use Rattle.vocabulary.specs.declared.table.Stance.TheVariants.{Starting, Ready, 
 use Rattle.vocabulary.specs.declared.names.Name.{Name}
 use Rattle.vocabulary.specs.declared.names.Name.TheVariants as name
 use Rattle.definitions.specs.Table.{Address, Generation, Hold, Process, Master, Worker, Foreign, is_active, is_starting, is_draining, is_named, is_worker, is_live_master, is_at, Caller, live_master}
-use Rattle.definitions.specs.Exits.{change, made_exited, worker_exits, draining_exits, kept_if, without_exited, caller_exits, exited, all_exited, first_changed}
+use Rattle.definitions.specs.Exits.{change, made_exited, worker_exits, draining_exits, without_exited, caller_exits, exited, all_exited, first_changed}
+use Rattle.std.specs.Bool.{then_some}
 use Rattle.definitions.specs.Calls.{drop_where, made_ready, made_draining, with_holds, lacks_address, is_exited_of}
 use Rattle.definitions.specs.Table.{HasParent}
 use Rattle.kernel_table.proofs.Keeping.{AreKept, Follows, AreKept-becomes, Becomes-filter_map, Becomes-first_changed, says-change, says-dropped}
@@ -154,13 +155,13 @@ module _ (gone : ℕ) (lives : ℕ → Bool) where
   live-exit q other [] e = e
   live-exit q other (Worker n q' g k s hs ∷ rows) e = at (not (nat_eq q' gone)) (live-exit q other rows e)
     where
-      at : (b : Bool) → list_any (is_live_master q) (filter_map (without_exited gone lives) rows) ≡ true → list_any (is_live_master q) (cons_option (kept_if b (Worker n q' g k s hs)) (filter_map (without_exited gone lives) rows)) ≡ true
+      at : (b : Bool) → list_any (is_live_master q) (filter_map (without_exited gone lives) rows) ≡ true → list_any (is_live_master q) (cons_option (then_some b (Worker n q' g k s hs)) (filter_map (without_exited gone lives) rows)) ≡ true
       at true ih = ih
       at false ih = ih
   live-exit q other (Foreign n hs ∷ rows) e = live-exit q other rows e
   live-exit q other (Master n q' i live hs ∷ rows) e = at (nat_eq n gone) (λ t. grind (arith, nat_tests)) (live && nat_eq n q) refl e (live-exit q other rows)
     where
-      left : (b : Bool) → list_any (is_live_master q) (filter_map (without_exited gone lives) rows) ≡ true → list_any (is_live_master q) (cons_option (kept_if b (Master n q' i false [])) (filter_map (without_exited gone lives) rows)) ≡ true
+      left : (b : Bool) → list_any (is_live_master q) (filter_map (without_exited gone lives) rows) ≡ true → list_any (is_live_master q) (cons_option (then_some b (Master n q' i false [])) (filter_map (without_exited gone lives) rows)) ≡ true
       left true ih = ih
       left false ih = ih
 
@@ -170,7 +171,7 @@ module _ (gone : ℕ) (lives : ℕ → Bool) where
 
       at : (b : Bool) → (b ≡ true → nat_eq n q ≡ false) → (c : Bool) → (live && nat_eq n q) ≡ c → (c || list_any (is_live_master q) rows) ≡ true
           → (list_any (is_live_master q) rows ≡ true → list_any (is_live_master q) (filter_map (without_exited gone lives) rows) ≡ true)
-          → list_any (is_live_master q) (cons_option (cond b (kept_if (lives q') (Master n q' i false [])) (Some (Master n (cond (nat_eq q' gone) 1 q') i live hs))) (filter_map (without_exited gone lives) rows)) ≡ true
+          → list_any (is_live_master q) (cons_option (cond b (then_some (lives q') (Master n q' i false [])) (Some (Master n (cond (nat_eq q' gone) 1 q') i live hs))) (filter_map (without_exited gone lives) rows)) ≡ true
       at true apart true is e ih = absurd (false≢true (sym (and-false live (nat_eq n q) (apart refl)) ∙ is))
       at true apart false is e ih = left (lives q') (ih e)
       at false apart true is e ih = ap (λ b. b || list_any (is_live_master q) (filter_map (without_exited gone lives) rows)) is
@@ -179,13 +180,13 @@ module _ (gone : ℕ) (lives : ℕ → Bool) where
   pub exit_says : (rows : List Process) (socket : ℕ) (p : Process) → IfSome (without_exited gone lives p) (Follows rows (filter_map (without_exited gone lives) rows) socket socket p)
   exit_says rows socket (Worker n q g k s hs) = at (nat_eq q gone) refl
     where
-      at : (b : Bool) → nat_eq q gone ≡ b → IfSome (kept_if (not b) (Worker n q g k s hs)) (Follows rows (filter_map (without_exited gone lives) rows) socket socket (Worker n q g k s hs))
+      at : (b : Bool) → nat_eq q gone ≡ b → IfSome (then_some (not b) (Worker n q g k s hs)) (Follows rows (filter_map (without_exited gone lives) rows) socket socket (Worker n q g k s hs))
       at true e = tt
       at false e = record { number = refl; quiet = λ h. h; active = λ q' g' k' t. t; image = λ i e. e; parent = λ h. live-exit q e rows h; sockets = λ h. h }
   exit_says rows socket (Foreign n hs) = record { number = refl; quiet = λ h. h; active = λ q' g' k' t. t; image = λ i e. e; parent = λ h. h; sockets = λ h. h }
   exit_says rows socket (Master n q i live hs) = at (nat_eq n gone) (lives q)
     where
-      at : (b c : Bool) → IfSome (cond b (kept_if c (Master n q i false [])) (Some (Master n (cond (nat_eq q gone) 1 q) i live hs))) (Follows rows (filter_map (without_exited gone lives) rows) socket socket (Master n q i live hs))
+      at : (b c : Bool) → IfSome (cond b (then_some c (Master n q i false [])) (Some (Master n (cond (nat_eq q gone) 1 q) i live hs))) (Follows rows (filter_map (without_exited gone lives) rows) socket socket (Master n q i live hs))
       at true true = record { number = refl; quiet = λ h. tt; active = λ q' g' k' t. t; image = λ i e. e; parent = λ h. tt; sockets = λ h. tt }
       at true false = tt
       at false c = record { number = refl; quiet = λ h. tt; active = λ q' g' k' t. t; image = λ i e. e; parent = λ h. tt; sockets = λ h. h }

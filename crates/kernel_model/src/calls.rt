@@ -2,7 +2,8 @@
 ghost use Rattle.std.specs.Prelude.{◌≡◌, ℕ, List};
 ghost use Rattle.std.specs.List.{list_any};
 ghost use Rattle.definitions.specs.Table.{Table, Caller as LiveMaster, is_worker};
-ghost use Rattle.definitions.specs.Calls.{opened, closed, forked, awaited, quitted, killed, counted, awaited_gone, written, moved, unlinked, own_step, fault_if, fault_of, step_with};
+ghost use Rattle.definitions.specs.Calls.{opened, closed, forked, awaited, quitted, killed, counted, awaited_gone, written, moved, unlinked, own_step, fault_of, step_with};
+ghost use Rattle.std.specs.Bool.{then_some};
 ghost use Rattle.handover_text.specs.Reading.{handed_by};
 ghost use Rattle.kernel_rows.specs.Seen.{seen_caller, has_stance};
 ghost use Rattle.kernel_table.specs.Seen.{seen};
@@ -274,7 +275,7 @@ fn late(
     generation: Generation,
     nr: u32,
 ) -> Option<Answer>
-    ensures { result ≡ fault_if (list_any (is_worker (has_stance stances) caller.now.number generation nr) (seen store.now).rows) Answer.Late }
+    ensures { result ≡ then_some (list_any (is_worker (has_stance stances) caller.now.number generation nr) (seen store.now).rows) Answer.Late }
 {
     let name = caller.worker(generation, nr);
     if store.has_worker(stances, name) {

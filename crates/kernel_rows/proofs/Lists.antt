@@ -2,7 +2,7 @@
 use Rattle.std.proofs.Common.{◌≡◌, Bool, true, false, cond, ◌||◌, List, [], ◌∷◌, ◌++◌, Option, map, refl, ap, subst, ◌∙◌}
 use Rattle.std.specs.List.{list_any, filter_map, cons_option}
 use Rattle.std.specs.List.Retain.{RetainsInTurn}
-use Rattle.definitions.specs.Exits.{kept_if}
+use Rattle.std.specs.Bool.{then_some}
 
 pub list_any-map : {X Y : Type 0} (test : Y → Bool) (f : X → Y) (xs : List X) → list_any test (map f xs) ≡ list_any (λ x. test (f x)) xs
 list_any-map test f [] = refl
@@ -12,8 +12,8 @@ pub map-push : {X Y : Type 0} (f : X → Y) (xs : List X) (x : X) → map f (xs 
 map-push f [] x = refl
 map-push f (y ∷ xs) x = ap (λ ys. f y ∷ ys) (map-push f xs x)
 
-module _ {S X Y : Type 0} (R : S → X → Bool → S → X → Type 0) (v : X → Y) (h : Y → Option Y) (s : S) (says : (x : X) (b : Bool) (t : S) (y : X) → R s x b t y → (kept_if b (v y) ≡ h (v x)) × (t ≡ s)) where
-  kept : (b : Bool) (y : X) (zs : List X) (rest : List Y) → map v zs ≡ rest → map v (cond b (y ∷ zs) zs) ≡ cons_option (kept_if b (v y)) rest
+module _ {S X Y : Type 0} (R : S → X → Bool → S → X → Type 0) (v : X → Y) (h : Y → Option Y) (s : S) (says : (x : X) (b : Bool) (t : S) (y : X) → R s x b t y → (then_some b (v y) ≡ h (v x)) × (t ≡ s)) where
+  kept : (b : Bool) (y : X) (zs : List X) (rest : List Y) → map v zs ≡ rest → map v (cond b (y ∷ zs) zs) ≡ cons_option (then_some b (v y)) rest
   kept true y zs rest e = ap (λ ys. v y ∷ ys) e
   kept false y zs rest e = e
 

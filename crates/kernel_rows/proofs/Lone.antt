@@ -6,7 +6,8 @@ use Rattle.std.proofs.lemmas.Bool.{false≢true}
 use Rattle.std.proofs.lemmas.List.Sums.{fails_before_first, sum_by-cons}
 use Rattle.vocabulary.specs.declared.table.Stance.TheVariants.{Starting, Ready, Draining, Exited}
 use Rattle.definitions.specs.Table.{Address, Generation, Process, Master, Worker, Foreign, is_active, is_starting, is_worker}
-use Rattle.definitions.specs.Exits.{change, kept_if}
+use Rattle.definitions.specs.Exits.{change}
+use Rattle.std.specs.Bool.{then_some}
 use Rattle.definitions.specs.Calls.{made_draining, made_ready}
 use Rattle.kernel_rows.specs.declared.process.Holder.{Holder}
 use Rattle.kernel_rows.specs.declared.process.WorkerName.{WorkerName}
@@ -103,7 +104,7 @@ starting-active q g k (Worker n q' g' k' Exited hs) e = absurd (false≢true e)
 starting-active q g k (Master n q' i live hs) e = absurd (false≢true e)
 starting-active q g k (Foreign n hs) e = absurd (false≢true e)
 
-stayed : (b : Bool) (p q : Process) → kept_if b p ≡ Some q → p ≡ q
+stayed : (b : Bool) (p q : Process) → then_some b p ≡ Some q → p ≡ q
 stayed true p q e = cc
 stayed false p q e = cc
 
@@ -114,14 +115,14 @@ module _ (addresses : List Address) (name : WorkerName) where
   abbrev active : Process → Bool
   active = is_worker is_active name.parent name.generation name.nr
 
-  pub edited-one : (edit : Edit) → ChangesActive name edit → (xs : List Holder) (i : ℕ) (d y : Holder) (b : Bool) → i < length xs → active (seen (get_or xs i d)) ≡ true → count_by active (map seen xs) ≤ 1 → kept_if b (seen y) ≡ edited addresses edit (seen (get_or xs i d)) → map seen (set xs i y) ≡ filter_map (edited addresses edit) (map seen xs)
+  pub edited-one : (edit : Edit) → ChangesActive name edit → (xs : List Holder) (i : ℕ) (d y : Holder) (b : Bool) → i < length xs → active (seen (get_or xs i d)) ≡ true → count_by active (map seen xs) ≤ 1 → then_some b (seen y) ≡ edited addresses edit (seen (get_or xs i d)) → map seen (set xs i y) ≡ filter_map (edited addresses edit) (map seen xs)
   edited-one edit (inl is) xs i d y b lt e le met =
       let test = is_worker is_starting name.parent name.generation name.nr in
-      let become : kept_if b (seen y) ≡ change test made_ready (seen (get_or xs i d)) = met ∙ ap (λ x. edited addresses x (seen (get_or xs i d))) is in
+      let become : then_some b (seen y) ≡ change test made_ready (seen (get_or xs i d)) = met ∙ ap (λ x. edited addresses x (seen (get_or xs i d))) is in
       changed-one active test made_ready (starting-active name.parent name.generation name.nr) seen xs i d y lt e le (stayed b (seen y) _ become)
       ∙ sym (ap (λ x. filter_map (edited addresses x) (map seen xs)) is)
   edited-one edit (inr is) xs i d y b lt e le met =
-      let become : kept_if b (seen y) ≡ change active made_draining (seen (get_or xs i d)) = met ∙ ap (λ x. edited addresses x (seen (get_or xs i d))) is in
+      let become : then_some b (seen y) ≡ change active made_draining (seen (get_or xs i d)) = met ∙ ap (λ x. edited addresses x (seen (get_or xs i d))) is in
       changed-one active active made_draining (λ p t. t) seen xs i d y lt e le (stayed b (seen y) _ become)
       ∙ sym (ap (λ x. filter_map (edited addresses x) (map seen xs)) is)
 

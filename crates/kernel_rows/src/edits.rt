@@ -1,6 +1,7 @@
 //! What exits and calls do to each process.
 ghost use Rattle.std.specs.Prelude.{◌≡◌, ℕ, List};
-ghost use Rattle.definitions.specs.Exits.{kept_if, made_exited, without_exited};
+ghost use Rattle.definitions.specs.Exits.{made_exited, without_exited};
+ghost use Rattle.std.specs.Bool.{then_some};
 ghost use Rattle.definitions.specs.Calls.{made_ready, made_draining};
 
 use crate::holds;
@@ -68,7 +69,7 @@ impl Holder {
 
     /// The master with the number exits, and its workers leave; whether this process stays.
     fn exit_master(&mut self, gone: u32, stays: bool) -> bool
-        ensures { (addresses : List (List ℕ)) → kept_if result (seen_holder addresses self.new) ≡ without_exited gone (λ q. stays) (seen_holder addresses self.old) }
+        ensures { (addresses : List (List ℕ)) → then_some result (seen_holder addresses self.new) ≡ without_exited gone (λ q. stays) (seen_holder addresses self.old) }
     {
         match self.row {
             Row::Master {
@@ -103,7 +104,7 @@ impl Holder {
 
     /// Changes the process by the edit; whether it stays.
     pub fn edit(&mut self, addresses: &[Address], edit: &Edit) -> bool
-        ensures { kept_if result (seen_holder addresses.now self.new) ≡ edited addresses.now edit.now (seen_holder addresses.now self.old) }
+        ensures { then_some result (seen_holder addresses.now self.new) ≡ edited addresses.now edit.now (seen_holder addresses.now self.old) }
     {
         match edit {
             Edit::ExitWorker(generation, nr) => {

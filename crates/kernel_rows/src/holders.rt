@@ -3,7 +3,8 @@ ghost use Rattle.std.specs.Prelude.{◌≡◌, ◌<◌, ◌≤◌, ◌+◌, ◌+
 ghost use Rattle.std.specs.List.{filter_map, remove, slice_get};
 ghost use Rattle.std.specs.Option.{option_map};
 ghost use Rattle.definitions.specs.Table.{is_active, is_worker};
-ghost use Rattle.definitions.specs.Exits.{kept_if, draining_exits};
+ghost use Rattle.definitions.specs.Exits.{draining_exits};
+ghost use Rattle.std.specs.Bool.{then_some};
 ghost use Rattle.kernel_rows.specs.Gaps.{outside, IsGap};
 ghost use Rattle.kernel_rows.specs.Seen.{seen_holder, seen_rows};
 ghost use Rattle.kernel_rows.specs.Edits.{edited, ChangesActive};
@@ -71,7 +72,7 @@ fn edit_all(slots: &mut Vec<Holder>, addresses: &[Address], edit: &Edit)
     ensures capacity { vec_capacity slots.new ≡ vec_capacity slots.old }
 {
     let stays = |holder: &mut Holder| -> bool
-        ensures { kept_if result (seen_holder addresses.entry.now holder.exit.now) ≡ edited addresses.entry.now edit.entry.now (seen_holder addresses.entry.now holder.entry.now) }
+        ensures { then_some result (seen_holder addresses.entry.now holder.exit.now) ≡ edited addresses.entry.now edit.entry.now (seen_holder addresses.entry.now holder.entry.now) }
     { holder.edit(addresses, edit) };
     slots.retain_mut(stays);
 }

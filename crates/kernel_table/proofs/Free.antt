@@ -7,7 +7,8 @@ use Rattle.std.proofs.lemmas.Bool.Decides.{nat_tests}
 use Rattle.std.proofs.lemmas.List.Folds.{list_any-append}
 use Rattle.vocabulary.specs.declared.table.Stance.TheVariants.{Starting, Ready, Draining, Exited}
 use Rattle.definitions.specs.Table.{Address, Generation, Hold, Process, Master, Worker, Foreign, is_active, is_starting, is_exited, is_any, is_named, is_draining, is_worker, same_generation}
-use Rattle.definitions.specs.Exits.{made_exited, without_exited, kept_if, draining_exits}
+use Rattle.definitions.specs.Exits.{made_exited, without_exited, draining_exits}
+use Rattle.std.specs.Bool.{then_some}
 use Rattle.definitions.specs.Calls.{is_row, is_image, is_of, is_exited_of, lacks_address, made_ready, made_draining, with_holds}
 use Rattle.kernel_rows.specs.declared.edits.Edit.{Edit}
 use Rattle.kernel_rows.specs.declared.edits.Edit.TheVariants.{ExitWorker, ExitMaster, MakeReady, Drain, Reap, Kill, ReapAll, Hold as HoldAs, Close, ReapMaster, Terminate}
@@ -61,12 +62,12 @@ module _ (q : ℕ) (g : Generation) (k : ℕ) where
   master-exits : (gone : ℕ) (stays : Bool) (p : Process) → IfSome (without_exited gone (λ a. stays) p) (Stays p)
   master-exits gone stays (Worker n q' g' k' s hs) = at (nat_eq q' gone)
     where
-      at : (b : Bool) → IfSome (kept_if (not b) (Worker n q' g' k' s hs)) (Stays (Worker n q' g' k' s hs))
+      at : (b : Bool) → IfSome (then_some (not b) (Worker n q' g' k' s hs)) (Stays (Worker n q' g' k' s hs))
       at true = tt
       at false = λ e. e
   master-exits gone stays (Master n q' i live hs) = at (nat_eq n gone) stays
     where
-      at : (b s : Bool) → IfSome (cond b (kept_if s (Master n q' i false [])) (Some (Master n (cond (nat_eq q' gone) 1 q') i live hs))) (Stays (Master n q' i live hs))
+      at : (b s : Bool) → IfSome (cond b (then_some s (Master n q' i false [])) (Some (Master n (cond (nat_eq q' gone) 1 q') i live hs))) (Stays (Master n q' i live hs))
       at true true = λ e. e
       at true false = tt
       at false s = λ e. e

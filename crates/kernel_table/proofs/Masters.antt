@@ -4,7 +4,8 @@ use Rattle.std.specs.List.{AllByRecursion, filter_map, list_any}
 use Rattle.std.proofs.lemmas.Bool.{false≢true}
 use Rattle.std.proofs.lemmas.Bool.Decides.{nat_tests}
 use Rattle.definitions.specs.Table.{Address, Hold, Process, Master, Worker, Foreign, Caller, caller_if, live_master, number_of, holds_of}
-use Rattle.definitions.specs.Exits.{change, kept_if, without_exited}
+use Rattle.definitions.specs.Exits.{change, without_exited}
+use Rattle.std.specs.Bool.{then_some}
 use Rattle.definitions.specs.Calls.{is_row, is_image, with_holds, put_hold}
 use Rattle.definitions.specs.Table.{IsAscending}
 use Rattle.kernel_rows.specs.declared.process.Holder.{Holder}
@@ -59,7 +60,7 @@ module _ (n q i : ℕ) (hs : List Hold) where
   exited_alike lives (Master m q' i' live old) only = at (nat_eq m n) (λ t. only (grind (arith, nat_tests)))
     where
       at : (b : Bool) → (b ≡ true → Master m q' i' live old ≡ Master n q i true hs)
-          → cond b (kept_if (lives q) (Master m q' i' false [])) (Some (Master m (cond (nat_eq q' n) 1 q') i' live old)) ≡ cond b (kept_if (lives q') (Master m q' i' false [])) (Some (Master m (cond (nat_eq q' n) 1 q') i' live old))
+          → cond b (then_some (lives q) (Master m q' i' false [])) (Some (Master m (cond (nat_eq q' n) 1 q') i' live old)) ≡ cond b (then_some (lives q') (Master m q' i' false [])) (Some (Master m (cond (nat_eq q' n) 1 q') i' live old))
       at true same = let whole = same refl in let is : q' ≡ q = cc in rw is refl
       at false same = refl
   exited_alike lives (Worker m q' g k s old) only = refl

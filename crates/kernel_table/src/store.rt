@@ -4,7 +4,7 @@ ghost use Rattle.std.specs.List.{list_any, filter_map, slice_get};
 ghost use Rattle.std.specs.Option.{option_map};
 ghost use Rattle.definitions.specs.Table.{Master, Worker, is_active, is_any, is_worker, is_own, is_live_master, is_held, live_master, with_rows};
 ghost use Rattle.definitions.specs.Calls.{is_image, has_process_room, lowest_free, with_new_row, with_new_socket, each_row, drop_where, census_of};
-ghost use Rattle.definitions.specs.Exits.{kept_if, draining_exits};
+ghost use Rattle.definitions.specs.Exits.{draining_exits};
 ghost use Rattle.kernel_rows.specs.Seen.{seen_rows, has_stance};
 ghost use Rattle.kernel_rows.specs.Edits.{edited, ChangesActive};
 ghost use Rattle.kernel_rows.specs.Places.{bears, IsActiveAt, IsLiveAt, IsWorkerAt};

@@ -17,7 +17,8 @@ use Rattle.vocabulary.specs.declared.reports.Report.{Report}
 use Rattle.kernel_model.specs.State.{State}
 use Rattle.plan_walk.specs.Log.{Told}
 use Rattle.rollback_plan.specs.declared.plan.Plan.{Plan}
-use Rattle.definitions.specs.Plans.{plan_tree, plan_length, Turn}
+use Rattle.definitions.specs.Plans.{plan_tree, Turn}
+use Rattle.call_laws.specs.Lengths.{plan_length}
 use Rattle.definitions.specs.Run.{Pattern}
 use Rattle.plan_executor.specs.Replays.{Replays}
 use Rattle.rollback_plan.specs.Plans.{tree_under, note_of, sides_told, text_of}

@@ -6,7 +6,8 @@ use Rattle.std.proofs.lemmas.Option.{none-some, same_Some}
 use Rattle.definitions.specs.Table.{Table}
 use Rattle.definitions.specs.Record.{Record, Agrees}
 use Rattle.vocabulary.specs.declared.targets.Target.{Target}
-use Rattle.definitions.specs.Plans.{Turn, plan_length}
+use Rattle.definitions.specs.Plans.{Turn}
+use Rattle.call_laws.specs.Lengths.{plan_length}
 use Rattle.service_state.specs.Targets.{lacks_generation}
 use Rattle.std.proofs.lemmas.Bool.{false≢true}
 use Rattle.definitions.specs.Run.{Pattern}

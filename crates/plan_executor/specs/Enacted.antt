@@ -3,7 +3,8 @@ use Rattle.std.specs.Prelude.{◌≡◌, ◌+◌, List, length, None}
 use Rattle.vocabulary.specs.declared.targets.Target.{Target}
 use Rattle.definitions.specs.Table.{Table}
 use Rattle.definitions.specs.Record.{Record, Agrees}
-use Rattle.definitions.specs.Plans.{Turn, plan_length}
+use Rattle.definitions.specs.Plans.{Turn}
+use Rattle.call_laws.specs.Lengths.{plan_length}
 use Rattle.definitions.specs.Run.{Pattern, Ran}
 use Rattle.definitions.specs.After.{next_record}
 use Rattle.definitions.specs.Claims.{IsStart, HasDescriptors, KeepsPromise, run_of, refusal_of}

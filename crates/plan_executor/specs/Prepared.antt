@@ -4,7 +4,8 @@ use Rattle.vocabulary.specs.declared.targets.Target.{Target}
 use Rattle.definitions.specs.Record.{Record}
 use Rattle.definitions.specs.Target.{sides_of, handover_for}
 use Rattle.handover_text.specs.Reading.{Hands}
-use Rattle.definitions.specs.Plans.{plan_tree, plan_length, Turn}
+use Rattle.definitions.specs.Plans.{plan_tree, Turn}
+use Rattle.call_laws.specs.Lengths.{plan_length}
 use Rattle.definitions.specs.Claims.{IsStart, HasDescriptors}
 use Rattle.kernel_model.specs.Room.{LacksNumbers}
 use Rattle.kernel_model.specs.State.{State}

@@ -3,7 +3,8 @@ use Rattle.std.specs.Prelude.{ℕ, ◌≡◌, List, Some}
 use Rattle.definitions.specs.Table.{Table}
 use Rattle.definitions.specs.Record.{Record, Agrees}
 use Rattle.vocabulary.specs.declared.targets.Target.{Target}
-use Rattle.definitions.specs.Plans.{Turn, plan_length}
+use Rattle.definitions.specs.Plans.{Turn}
+use Rattle.call_laws.specs.Lengths.{plan_length}
 use Rattle.definitions.specs.Run.{Pattern}
 use Rattle.definitions.specs.Claims.{refusal_of}
 use Rattle.kernel_model.specs.Room.{LacksNumbers}

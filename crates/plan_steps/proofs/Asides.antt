@@ -3,7 +3,8 @@ use Rattle.std.proofs.Common.{◌≡◌, ℕ, zero, suc, ◌+◌, ◌-◌, ◌<�
 use Rattle.std.proofs.lemmas.Bool.{and_parts, ltb-true}
 use Rattle.std.proofs.lemmas.List.{take_more, get_or-take, length-map, get_or_default}
 use Rattle.vocabulary.specs.declared.plans.End.TheVariants.{Done, RolledBack, ShortOld, ShortTarget, Split, JoinReady, JoinBack, Join}
-use Rattle.definitions.specs.Tree.{Tree, Branches, Ends, Does, Nothing, Branch, height, highest}
+use Rattle.definitions.specs.Tree.{Tree, Branches, Ends, Does, Nothing, Branch}
+use Rattle.call_laws.specs.Lengths.{height, highest}
 use Rattle.plan_steps.specs.declared.step.Next.{Next}
 use Rattle.plan_steps.specs.declared.step.Next.TheVariants.{To, Over, Both}
 use Rattle.plan_steps.specs.declared.step.PlanEdge.{PlanEdge}

@@ -5,7 +5,8 @@ use Rattle.std.specs.List.{list_all}
 use Rattle.listener_set.specs.Numbers.{is_in}
 use Rattle.vocabulary.specs.declared.plans.End.{End}
 use Rattle.vocabulary.specs.declared.plans.End.TheVariants.{Split, JoinReady, JoinBack, Join}
-use Rattle.definitions.specs.Tree.{Tree, Branches, Ends, Does, Nothing, Branch, height}
+use Rattle.definitions.specs.Tree.{Tree, Branches, Ends, Does, Nothing, Branch}
+use Rattle.call_laws.specs.Lengths.{height}
 use Rattle.plan_steps.specs.declared.step.Next.{Next}
 use Rattle.plan_steps.specs.declared.step.Next.TheVariants.{To, Over, Both}
 use Rattle.plan_steps.specs.declared.step.PlanEdge.{PlanEdge}

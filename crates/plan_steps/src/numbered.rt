@@ -1,6 +1,6 @@
 //! The steps of a plan, out of those of a draft.
 ghost use Rattle.std.specs.Prelude.{◌≡◌, ◌≤◌, ◌<◌, IfOk, IsTrue, length};
-ghost use Rattle.definitions.specs.Tree.{height};
+ghost use Rattle.call_laws.specs.Lengths.{height};
 ghost use Rattle.plan_steps.specs.Steps.{all_lead_back, at_place};
 ghost use Rattle.plan_steps.specs.Numbering.{IsNumberedFrom};
 

@@ -1,6 +1,6 @@
 //! What a plan needs to know of the steps of a draft: how tall they are and how deep they lie.
 ghost use Rattle.std.specs.Prelude.{◌≡◌, ℕ, slice_index, [], ◌+◌, ◌≤◌, IsTrue, IfOk, length, map};
-ghost use Rattle.definitions.specs.Tree.{height};
+ghost use Rattle.call_laws.specs.Lengths.{height};
 ghost use Rattle.plan_steps.specs.Steps.{all_below, all_lead_back, trees_after};
 ghost use Rattle.plan_steps.specs.Numbering.{highest_behind, deepened, all_within, AreDepths};
 

@@ -1,6 +1,6 @@
 //! The four stretches of a plan with two parts: the steps before them, the new master's part, the old one's, and the rest.
 ghost use Rattle.std.specs.Prelude.{◌≡◌, [], ◌∷◌, ◌++◌, ◌≤◌, ◌<◌, IsTrue, IfOk, length, map, filter, nat_lt, nat_eq, slice_index};
-ghost use Rattle.definitions.specs.Tree.{height};
+ghost use Rattle.call_laws.specs.Lengths.{height};
 ghost use Rattle.plan_steps.specs.Steps.{all_below, all_lead_back, trees_after};
 ghost use Rattle.plan_steps.specs.Numbering.{all_within};
 ghost use Rattle.plan_steps.specs.Stretches.{to_split, one_more, farthest_among, aside, asides_among, beside_height, is_before, AreOrders};

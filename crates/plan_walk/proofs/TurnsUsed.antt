@@ -5,7 +5,8 @@ use Rattle.vocabulary.specs.declared.plans.PidNote.{PidNote}
 use Rattle.vocabulary.specs.declared.reports.Entry.{Entry}
 use Rattle.std.specs.Prelude.{unwrap_or, slice_get}
 use Rattle.definitions.specs.Plans.{Turn, New}
-use Rattle.definitions.specs.Tree.{Tree, Ends, Does, height}
+use Rattle.definitions.specs.Tree.{Tree, Ends, Does}
+use Rattle.call_laws.specs.Lengths.{height}
 use Rattle.definitions.specs.Run.{Lack}
 use Rattle.plan_walk.specs.Path.{Asks, IsOver}
 use Rattle.rollback_plan.specs.Following.{follow}

@@ -1,6 +1,7 @@
 -- What keeps an execution going.
 use Rattle.std.specs.Prelude.{ℕ, Bool, true, Option, None, Some}
-use Rattle.definitions.specs.Tree.{Tree, height}
+use Rattle.definitions.specs.Tree.{Tree}
+use Rattle.call_laws.specs.Lengths.{height}
 use Rattle.plan_steps.specs.Woven.{answers}
 
 -- each step of the rest has an edge for each reply; where there is no rest, so it is

@@ -2,7 +2,7 @@
 use Rattle.std.specs.Prelude.{ℕ, ◌+◌, ◌≡◌, List, [], ◌∷◌, ◌++◌, Option, Some, None, unwrap_or}
 use Rattle.vocabulary.specs.declared.calls.Answer.TheVariants as answer
 use Rattle.vocabulary.specs.declared.reports.Outcome.TheVariants as outcome
-use Rattle.definitions.specs.Tree.{reply_of, End, Done, PidNote, call_of, Tree, Ends, Does}
+use Rattle.definitions.specs.Tree.{reply_of, Done, PidNote, call_of, Tree, Ends, Does}
 use Rattle.definitions.specs.Run.{Entry, Report, Outcome, Sides, Lack, ready_after}
 use Rattle.definitions.specs.Run.{lacking_after, lacked_by, lacked_after, went_wrong, first_cause, outcome_at}
 use Rattle.rollback_plan.specs.Following.{follow}

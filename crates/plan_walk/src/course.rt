@@ -1,7 +1,7 @@
 //! How far the execution of a plan has come by given turns.
 ghost use Rattle.std.specs.Prelude.{◌≡◌, ◌+◌, ◌<◌, ◌≤◌, ◌^◌, IsTrue, IfSome, IfNone, None, drop};
 ghost use Rattle.vocabulary.specs.declared.calls.Answer.TheVariants.{MasterGone};
-ghost use Rattle.definitions.specs.Tree.{height};
+ghost use Rattle.call_laws.specs.Lengths.{height};
 ghost use Rattle.call_replies.specs.Replies.{is_listed};
 ghost use Rattle.plan_walk.specs.Path.{begin, advance, Asks, IsOver, Reports};
 ghost use Rattle.rollback_plan.specs.Places.{turn_of};

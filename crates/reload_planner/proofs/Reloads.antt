@@ -11,7 +11,8 @@ use Rattle.definitions.specs.Record.{Record, addresses_of, crew_of}
 use Rattle.vocabulary.specs.Settings.{Settings}
 use Rattle.vocabulary.specs.declared.targets.Target.TheVariants.{Reload}
 use Rattle.definitions.specs.Plans.{Turn, reload_tree, plan_tree}
-use Rattle.definitions.specs.Tree.{Tree, height}
+use Rattle.definitions.specs.Tree.{Tree}
+use Rattle.call_laws.specs.Lengths.{height}
 use Rattle.rollback_plan.specs.declared.plan.Plan.{Plan}
 use Rattle.rollback_plan.specs.Plans.{tree_of, tree_under, length_of}
 use Rattle.reload_planner.specs.declared.refusal.PlanRefusal.{PlanRefusal}

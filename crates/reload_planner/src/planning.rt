@@ -2,7 +2,8 @@
 ghost use Rattle.std.specs.Prelude.{◌≡◌, ◌≤◌, ◌↔◌, List, [], None, length, IfOk, IsErrOf, IsTrue};
 ghost use Rattle.definitions.specs.Target.{sides_of};
 ghost use Rattle.service_state.specs.Targets.{IsTarget, lacks_generation};
-ghost use Rattle.definitions.specs.Plans.{Turn, plan_tree, plan_length};
+ghost use Rattle.definitions.specs.Plans.{Turn, plan_tree};
+ghost use Rattle.call_laws.specs.Lengths.{plan_length};
 ghost use Rattle.rollback_plan.specs.Plans.{tree_under, length_of, parts_of, note_of, sides_told, text_of, trees_in};
 ghost use Rattle.reload_planner.specs.Planning.{most_steps, is_apart};
 

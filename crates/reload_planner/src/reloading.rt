@@ -1,7 +1,8 @@
 //! The plan that brings a new configuration.
 ghost use Rattle.std.specs.Prelude.{◌≡◌, ◌≤◌, ◌<◌, ◌+◌, ◌*◌, ◌↔◌, List, ℕ, [], None, length, reverse, take, IfOk, IfNone, IsErrOf, IsTrue, OnOk};
 ghost use Rattle.definitions.specs.After as after;
-ghost use Rattle.definitions.specs.Tree.{height, Tree};
+ghost use Rattle.definitions.specs.Tree.{Tree};
+ghost use Rattle.call_laws.specs.Lengths.{height};
 ghost use Rattle.definitions.specs.Plans.{Turn, census, census_edges, reload_tree};
 ghost use Rattle.rollback_plan.specs.declared.draft.DraftRefusal.TheVariants.{TooLarge};
 ghost use Rattle.rollback_plan.specs.declared.draft.TheConstants.{MOST_STEPS};

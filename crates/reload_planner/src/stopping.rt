@@ -6,7 +6,7 @@ ghost use Rattle.definitions.specs.Plans as plans;
 ghost use Rattle.rollback_plan.specs.declared.draft.DraftRefusal.TheVariants.{TooLarge};
 ghost use Rattle.rollback_plan.specs.declared.draft.TheConstants.{MOST_STEPS};
 ghost use Rattle.rollback_plan.specs.Drafts.{trees_of, tree_at, IsMade, Grows, GrowsWithin};
-ghost use Rattle.definitions.specs.Tree.{height};
+ghost use Rattle.call_laws.specs.Lengths.{height};
 ghost use Rattle.rollback_plan.specs.Plans.{tree_of, tree_under, length_of, parts_of, note_of, sides_told, text_of, trees_in};
 ghost use Rattle.reload_planner.specs.Changes.{ends_tree};
 

@@ -1,7 +1,7 @@
 //! A place in a plan.
 ghost use Rattle.std.specs.Prelude.{◌≡◌, ◌<◌, ◌≤◌, ◌^◌, true, false, List, Some, IfSome, IfNone, IsTrue};
 ghost use Rattle.std.specs.Option.{option_map};
-ghost use Rattle.definitions.specs.Tree.{height};
+ghost use Rattle.call_laws.specs.Lengths.{height};
 ghost use Rattle.rollback_plan.specs.Following.{follow};
 ghost use Rattle.plan_steps.specs.Steps.{is_within};
 ghost use Rattle.plan_steps.specs.Woven.{answers, woven_behind};

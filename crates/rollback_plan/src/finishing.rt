@@ -1,7 +1,7 @@
 //! A plan out of a draft.
 ghost use Rattle.std.specs.Prelude.{◌≡◌, ◌<◌, ◌≤◌, List, None, IfOk, IsTrue, false, length};
 ghost use Rattle.definitions.specs.Plans.{Turn};
-ghost use Rattle.definitions.specs.Tree.{height};
+ghost use Rattle.call_laws.specs.Lengths.{height};
 ghost use Rattle.plan_steps.specs.Fit.{is_fit};
 ghost use Rattle.plan_steps.specs.Numbering.{IsNumbering};
 ghost use Rattle.plan_steps.specs.Stretches.{AreParts, longest_at};

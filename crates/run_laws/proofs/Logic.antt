@@ -3,7 +3,6 @@ use Rattle.std.proofs.Common.{[], ◌∷◌, ◌≡◌, List, ℕ, ◌+◌, true
 use Rattle.std.specs.Prelude.{⊤}
 use Rattle.std.specs.List.{AllByRecursion}
 use Rattle.definitions.specs.Table.{Process, Table}
-use Rattle.vocabulary.specs.declared.calls.Call.TheVariants.{Leave}
 use Rattle.vocabulary.specs.declared.calls.Call.{Call}
 use Rattle.definitions.specs.Tree.{call_of, Tree, Branches, Ends, Does, Nothing, Branch, among, reply_of}
 use Rattle.vocabulary.specs.declared.plans.Order.{Order}

@@ -1,6 +1,7 @@
 -- From what holds along a run to its manner.
 use Rattle.std.proofs.Common.{◌≡◌, ℕ, ◌+◌, Bool, true, false, not, List, [], ◌∷◌, ◌++◌, None, refl, ◌⊎◌, inl, inr}
 use Rattle.std.specs.Prelude.{◌&&◌, ◌||◌}
+use Rattle.std.specs.List.{list_any}
 use Rattle.vocabulary.specs.declared.calls.Call.{Call}
 use Rattle.vocabulary.specs.declared.calls.Call.TheVariants.{Kill}
 use Rattle.vocabulary.specs.declared.calls.Reply.{Reply}
@@ -9,7 +10,7 @@ use Rattle.definitions.specs.Table.{Table}
 use Rattle.definitions.specs.Record.{Record}
 use Rattle.definitions.specs.Tree.{Tree, Branches, Ends, Does, Nothing, Branch, among, reply_of}
 use Rattle.definitions.specs.Run.{Pattern, Progress, Ending, Ran, run_with, goes_with, noted, after_call, after_moment, answered, start_at}
-use Rattle.definitions.specs.Manner.{has_ready, has_active, is_lost, IsKillDue, KillsAreDue}
+use Rattle.definitions.specs.Manner.{has_ready, is_active_process, is_lost, IsKillDue, KillsAreDue}
 use Rattle.definitions.specs.Claims.{IsStart}
 use Rattle.run_laws.proofs.Logic.{Course, course_after, Along, AreMild, AreMildBehind, AllDue, Unasked, Anyhow, refused_in, run_in, from-along, are-mild-anyhow}
 use Rattle.run_laws.proofs.Lights.{no_claim}
@@ -30,9 +31,9 @@ mutual
       let s = answered co.handed by order moment.fate middle in
       let next = after_call by order set s middle in
       let lost =
-      or-false (has_active p.table n && not (has_active middle.table n))
+      or-false (list_any (is_active_process n) p.table.rows && not (list_any (is_active_process n) middle.table.rows))
       (is_lost n (goes_with co.handed bs (reply_of set s.answer) co.pattern next).passed) e in
-      ((λ on. still (has_active p.table n) (has_active middle.table n) on lost.0), unlost-behind n (course_after order co) bs (reply_of set s.answer) next lost.1)
+      ((λ on. still (list_any (is_active_process n) p.table.rows) (list_any (is_active_process n) middle.table.rows) on lost.0), unlost-behind n (course_after order co) bs (reply_of set s.answer) next lost.1)
     where
       or-false : (a b : Bool) → (a || b) ≡ false → (a ≡ false) × (b ≡ false)
       or-false true b e = absurd (cc)

@@ -10,13 +10,15 @@ use Rattle.vocabulary.specs.declared.plans.Turn.TheVariants as turn
 use Rattle.definitions.specs.Table.{Address, FilePath}
 use Rattle.definitions.specs.Crew.{Crew}
 use Rattle.definitions.specs.Tree.{Tree, Branches, Ends, Does, Nothing, Branch, End, Done, RolledBack, ShortOld}
-use Rattle.definitions.specs.Tree.{ShortTarget, Split, JoinReady, JoinBack, Join, height, highest}
+use Rattle.definitions.specs.Tree.{ShortTarget, Split, JoinReady, JoinBack, Join}
+use Rattle.call_laws.specs.Lengths.{height, highest}
 use Rattle.definitions.specs.Plans.{graft, graft_all, joined, beside, beside_all, weave, weave_all}
 use Rattle.definitions.specs.Calls.{SpawnMaster}
 use Rattle.definitions.specs.Record.{addresses_of, crew_of}
 use Rattle.definitions.specs.After.{crew_wanted}
 use Rattle.definitions.specs.Plans.{does, taken_over, new_part, old_part, spawn_edges, move_aside, move_back}
-use Rattle.definitions.specs.Plans.{back_alone, back_from, settle, upgrade_tree, upgrade_length}
+use Rattle.definitions.specs.Plans.{back_alone, back_from, settle, upgrade_tree}
+use Rattle.call_laws.specs.Lengths.{upgrade_length}
 use Rattle.run_laws.specs.Lengths.{PlansFit}
 
 mutual

@@ -17,7 +17,8 @@ use Rattle.vocabulary.specs.declared.calls.Fate.{Fate}
 use Rattle.definitions.specs.Table.{Hold, Process, Master, Worker, Foreign, Table, Caller, owner_at, live_master}
 use Rattle.definitions.specs.Table.{caller_if, is_live_master, is_worker, is_named, is_active, is_starting, is_draining}
 use Rattle.definitions.specs.Table.{is_exited, is_any, is_held}
-use Rattle.definitions.specs.Exits.{without_exited, kept_if, change, made_exited, first_changed, caller_exits, exited, all_exited, after_exits}
+use Rattle.definitions.specs.Exits.{without_exited, change, made_exited, first_changed, caller_exits, exited, all_exited, after_exits}
+use Rattle.std.specs.Bool.{then_some}
 use Rattle.definitions.specs.Calls.{suits, moved_if, is_image, is_image_row, is_of_image, census_of, Stepped, gives}
 use Rattle.definitions.specs.Calls.{each_row, drop_where, with_holds, put_hold, lacks_address, is_row, is_of}
 use Rattle.definitions.specs.Calls.{is_exited_of, made_ready, made_draining, with_new_row, shared, with_new_socket}
@@ -178,12 +179,12 @@ of-lasts m image = (of-exited, of-holds, of-ready, of-draining, of-left)
     of-left gone lives (Master n q i live hs) ne h =
         pick (FitsIn (IsOf m image)) (n == gone) _ _ (λ e. ⊎_elim (λ o. absurd (ne (sym o.0 ∙ eqb-is n gone e))) (λ o. kept (lives q) o) h) (λ e. h)
       where
-        kept : (b : Bool) → (n ≢ m) × (i ≢ image) → FitsIn (IsOf m image) (kept_if b (Master n q i false []))
+        kept : (b : Bool) → (n ≢ m) × (i ≢ image) → FitsIn (IsOf m image) (then_some b (Master n q i false []))
         kept true o = inr o
         kept false o = tt
     of-left gone lives (Worker n q g k s hs) ne h = go (not (q == gone))
       where
-        go : (b : Bool) → FitsIn (IsOf m image) (kept_if b (Worker n q g k s hs))
+        go : (b : Bool) → FitsIn (IsOf m image) (then_some b (Worker n q g k s hs))
         go true = tt
         go false = tt
     of-left gone lives (Foreign n hs) ne h = tt

@@ -19,15 +19,16 @@ use Rattle.definitions.specs.Exits.{is_active_worker, change, losses_of, all_exi
 use Rattle.vocabulary.specs.declared.calls.Call.{Call}
 use Rattle.vocabulary.specs.declared.calls.Call.TheVariants.{AwaitGone, Fork, AwaitReady, Quit, Kill, Census, CloseAt, OpenAt, Usr1}
 use Rattle.vocabulary.specs.declared.calls.Answer.TheVariants.{IsReady, Gone, Opened, Counted as Told}
-use Rattle.definitions.specs.Tree.{Tree, Branches, Ends, Does, full_or_short, lowest, call_of, reply_of}
+use Rattle.definitions.specs.Tree.{Tree, Branches, Ends, Does, Nothing, full_or_short, lowest, call_of, reply_of}
 use Rattle.listener_set.specs.Numbers.{is_in, lacks}
-use Rattle.definitions.specs.Plans.{awaits_gone, gone_edges, usr1s, open_edges, fork_any_edges, kills, forks_any}
+use Rattle.definitions.specs.Plans.{awaits_gone, gone_edges, usr1s, on, kills, forks_any}
 use Rattle.definitions.specs.Plans.{awaits_any, fork_edges, await_edges, then_edge, census_edges, does, census, forks}
 use Rattle.definitions.specs.Plans.{awaits, starts, quits, settle, round, full_end, short_end, await_any_edges}
 use Rattle.vocabulary.specs.declared.plans.Side.{Side}
 use Rattle.vocabulary.specs.declared.plans.Order.{Order}
 use Rattle.vocabulary.specs.declared.plans.Order.TheVariants.{Make, ForkLacking, AwaitLacking, KillLacking}
 use Rattle.vocabulary.specs.declared.calls.Reply.{Reply}
+use Rattle.vocabulary.specs.declared.calls.Reply.TheVariants as reply
 use Rattle.vocabulary.specs.declared.plans.PidNote.{PidNote}
 use Rattle.definitions.specs.Claims.{names_any, is_ready_with}
 use Rattle.definitions.specs.Crew.{Crew, fds_of, fork_of}
@@ -52,6 +53,14 @@ use Rattle.table_laws.proofs.Services.{ready-floor}
 use Rattle.table_laws.proofs.After.{census-exact}
 use Rattle.run_laws.proofs.Logic.{Unasked, Exiting, Anyhow, Course, course_after, Along, Behind}
 use Rattle.call_laws.proofs.Cases.{Unfailing, fork-cases, await-cases, unfailing, open-cases, gone-cases}
+
+-- the edges of an open, and of a fork that goes on whatever is answered
+abbrev open_edges : Tree → Tree → Branches
+open_edges ok bad =
+    on (reply.Opened ∷ []) ok (on (reply.InUse ∷ reply.TooMany ∷ reply.Denied ∷ reply.NoMemory ∷ []) bad Nothing)
+
+abbrev fork_any_edges : Tree → Branches
+fork_any_edges next = on (reply.Forked ∷ reply.Again ∷ reply.NoMemory ∷ []) next Nothing
 
 -- the view with these names
 abbrev pub view : View → Names → Names → View

@@ -16,7 +16,8 @@ use Rattle.vocabulary.specs.declared.calls.Fate.{Fate}
 use Rattle.definitions.specs.Table.{Hold, Process, Master, Worker, Foreign, Table, Caller, owner_at, live_master}
 use Rattle.definitions.specs.Table.{number_of, bears, is_worker, is_ready, is_active, is_starting, is_exited, is_any}
 use Rattle.definitions.specs.Table.{is_held}
-use Rattle.definitions.specs.Exits.{without_exited, kept_if, change, made_exited, all_exited, after_exits}
+use Rattle.definitions.specs.Exits.{without_exited, change, made_exited, all_exited, after_exits}
+use Rattle.std.specs.Bool.{then_some}
 use Rattle.definitions.specs.Calls.{suits, moved_if, is_image, is_image_row, is_of_image, Stepped, gives, with_holds}
 use Rattle.definitions.specs.Calls.{put_hold, lacks_address, is_row, is_of, made_ready, made_draining, is_exited_of}
 use Rattle.definitions.specs.Calls.{drop_where, census_of, with_new_row, shared, with_new_socket, lowest_free}
@@ -85,12 +86,12 @@ module _ (m image n : ℕ) (g0 : Generation) (k0 : ℕ) (low : k0 < 1024) where
       leaves : (gone : ℕ) (lives : ℕ → Bool) (p : Process) → m ≢ gone → IsIt p → FitsIn IsIt (without_exited gone lives p)
       leaves gone lives (Master k q i live hs) ne h = pick (FitsIn IsIt) (k == gone) _ _ (λ e. kept (lives q)) (λ e f. absurd (cc f))
         where
-          kept : (b : Bool) → FitsIn IsIt (kept_if b (Master k q i false []))
+          kept : (b : Bool) → FitsIn IsIt (then_some b (Master k q i false []))
           kept true = λ e. absurd (cc e)
           kept false = tt
       leaves gone lives (Worker k q g j s hs) ne h = kept (not (q == gone))
         where
-          kept : (b : Bool) → FitsIn IsIt (kept_if b (Worker k q g j s hs))
+          kept : (b : Bool) → FitsIn IsIt (then_some b (Worker k q g j s hs))
           kept true = h
           kept false = tt
       leaves gone lives (Foreign k hs) ne h = h

@@ -12,7 +12,8 @@ use Rattle.vocabulary.specs.declared.table.Stance.TheVariants.{Starting, Ready, 
 use Rattle.vocabulary.specs.declared.calls.Call.{Call}
 use Rattle.vocabulary.specs.declared.calls.Call.TheVariants.{OpenAt, CloseAt, Fork, AwaitReady, Quit, Kill, Census, Usr1}
 use Rattle.definitions.specs.Table.{Hold, Process, Master, Worker, Foreign, Table, number_of, bears, is_worker, is_ready, is_active, is_any}
-use Rattle.definitions.specs.Exits.{without_exited, kept_if, made_exited, after_exits}
+use Rattle.definitions.specs.Exits.{without_exited, made_exited, after_exits}
+use Rattle.std.specs.Bool.{then_some}
 use Rattle.definitions.specs.Calls.{with_holds, made_ready, made_draining, is_exited_of, drop_where, each_row, census_of, Stepped, step_with}
 use Rattle.definitions.specs.Calls.{Handed}
 use Rattle.definitions.specs.Manner.{is_process_of}
@@ -48,12 +49,12 @@ gone-lasts m n = record {
     gone-left : (gone : ℕ) (lives : ℕ → Bool) (p : Process) → IsOther n p → FitsIn (IsOther n) (without_exited gone lives p)
     gone-left gone lives (Master k q i live hs) h = pick (FitsIn (IsOther n)) (k == gone) _ _ (λ e. kept (lives q)) (λ e. h)
       where
-        kept : (b : Bool) → FitsIn (IsOther n) (kept_if b (Master k q i false []))
+        kept : (b : Bool) → FitsIn (IsOther n) (then_some b (Master k q i false []))
         kept true = h
         kept false = tt
     gone-left gone lives (Worker k q g j s hs) h = kept (not (q == gone))
       where
-        kept : (b : Bool) → FitsIn (IsOther n) (kept_if b (Worker k q g j s hs))
+        kept : (b : Bool) → FitsIn (IsOther n) (then_some b (Worker k q g j s hs))
         kept true = h
         kept false = tt
     gone-left gone lives (Foreign k hs) h = h
@@ -133,12 +134,12 @@ module _ (m image n : ℕ) (g0 : Generation) (k0 : ℕ) (low : k0 < 1024) where
       leaves : (gone : ℕ) (lives : ℕ → Bool) (p : Process) → OnlyOurs S p → FitsIn (OnlyOurs S) (without_exited gone lives p)
       leaves gone lives (Master k q i live hs) h = pick (FitsIn (OnlyOurs S)) (k == gone) _ _ (λ e. kept (lives q)) (λ e. h)
         where
-          kept : (b : Bool) → FitsIn (OnlyOurs S) (kept_if b (Master k q i false []))
+          kept : (b : Bool) → FitsIn (OnlyOurs S) (then_some b (Master k q i false []))
           kept true = h
           kept false = tt
       leaves gone lives (Worker k q g j s hs) h = kept (not (q == gone))
         where
-          kept : (b : Bool) → FitsIn (OnlyOurs S) (kept_if b (Worker k q g j s hs))
+          kept : (b : Bool) → FitsIn (OnlyOurs S) (then_some b (Worker k q g j s hs))
           kept true = h
           kept false = tt
       leaves gone lives (Foreign k hs) h = h

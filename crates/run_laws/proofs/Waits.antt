@@ -1,6 +1,6 @@
 -- Workers are told to quit, and waited for: what was done before each call.
 use Rattle.std.proofs.Common.{◌≡◌, ℕ, Bool, true, false, List, [], ◌∷◌, ◌++◌, Option, Some, None, refl, sym, ap, subst, append_assoc, ⊎_elim}
-use Rattle.std.specs.Prelude.{⊤, ◌&&◌, if◌then◌else◌}
+use Rattle.std.specs.Prelude.{⊤, ◌&&◌, if◌then◌else◌, IfSome, option_map}
 use Rattle.std.specs.List.{AllByRecursion, list_any}
 use Rattle.listener_set.specs.Numbers.{is_in, lacks}
 use Rattle.listener_set.specs.declared.generation.Generation.{Generation}
@@ -21,7 +21,7 @@ use Rattle.definitions.specs.Tree.{Tree, Nothing, among, reply_of, full_or_short
 use Rattle.definitions.specs.Plans.{on, does, then_edge, gone_edges, quits, awaits_gone}
 use Rattle.definitions.specs.Run.{Progress, Lost, after_call}
 use Rattle.definitions.specs.Manner.{is_quit_of, is_wait_of, is_late, is_leave_call, was_late, was_waited_for}
-use Rattle.definitions.specs.Manner.{IsKillDue, KillsAreDue, onto, before_leave, AreWaitedFor}
+use Rattle.definitions.specs.Manner.{IsKillDue, KillsAreDue, before_leave}
 use Rattle.definitions.specs.Claims.{names_any}
 use Rattle.table_laws.proofs.Rows.{both-true}
 use Rattle.table_laws.proofs.Effects.{bears-refl}
@@ -201,14 +201,18 @@ leaves-after r due all past (e ∷ entries) (p ∷ []) h = absurd h
 leaves-after r due all past (e ∷ entries) (p ∷ middle ∷ rest) h =
     go (is_leave_call e.call) refl (before_leave entries) (leaves-after r due all (past ++ e ∷ []) entries rest h.1)
   where
-    go : (b : Bool) → is_leave_call e.call ≡ b → (o : Option (List Entry)) → Before r (past ++ e ∷ []) o → Before r past (if b then Some [] else onto e o)
+    go : (b : Bool) → is_leave_call e.call ≡ b → (o : Option (List Entry)) → Before r (past ++ e ∷ []) o → Before r past (if b then Some [] else option_map (λ before. e ∷ before) o)
     go true is o ih =
         every-in (λ k. was_waited_for r.generation k (past ++ []) ≡ true) r.ready
         (λ k on. subst (λ l. was_waited_for r.generation k l ≡ true) (sym (append-nil past)) (all past e.call middle.table is h.0 k on))
     go false is None ih = tt
     go false is (Some front) ih = subst (λ l. AllByRecursion (λ k. was_waited_for r.generation k l ≡ true) r.ready) (append_assoc past (e ∷ []) front) ih
 
--- Before a Leave all were waited for, where what is asked of it says so.
+-- Before a Leave all were waited for, where there is one.
+abbrev pub AreWaitedFor : Record → Option (List Entry) → Type 0
+AreWaitedFor r o = IfSome o (λ before. AllByRecursion (λ k. was_waited_for r.generation k before ≡ true) r.ready)
+
+-- That is so where what is asked of it says so.
 pub leaves-traced :
     (r : Record) (due : Asking) →
     ((past : List Entry) (call : Call) (t : Table) → is_leave_call call ≡ true → due past call t → AllWaited r.generation r.ready past)

@@ -3,8 +3,10 @@ use Rattle.std.specs.Prelude.{ℕ, ◌+◌, ◌*◌, ◌≤◌, List, length}
 use Rattle.vocabulary.specs.Settings.{Settings}
 use Rattle.definitions.specs.Record.{Record}
 use Rattle.definitions.specs.Target.{Target, Upgrade, Attended, numbers_wanted, addresses_wanted}
-use Rattle.definitions.specs.Tree.{Tree, height}
-use Rattle.definitions.specs.Plans.{Turn, plan_tree, plan_length}
+use Rattle.definitions.specs.Tree.{Tree}
+use Rattle.call_laws.specs.Lengths.{height}
+use Rattle.definitions.specs.Plans.{Turn, plan_tree}
+use Rattle.call_laws.specs.Lengths.{plan_length}
 use Rattle.definitions.specs.Run.{run_with, Pattern, Progress}
 use Rattle.definitions.specs.Calls.{Handed}
 

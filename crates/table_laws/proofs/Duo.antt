@@ -10,7 +10,8 @@ use Rattle.vocabulary.specs.declared.names.Name.TheVariants as name
 use Rattle.definitions.specs.Table.{Hold, Process, Master, Worker, Foreign, Caller, number_of, bears, live_master}
 use Rattle.definitions.specs.Table.{caller_if, is_live_master, is_active, is_ready, is_named, is_draining, IsAscending}
 use Rattle.definitions.specs.Crew.{Posts, share}
-use Rattle.definitions.specs.Exits.{change, made_exited, first_changed, caller_exits, without_exited, kept_if, exited, all_exited}
+use Rattle.definitions.specs.Exits.{change, made_exited, first_changed, caller_exits, without_exited, exited, all_exited}
+use Rattle.std.specs.Bool.{then_some}
 use Rattle.definitions.specs.Calls.{drop_where, is_image, is_image_row, is_of_image, without_master}
 use Rattle.table_laws.proofs.Rows.{one, weigh, worth, FitsIn, change-same, every-filter_map, every-both, every-more, every-append, weigh-append}
 use Rattle.call_laws.proofs.Choices.{pick}
@@ -73,7 +74,7 @@ dead-exited w (Foreign n hs) h = h
 
 dead-kept :
     (w : View) (n q i : ℕ) (live : Bool) (hs : List Hold) (b : Bool) → Dead w (Master n q i live hs) →
-    FitsIn (Dead w) (kept_if b (Master n q i false []))
+    FitsIn (Dead w) (then_some b (Master n q i false []))
 dead-kept w n q i live hs true h = ⊎_elim (λ o. inl (o.0, refl, inl refl)) (λ c. inr (c.0, c.1, refl)) h
 dead-kept w n q i live hs false h = tt
 
@@ -81,7 +82,7 @@ dead-without : (w : View) (gone : ℕ) (lives : ℕ → Bool) (p : Process) → 
 dead-without w gone lives (Master n q i live hs) h = pick (FitsIn (Dead w)) (n == gone) _ _ (λ e. dead-kept w n q i live hs (lives q) h) (λ e. h)
 dead-without w gone lives (Worker n q g k s hs) h = go (not (q == gone))
   where
-    go : (b : Bool) → FitsIn (Dead w) (kept_if b (Worker n q g k s hs))
+    go : (b : Bool) → FitsIn (Dead w) (then_some b (Worker n q g k s hs))
     go true = h
     go false = tt
 dead-without w gone lives (Foreign n hs) h = tt
@@ -112,12 +113,12 @@ dies w lives (Master n q i live hs) h =
     (λ e. ⊎_elim (λ f. corpse (lives q) f.0 f.1) (λ o. absurd (o.0 (eqb-is n w.number e))) h)
     (λ e. ⊎_elim (λ f. absurd (off-true _ e (eqb-refl n w.number f.0))) (λ o. inl (o.0, refl, o.2)) h)
   where
-    corpse : (b : Bool) → n ≡ w.number → i ≡ w.image → FitsIn (Dead w) (kept_if b (Master n q i false []))
+    corpse : (b : Bool) → n ≡ w.number → i ≡ w.image → FitsIn (Dead w) (then_some b (Master n q i false []))
     corpse true e f = inr (e, f, refl)
     corpse false e f = tt
 dies w lives (Worker n q g k s hs) h = go (q == w.number) refl
   where
-    go : (b : Bool) → (q == w.number) ≡ b → FitsIn (Dead w) (kept_if (not b) (Worker n q g k s hs))
+    go : (b : Bool) → (q == w.number) ≡ b → FitsIn (Dead w) (then_some (not b) (Worker n q g k s hs))
     go true e = tt
     go false e = λ is. off-true _ e (eqb-refl q w.number is)
 dies w lives (Foreign n hs) h = tt

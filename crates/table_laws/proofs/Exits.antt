@@ -8,7 +8,8 @@ use Rattle.std.specs.List.{AllByRecursion, list_any}
 use Rattle.vocabulary.specs.declared.table.Stance.TheVariants.{Starting, Ready, Draining, Exited}
 use Rattle.definitions.specs.Table.{Process, Master, Worker, Foreign, Caller, live_master, is_active, is_draining, is_named, is_live_master}
 use Rattle.listener_set.specs.declared.generation.Generation.{Generation}
-use Rattle.definitions.specs.Exits.{change, made_exited, first_changed, worker_exits, draining_exits, without_exited, kept_if, exited, all_exited, caller_exits}
+use Rattle.definitions.specs.Exits.{change, made_exited, first_changed, worker_exits, draining_exits, without_exited, exited, all_exited, caller_exits}
+use Rattle.std.specs.Bool.{then_some}
 use Rattle.vocabulary.specs.declared.names.Name.{Name}
 use Rattle.table_laws.proofs.Rows.{one, FitsIn, worth, one-le, weigh, change-le, change-same, change-falls, every-filter_map, every-any}
 use Rattle.call_laws.proofs.Choices.{pick}
@@ -112,7 +113,7 @@ ready-live m t (Worker n q g k Draining hs) = omega arith
 ready-live m t (Worker n q g k Exited hs) = omega arith
 ready-live m t (Foreign n hs) = omega arith
 
-kept-falls : (u : Process → ℕ) (b : Bool) (p : Process) → u p ≤ live_any p → u p + worth live_any (kept_if b p) ≤ worth u (kept_if b p) + live_any p
+kept-falls : (u : Process → ℕ) (b : Bool) (p : Process) → u p ≤ live_any p → u p + worth live_any (then_some b p) ≤ worth u (then_some b p) + live_any p
 kept-falls u true p h = omega arith
 kept-falls u false p h = omega arith
 
@@ -121,10 +122,10 @@ pub master-falls :
     (without_exited gone lives p) ≤ worth (ready_in m t) (without_exited gone lives p) + live_any p
 master-falls m t gone lives (Master n q i live hs) =
     pick (λ o. 0 + worth live_any o ≤ worth (ready_in m t) o + 0) (n == gone)
-    (kept_if (lives q) (Master n q i false [])) (Some (Master n (if q == gone then 1 else q) i live hs))
+    (then_some (lives q) (Master n q i false [])) (Some (Master n (if q == gone then 1 else q) i live hs))
     (λ e. zero-kept (lives q)) (λ e. omega arith)
   where
-    zero-kept : (b : Bool) → 0 + worth live_any (kept_if b (Master n q i false [])) ≤ worth (ready_in m t) (kept_if b (Master n q i false [])) + 0
+    zero-kept : (b : Bool) → 0 + worth live_any (then_some b (Master n q i false [])) ≤ worth (ready_in m t) (then_some b (Master n q i false [])) + 0
     zero-kept true = omega arith
     zero-kept false = omega arith
 master-falls m t gone lives (Worker n q g k s hs) = kept-falls (ready_in m t) (not (q == gone)) (Worker n q g k s hs) (ready-live m t (Worker n q g k s hs))
@@ -142,12 +143,12 @@ pub kept-master : (m gone : ℕ) (lives : ℕ → Bool) → m ≢ gone → (p : 
 kept-master m gone lives ne (Master n q i live hs) =
     pick (λ o. worth (master_of m) o ≡ one (n == m)) (n == gone) _ _ (λ e. both (lives q) (eqb-off n m (λ x. ne (sym x ∙ eqb-is n gone e)))) (λ e. refl)
   where
-    both : (b : Bool) → (n == m) ≡ false → worth (master_of m) (kept_if b (Master n q i false [])) ≡ one (n == m)
+    both : (b : Bool) → (n == m) ≡ false → worth (master_of m) (then_some b (Master n q i false [])) ≡ one (n == m)
     both true e = refl
     both false e = sym (ap one e)
 kept-master m gone lives ne (Worker n q g k s hs) = go (not (q == gone))
   where
-    go : (b : Bool) → worth (master_of m) (kept_if b (Worker n q g k s hs)) ≡ 0
+    go : (b : Bool) → worth (master_of m) (then_some b (Worker n q g k s hs)) ≡ 0
     go true = refl
     go false = refl
 kept-master m gone lives ne (Foreign n hs) = refl
@@ -157,12 +158,12 @@ kept-named :
     worth (live_named m g k) (without_exited gone lives p) ≤ live_named m g k p
 kept-named m gone lives g k (Master n q i live hs) = pick (λ o. worth (live_named m g k) o ≤ 0) (n == gone) _ _ (λ e. both (lives q)) (λ e. omega arith)
   where
-    both : (b : Bool) → worth (live_named m g k) (kept_if b (Master n q i false [])) ≤ 0
+    both : (b : Bool) → worth (live_named m g k) (then_some b (Master n q i false [])) ≤ 0
     both true = omega arith
     both false = omega arith
 kept-named m gone lives g k (Worker n q g' k' s hs) = go (not (q == gone))
   where
-    go : (b : Bool) → worth (live_named m g k) (kept_if b (Worker n q g' k' s hs)) ≤ live_named m g k (Worker n q g' k' s hs)
+    go : (b : Bool) → worth (live_named m g k) (then_some b (Worker n q g' k' s hs)) ≤ live_named m g k (Worker n q g' k' s hs)
     go true = omega arith
     go false = omega arith
 kept-named m gone lives g k (Foreign n hs) = omega arith
@@ -172,17 +173,17 @@ other-stays : (v : View) (gone : ℕ) (lives : ℕ → Bool) → v.number ≢ go
 other-stays v gone lives ne (Master n q i live hs) h =
     pick (FitsIn (Row v)) (n == gone) _ _ (λ e. ⊎_elim (λ f. absurd (ne (sym f.0 ∙ eqb-is n gone e))) (λ o. kept (lives q) o) h) (λ e. h)
   where
-    kept : (b : Bool) → Other v (Master n q i live hs) → FitsIn (Row v) (kept_if b (Master n q i false []))
+    kept : (b : Bool) → Other v (Master n q i live hs) → FitsIn (Row v) (then_some b (Master n q i false []))
     kept true o = inr (o.0, o.1, inl refl)
     kept false o = tt
 other-stays v gone lives ne (Worker n q g k s hs) h = go (not (q == gone))
   where
-    go : (b : Bool) → FitsIn (Row v) (kept_if b (Worker n q g k s hs))
+    go : (b : Bool) → FitsIn (Row v) (then_some b (Worker n q g k s hs))
     go true = h
     go false = tt
 other-stays v gone lives ne (Foreign n hs) h = h
 
-live-kept : (b : Bool) (p : Process) → worth live_any (kept_if b p) ≤ live_any p
+live-kept : (b : Bool) (p : Process) → worth live_any (then_some b p) ≤ live_any p
 live-kept true p = omega arith
 live-kept false p = omega arith
 

@@ -8,7 +8,7 @@ use Rattle.listener_set.specs.declared.generation.Generation.{Generation}
 use Rattle.listener_set.specs.AddressList.{has}
 use Rattle.listener_set.specs.Numbers.{is_in}
 use Rattle.definitions.specs.Service.{Service, is_live_with, is_serving, service, serving, IsSame}
-use Rattle.definitions.specs.Claims.{IsFewerAt, IsFewer, FallsShort, is_ready_with}
+use Rattle.definitions.specs.Claims.{IsFewerAt, FallsShort, is_ready_with}
 use Rattle.definitions.specs.Crew.{Layout, short_at}
 use Rattle.table_laws.proofs.Rows.{every-more, one, one-le, weigh, weigh-same, weigh-le, count-weigh}
 use Rattle.table_laws.proofs.Views.{eqb-off, Row, Other, master_of, Names, named, View, Fine, Looks, ready_in, eqb-refl}
@@ -152,6 +152,10 @@ serving-same addresses g n k same a = go (has addresses a) (same a)
     go : (b : Bool) → (b ≡ true → n a ≡ k a) → at b (n a) ≡ at b (k a)
     go true e = ap (at true) (e refl)
     go false e = refl
+
+-- The same addresses, at each so many workers fewer.
+abbrev pub IsFewer : (Address → ℕ) → Service → Service → Type 0
+IsFewer short full less = (a : Address) → IsFewerAt (short a) (full a) (less a)
 
 -- fewer of one generation
 pub serving-fewer :

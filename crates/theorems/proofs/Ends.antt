@@ -19,7 +19,8 @@ use Rattle.vocabulary.specs.declared.targets.Target.{Target}
 use Rattle.listener_set.specs.AddressList.{has}
 use Rattle.definitions.specs.Target.{reload_generation, upgrade_generation}
 use Rattle.definitions.specs.After.{next_config, next_image, numbered, Setup, setup_after, recorded, record_from}
-use Rattle.definitions.specs.After.{record_if, record_after, keeps_rules, master_of, reigning}
+use Rattle.definitions.specs.After.{record_after, keeps_rules, master_of}
+use Rattle.std.specs.Bool.{then_some}
 use Rattle.definitions.specs.Run.{Ending, Progress, outcome_of, Sides}
 use Rattle.vocabulary.specs.declared.reports.Report.{Report}
 use Rattle.definitions.specs.Claims.{IsStart, FallsShort, AgreesAfter, is_ready_with, ready_with}
@@ -227,12 +228,12 @@ pub moved-after :
 moved-after r target report t setup pid is listens groups most retries least longest range some same below agrees =
     let all = all-below setup.wanted report.ready below in
     let next = recorded setup r.pid_path report pid in
-    let reigns : reigning r target report.outcome t ≡ Some pid = ap (λ o. master_of o t) is ∙ ap (option_map (λ (c : Caller). c.number)) agrees.lives in
+    let reigns : master_of (setup_after report.outcome r target) t ≡ Some pid = ap (λ o. master_of o t) is ∙ ap (option_map (λ (c : Caller). c.number)) agrees.lives in
     record {
       record_then = next;
       is =
           ap (option_and_then (record_after r target report)) reigns ∙
-          (ap (λ o. record_from o r.pid_path report pid) is ∙ ap (λ b. record_if b next) (keeps next listens most all.0 some));
+          (ap (λ o. record_from o r.pid_path report pid) is ∙ ap (λ b. then_some b next) (keeps next listens most all.0 some));
       agrees = agrees;
       record_in_range =
           record

@@ -7,13 +7,13 @@ use Rattle.definitions.specs.Target.{Target, Workers, Mend, Reopen, Reload, Upgr
 use Rattle.definitions.specs.Plans.{Turn}
 use Rattle.definitions.specs.Run.{Pattern, report_of}
 use Rattle.definitions.specs.Manner.{Manner}
-use Rattle.definitions.specs.Claims.{IsAccepted, EndsAsReported, KeepsFloor, KeepsAttendedFloor, run_of}
+use Rattle.definitions.specs.Claims.{IsAccepted, EndsAsReported, HasFloor, run_of}
 
 -- Each headline: whatever fails and whoever exits but an executing master, the target's plan ends as it reports.
 abbrev pub WorkersHeadline : Type 0
 WorkersHeadline =
     (t : Table) (r : Record) (n : ℕ) (turns : List Turn) (pattern : Pattern) → IsAccepted t r (Workers n) turns pattern →
-    EndsAsReported t r (Workers n) (run_of r (Workers n) turns pattern t) × KeepsFloor t r (Workers n) (run_of r (Workers n) turns pattern t)
+    EndsAsReported t r (Workers n) (run_of r (Workers n) turns pattern t) × HasFloor t r (Workers n) (run_of r (Workers n) turns pattern t)
 
 abbrev pub MendHeadline : Type 0
 MendHeadline =
@@ -29,12 +29,12 @@ ReopenHeadline =
 abbrev pub ReopenFloor : Type 0
 ReopenFloor =
     (t : Table) (r : Record) (turns : List Turn) (pattern : Pattern) → IsAccepted t r Reopen turns pattern →
-    KeepsFloor t r Reopen (run_of r Reopen turns pattern t)
+    HasFloor t r Reopen (run_of r Reopen turns pattern t)
 
 abbrev pub ReloadHeadline : Type 0
 ReloadHeadline =
     (t : Table) (r : Record) (s : Settings) (turns : List Turn) (pattern : Pattern) → IsAccepted t r (Reload s) turns pattern →
-    EndsAsReported t r (Reload s) (run_of r (Reload s) turns pattern t) × KeepsFloor t r (Reload s) (run_of r (Reload s) turns pattern t)
+    EndsAsReported t r (Reload s) (run_of r (Reload s) turns pattern t) × HasFloor t r (Reload s) (run_of r (Reload s) turns pattern t)
 
 abbrev pub StopHeadline : Type 0
 StopHeadline =
@@ -44,12 +44,12 @@ StopHeadline =
 abbrev pub UpgradeHeadline : Type 0
 UpgradeHeadline =
     (t : Table) (r : Record) (s : Settings) (turns : List Turn) (pattern : Pattern) → IsAccepted t r (Upgrade s) turns pattern →
-    EndsAsReported t r (Upgrade s) (run_of r (Upgrade s) turns pattern t) × KeepsFloor t r (Upgrade s) (run_of r (Upgrade s) turns pattern t)
+    EndsAsReported t r (Upgrade s) (run_of r (Upgrade s) turns pattern t) × HasFloor t r (Upgrade s) (run_of r (Upgrade s) turns pattern t)
 
 abbrev pub AttendedHeadline : Type 0
 AttendedHeadline =
     (t : Table) (r : Record) (s : Settings) (turns : List Turn) (pattern : Pattern) → IsAccepted t r (Attended s) turns pattern →
-    EndsAsReported t r (Attended s) (run_of r (Attended s) turns pattern t) × KeepsAttendedFloor t r (Attended s) (run_of r (Attended s) turns pattern t)
+    EndsAsReported t r (Attended s) (run_of r (Attended s) turns pattern t) × HasFloor t r (Attended s) (run_of r (Attended s) turns pattern t)
 
 -- And its run has the target's manner.
 abbrev pub InManner : Target → Type 0

@@ -22,7 +22,8 @@ use Rattle.definitions.specs.Run.{Report, Outcome}
 use Rattle.definitions.specs.Target.{Target, Workers, Mend, Reopen, Reload, Upgrade, Attended, Stop, layout_wanted}
 use Rattle.definitions.specs.After.{Setup, listens_on, opened_from, all_opened, added, still_wanted, with_added}
 use Rattle.definitions.specs.After.{upgraded, renewed, next_config, next_image, target_setup, old_setup, setup_after}
-use Rattle.definitions.specs.After.{keeps_rules, recorded, record_if, record_from}
+use Rattle.definitions.specs.After.{keeps_rules, recorded, record_from}
+use Rattle.std.specs.Bool.{then_some}
 use Rattle.theorems.specs.Layouts.{IsSameLayout, StartsLaidOut, CanBeLaidOut, RecordsLaidOut, layout_told}
 use Rattle.table_laws.proofs.Rows.{or-right}
 use Rattle.table_laws.proofs.Views.{eqb-is, eqb-off}
@@ -310,7 +311,7 @@ left-laid :
 left-laid None path report pid left m laid e = absurd (none-some left e)
 left-laid (Some x) path report pid left m laid e = go (keeps_rules (recorded x path report pid)) e
   where
-    go : (b : Bool) → record_if b (recorded x path report pid) ≡ Some left → IsSameLayout (layout_of left) m
+    go : (b : Bool) → then_some b (recorded x path report pid) ≡ Some left → IsSameLayout (layout_of left) m
     go true e = subst (λ r. IsSameLayout (layout_of r) m) (same_Some (recorded x path report pid) left e) (laid x refl)
     go false e = absurd (none-some left e)
 

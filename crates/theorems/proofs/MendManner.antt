@@ -18,7 +18,7 @@ use Rattle.definitions.specs.Record.{Record, crew_of}
 use Rattle.definitions.specs.Tree.{Tree, reply_of, among, Nothing}
 use Rattle.definitions.specs.Plans.{plan_tree, mend_tree, kills, starts_any, settle, then_edge}
 use Rattle.definitions.specs.Run.{Pattern, Progress, Ending, At, Lost, noted, after_call, start_at}
-use Rattle.definitions.specs.Manner.{has_ready, has_process}
+use Rattle.definitions.specs.Manner.{has_ready}
 use Rattle.definitions.specs.Claims.{IsStart, run_of}
 use Rattle.theorems.proofs.Headlines.{InManner}
 use Rattle.table_laws.proofs.Rows.{FitsIn, every-filter_map}
@@ -206,7 +206,7 @@ no-process p (row ∷ rows) all = rw (eqb-off (number_of row) p all.0) (no-proce
 ended :
     (t : Table) (r : Record) (overdue : List ℕ) (pattern : Pattern) (s : IsStart t r) (p k : ℕ)
     (on : has_ready t p k ≡ true) (e : Ending) (q : Progress) → (e ≡ Lost → ⊥) → goes_away t r overdue pattern s p k on
-    e q → has_process q.table p ≡ false
+    e q → list_any (λ row. number_of row == p) q.table.rows ≡ false
 ended t r overdue pattern s p k on (At e) q not_lost h = no-process p q.table.rows h.all
 ended t r overdue pattern s p k on Lost q not_lost h = absurd (not_lost refl)
 

@@ -1,6 +1,6 @@
 -- An upgrade's two parts, for facts without counting: what both keep is kept under all turns.
 use Rattle.std.proofs.Common.{◌≡◌, ℕ, zero, suc, true, false, List, [], ◌∷◌, ◌++◌, Option, Some, None, refl, sym, ap, ◌∙◌, subst}
-use Rattle.std.specs.Prelude.{⊤}
+use Rattle.std.specs.Prelude.{⊤, drop}
 use Rattle.std.specs.List.{AllByRecursion}
 use Rattle.listener_set.specs.Numbers.{lacks}
 use Rattle.vocabulary.specs.declared.calls.Call.{Call}
@@ -26,7 +26,7 @@ use Rattle.definitions.specs.Tree.{Tree, Branches, Ends, Does, Nothing, Branch, 
 use Rattle.definitions.specs.Plans.{beside, graft, weave, joined}
 use Rattle.definitions.specs.Run.{Lack, lacked_by, lacked_after, Progress, Lost, noted, after_call}
 use Rattle.run_laws.proofs.Rules.{own-lacked}
-use Rattle.definitions.specs.Plans.{on, others, round, census, census_edges, fork_edges, await_any_edges, then_edge, tries, tries_all}
+use Rattle.definitions.specs.Plans.{on, round, census, census_edges, fork_edges, await_any_edges, then_edge, tries, tries_all}
 use Rattle.definitions.specs.Claims.{names_any}
 use Rattle.run_laws.proofs.Logic.{Exiting}
 use Rattle.call_laws.proofs.Cases.{fork-cases, await-cases, open-cases, adopt-cases, unfailing}
@@ -389,7 +389,7 @@ module _ (c : Given) (due : Asking) (post : Finally) (mild : Exiting)
           (λ later there past q h l k.
           let bs =
           on (plain_reply call ∷ []) (weave join rest later (tree_at c there))
-          (on (others (replies_to call) ++ reply.MasterGone ∷ []) (graft (λ e. back) (tree_at c there)) Nothing) in
+          (on (drop 1 (replies_to call) ++ reply.MasterGone ∷ []) (graft (λ e. back) (tree_at c there)) Nothing) in
           ordered-step due post mild (co c) lost (λ t. F t × Kept there t) (new c).image (Make call) [] bs past q stays
           (λ es t spared calm b. (exits es t spared calm b.0, kept-exits there es t spared calm b.1)) (h, k)
           (λ t b. asks past call t is b.0)

@@ -1,7 +1,7 @@
 -- An upgrade's new master: each of its calls answers plainly, or the old master goes back.
 use Rattle.std.proofs.Common.{◌≡◌, ◌≢◌, ℕ, ◌+◌, Bool, true, false, List, [], ◌∷◌, ◌++◌, length, Option, Some, refl, sym}
 use Rattle.std.proofs.Common.{ap, ◌∙◌, subst, arith, inl, ⊎_elim, nat_lt}
-use Rattle.std.specs.Prelude.{◌&&◌, if◌then◌else◌}
+use Rattle.std.specs.Prelude.{◌&&◌, if◌then◌else◌, drop}
 use Rattle.listener_set.specs.Numbers.{is_in}
 use Rattle.listener_set.specs.declared.generation.Generation.{Generation}
 use Rattle.vocabulary.specs.declared.table.Limits.{Limits}
@@ -20,7 +20,7 @@ use Rattle.definitions.specs.Crew.{fds_of, fork_of, share}
 use Rattle.definitions.specs.Exits.{change}
 use Rattle.definitions.specs.Manner.{is_leave_call}
 use Rattle.definitions.specs.Tree.{Tree, Branches, Nothing, plain_reply, replies_to, reply_of}
-use Rattle.definitions.specs.Plans.{on, others, tries, back_from}
+use Rattle.definitions.specs.Plans.{on, tries, back_from}
 use Rattle.definitions.specs.Run.{first_cause, Lack, lacked_by, Ending, Progress, after_moment, after_call, answered}
 use Rattle.definitions.specs.Claims.{names_any}
 use Rattle.run_laws.proofs.Refusals.{is_leave}
@@ -142,7 +142,7 @@ module _ (c : Given) (m : ℕ) (ne : m ≢ c.rec.pid) where
       ---- A step
 
       abbrev pub edges : Call → Tree → Branches
-      edges call rest = on (plain_reply call ∷ []) rest (on (others (replies_to call) ++ reply.MasterGone ∷ []) back Nothing)
+      edges call rest = on (plain_reply call ∷ []) rest (on (drop 1 (replies_to call) ++ reply.MasterGone ∷ []) back Nothing)
 
       abbrev pub Edge : Call → Tree → List ℕ → Progress → Stepped → Type 0
       Edge call rest set q st = Behind I P Anyhow Unasked (co c) (edges call rest) (reply_of set st.answer) (after_call image (Make call) set st q)

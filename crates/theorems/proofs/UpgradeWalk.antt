@@ -1,6 +1,6 @@
 -- An upgrade's tree up to where its old master is relieved, and the pieces from there, as calls that keep a fact on the table.
 use Rattle.std.proofs.Common.{◌≡◌, ◌≢◌, ℕ, Bool, true, false, List, [], ◌∷◌, ◌++◌, Option, Some, None, refl, arith}
-use Rattle.std.specs.Prelude.{⊤, map, reverse}
+use Rattle.std.specs.Prelude.{⊤, map, reverse, drop}
 use Rattle.std.specs.List.{AllByRecursion}
 use Rattle.listener_set.specs.Numbers.{numbers_below}
 use Rattle.vocabulary.specs.declared.calls.Call.{Call}
@@ -18,7 +18,7 @@ use Rattle.definitions.specs.Calls.{step_with, Handed}
 use Rattle.definitions.specs.Manner.{is_leave_call}
 use Rattle.vocabulary.specs.declared.calls.Reply.TheVariants as reply
 use Rattle.definitions.specs.Tree.{Tree, Branches, Nothing, Does, plain_reply, replies_to}
-use Rattle.definitions.specs.Plans.{on, others, then_edge, note_edges, settle, back_alone, back_from, move_back}
+use Rattle.definitions.specs.Plans.{on, then_edge, note_edges, settle, back_alone, back_from, move_back}
 use Rattle.definitions.specs.Plans.{move_aside, tries, tries_all, new_calls, new_part, old_part, taken_over, pid_calls}
 use Rattle.definitions.specs.Plans.{quits, awaits_gone, asks, retire, back_serving, relieve, spawn_edges, upgrade_tree}
 use Rattle.definitions.specs.Plans.{does, weave, joined}
@@ -105,7 +105,7 @@ module _ (c : Given) (due : Asking) (post : Finally) (mild : Exiting)
       from-good = one-call c.rec.generation.image (TermMaster (new c).image) [] (then_edge alone) apart (back-good, tt)
 
       abbrev edges : Call → Tree → Branches
-      edges call rest = on (plain_reply call ∷ []) rest (on (others (replies_to call) ++ reply.MasterGone ∷ []) back Nothing)
+      edges call rest = on (plain_reply call ∷ []) rest (on (drop 1 (replies_to call) ++ reply.MasterGone ∷ []) back Nothing)
 
       tries-good :
           (calls : List Call) (rest : Tree) → AllByRecursion (AnyCall c.rec.generation.image) calls → IsGood Free rest →

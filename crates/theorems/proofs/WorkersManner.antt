@@ -1,6 +1,6 @@
 -- The manner of a change of the number of workers.
 use Rattle.std.proofs.Common.{None, ◌≡◌, ◌≢◌, ℕ, ◌<◌, ◌≤◌, Bool, true, false, not, List, [], ◌∷◌, refl, sym, ◌∙◌, subst, arith}
-use Rattle.std.specs.Prelude.{⊤, ◌&&◌, ◌==◌, nat_lt, filter, reverse}
+use Rattle.std.specs.Prelude.{⊤, ◌&&◌, ◌==◌, nat_lt, filter, reverse, ◌||◌}
 use Rattle.std.proofs.lemmas.Bool.Decides.{nat_tests}
 use Rattle.listener_set.specs.Numbers.{is_in, numbers_below}
 use Rattle.listener_set.specs.declared.generation.Generation.{Generation}
@@ -13,7 +13,7 @@ use Rattle.definitions.specs.Target.{sides_of}
 use Rattle.definitions.specs.Tree.{Tree}
 use Rattle.definitions.specs.Plans.{plan_tree, workers_tree, quits, settle}
 use Rattle.definitions.specs.Run.{Pattern, Progress, Ending, At, start_at, outcome_of}
-use Rattle.definitions.specs.Manner.{has_ready, stays_below}
+use Rattle.definitions.specs.Manner.{has_ready, is_old_side}
 use Rattle.definitions.specs.Claims.{IsStart}
 use Rattle.theorems.proofs.Headlines.{InManner}
 use Rattle.table_laws.proofs.Views.{eqb-off}
@@ -77,7 +77,7 @@ module _ (t : Table) (r : Record) (n : ℕ) (pattern : Pattern) (s : IsStart t r
   ---- It stays
 
   abbrev Need : Ending → Progress → Type 0
-  Need e q = stays_below n (outcome_of (sides_of r (Workers n)) e q.lacking) k ≡ true
+  Need e q = (is_old_side (outcome_of (sides_of r (Workers n)) e q.lacking) || nat_lt k n) ≡ true
 
   abbrev post : Ending → Progress → Type 0
   post e q = Need e q → Stands r.pid g.image p g k low q.table

@@ -16,7 +16,7 @@ use Rattle.definitions.specs.Record.{Record, oldbin}
 use Rattle.definitions.specs.Calls.{Handover}
 use Rattle.definitions.specs.Target.{Sides, sides_of, handover_for}
 use Rattle.listener_set.specs.Numbers.{numbers_below}
-use Rattle.definitions.specs.Tree.{height}
+use Rattle.call_laws.specs.Lengths.{height}
 use Rattle.definitions.specs.Plans.{Turn, New, Old, plan_tree}
 use Rattle.definitions.specs.Run.{Pattern, Ran, faults_since, report_of}
 use Rattle.definitions.specs.After.{record_after}

@@ -2,7 +2,8 @@
 use Rattle.std.proofs.Common.{◌≡◌, ◌<◌, false, List, length, refl, ◌∙◌, ap, arith}
 use Rattle.std.specs.Prelude.{nat_lt}
 use Rattle.std.proofs.lemmas.Bool.{lt-ltb}
-use Rattle.definitions.specs.Plans.{Turn, graft, pid_calls, relieve, upgrade_tree, upgrade_length}
+use Rattle.definitions.specs.Plans.{Turn, graft, pid_calls, relieve, upgrade_tree}
+use Rattle.call_laws.specs.Lengths.{upgrade_length}
 use Rattle.definitions.specs.Tree.{Tree, Ends, JoinReady, JoinBack}
 use Rattle.plan_steps.specs.Fit.{is_fit}
 use Rattle.definitions.specs.Calls.{Census, WritePid}

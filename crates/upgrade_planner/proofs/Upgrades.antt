@@ -12,9 +12,11 @@ use Rattle.definitions.specs.Record.{Record, addresses_of, crew_of}
 use Rattle.definitions.specs.Target.{only_in, upgrade_generation, numbers_wanted, addresses_wanted, handover_for}
 use Rattle.definitions.specs.After.{next_image, numbered, posts_wanted, crew_wanted}
 use Rattle.definitions.specs.Calls.{Call, OpenAt, CloseAt, AwaitReady, Adopt, Census, WritePid}
-use Rattle.definitions.specs.Tree.{Tree, Ends, Done, RolledBack, ShortOld, ShortTarget, Split, JoinReady, JoinBack, Join, height}
+use Rattle.definitions.specs.Tree.{Tree, Ends, Done, RolledBack, ShortOld, ShortTarget, Split, JoinReady, JoinBack, Join}
+use Rattle.call_laws.specs.Lengths.{height}
 use Rattle.definitions.specs.Plans.{Turn, graft}
-use Rattle.definitions.specs.Plans.{move_aside, new_calls, new_part, pid_calls, plan_tree, plan_length, relieve, taken_over, tries, tries_all, upgrade_tree, upgrade_length}
+use Rattle.definitions.specs.Plans.{move_aside, new_calls, new_part, pid_calls, plan_tree, relieve, taken_over, tries, tries_all, upgrade_tree}
+use Rattle.call_laws.specs.Lengths.{plan_length, upgrade_length}
 use Rattle.plan_steps.specs.Stretches.{is_last, aside, longest_of}
 use Rattle.plan_steps.specs.Woven.{part_end}
 use Rattle.upgrade_planner.specs.Trees.{asked_for, coming_calls, master_of, heir_of, way_back, coming_part, staying_part, taking_over, beginning}

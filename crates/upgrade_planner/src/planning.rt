@@ -3,7 +3,8 @@ ghost use Rattle.std.specs.Prelude.{◌≡◌, ◌≤◌, ◌↔◌, List, lengt
 ghost use Rattle.vocabulary.specs.declared.targets.Target.TheVariants as target;
 ghost use Rattle.service_state.specs.Targets.{lacks_generation};
 ghost use Rattle.definitions.specs.Target.{handover_for, sides_of, upgrade_generation};
-ghost use Rattle.definitions.specs.Plans.{Turn, plan_tree, plan_length};
+ghost use Rattle.definitions.specs.Plans.{Turn, plan_tree};
+ghost use Rattle.call_laws.specs.Lengths.{plan_length};
 ghost use Rattle.handover_text.specs.Reading.{Hands};
 ghost use Rattle.rollback_plan.specs.Plans.{tree_under, length_of, note_of, sides_told, text_of, trees_in};
 ghost use Rattle.reload_planner.specs.Planning.{most_steps};

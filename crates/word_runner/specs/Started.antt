@@ -2,7 +2,7 @@
 use Rattle.std.specs.Prelude.{ℕ, Bool, true, false, ◌&&◌, List, [], Option, Some, None}
 use Rattle.std.specs.List.{filter_map}
 use Rattle.definitions.specs.Table.{Generation, same_generation}
-use Rattle.definitions.specs.Exits.{kept_if}
+use Rattle.std.specs.Bool.{then_some}
 use Rattle.vocabulary.specs.declared.calls.Call.{Call}
 use Rattle.vocabulary.specs.declared.calls.Call.TheVariants.{Fork}
 use Rattle.vocabulary.specs.declared.calls.Answer.{Answer}
@@ -16,7 +16,7 @@ is_forked _ = false
 
 -- the worker that a call started, where it is of the generation
 abbrev pub start_by : Generation → Call → Answer → Option ℕ
-start_by g (Fork own nr fds) a = kept_if (is_forked a && same_generation own g) nr
+start_by g (Fork own nr fds) a = then_some (is_forked a && same_generation own g) nr
 start_by g _ a = None
 
 abbrev pub start_of : Generation → Entry → Option ℕ

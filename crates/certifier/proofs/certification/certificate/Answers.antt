@@ -3,7 +3,7 @@ use Rattle.std.proofs.lemmas.Result.{err_from_is_err_and}
 use mathlib.Core.Bool.{true≢false}
 use Rattle.definitions.specs.Record.{Record, Agrees}
 use Rattle.definitions.specs.Target.{handover_for, sides_of}
-use Rattle.definitions.specs.Plans.{plan_length}
+use Rattle.call_laws.specs.Lengths.{plan_length}
 use Rattle.plan_walk.specs.Path.{begin}
 use Rattle.definitions.specs.Claims.{heirs_of}
 use Rattle.kernel_model.specs.Room.{LacksNumbers}

@@ -1,5 +1,5 @@
 use Rattle.std.proofs.Common.{sym, ap, ◌∙◌, rules}
-use Rattle.definitions.specs.Exits.{kept_if}
+use Rattle.std.specs.Bool.{then_some}
 use Rattle.kernel_rows.specs.Seen.{seen_holder}
 use Rattle.kernel_rows.specs.Edits.{edited}
 use Rattle.kernel_rows.proofs.Lists.{retained}
@@ -12,5 +12,5 @@ returns-clause-rows c =
     retained _ seen become _
     (λ x b t y k.
     let met = k.called.met.0 in
-    (ap (λ h. kept_if b (seen h)) (sym k.leaves) ∙ met ∙ ap (λ h. become (seen h)) k.shows, search rules))
+    (ap (λ h. then_some b (seen h)) (sym k.leaves) ∙ met ∙ ap (λ h. become (seen h)) k.shows, search rules))
     _ _ c.retain_mut.ensures.filtered

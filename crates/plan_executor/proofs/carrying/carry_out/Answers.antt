@@ -1,5 +1,5 @@
 use Rattle.std.proofs.Common.{◌≡◌, ◌+◌, length, ◌∙◌}
-use Rattle.definitions.specs.Plans.{plan_length}
+use Rattle.call_laws.specs.Lengths.{plan_length}
 use Rattle.kernel_model.specs.Pattern.{moment_at}
 use Rattle.plan_executor.proofs.Enacting.{made, enacted}
 use Rattle.plan_executor.proofs.carrying.carry_out.Goals as goal

@@ -1,6 +1,7 @@
 use Rattle.std.proofs.Common.{◌≡◌, ◌≤◌, ℕ, List, [], length, map, get_or, refl, ◌∙◌, ap, arith}
 use Rattle.std.proofs.lemmas.List.{length-map}
-use Rattle.definitions.specs.Tree.{Tree, height}
+use Rattle.definitions.specs.Tree.{Tree}
+use Rattle.call_laws.specs.Lengths.{height}
 use Rattle.plan_steps.specs.declared.step.Step.{Step}
 use Rattle.plan_steps.specs.Steps.{at_place, trees_after}
 use Rattle.plan_steps.specs.Stretches.{to_split, aside}

@@ -1,6 +1,6 @@
 use Rattle.std.proofs.Common.{[], ◌∷◌, length, map, ◌∙◌, ap, arith}
 use Rattle.std.proofs.lemmas.List.{length-map}
-use Rattle.definitions.specs.Tree.{height}
+use Rattle.call_laws.specs.Lengths.{height}
 use Rattle.plan_steps.specs.Steps.{trees_after}
 use Rattle.plan_steps.proofs.StepTrees.{length-trees}
 use Rattle.plan_steps.proofs.Finished.{lone_root, finished, all_back, height_of}

@@ -1,7 +1,7 @@
 use Rattle.std.proofs.Common.{◌≡◌, ◌+◌, ◌++◌, ◌∷◌, [], ℕ, List, true, length, get_or, map, take, refl, sym, ◌∙◌, ap, subst, arith, length-take}
 use Rattle.std.proofs.lemmas.List.{length-map}
 use Rattle.std.proofs.lemmas.Option.{slice_get_read}
-use Rattle.definitions.specs.Tree.{height}
+use Rattle.call_laws.specs.Lengths.{height}
 use Rattle.plan_steps.specs.Steps.{trees_after, all_below}
 use Rattle.plan_steps.specs.Numbering.{highest_behind}
 use Rattle.plan_steps.specs.declared.step.PlanEdge.{PlanEdge}

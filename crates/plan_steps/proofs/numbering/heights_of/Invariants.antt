@@ -1,5 +1,5 @@
 use Rattle.std.proofs.Common.{◌≡◌, ◌≤◌, ℕ, [], map, take, get_or}
-use Rattle.definitions.specs.Tree.{height}
+use Rattle.call_laws.specs.Lengths.{height}
 use Rattle.plan_steps.specs.Steps.{trees_after}
 use Rattle.plan_steps.proofs.numbering.heights_of.Given as goal
 

@@ -1,7 +1,7 @@
 use Rattle.std.proofs.Common.{◌≡◌, ◌+◌, get_or, ◌++◌, ◌∷◌, [], ℕ, List, Some, true, length, map, take, slice_get, refl, sym, ◌∙◌, ap, subst, arith}
 use Rattle.std.proofs.lemmas.List.{length-map, length-take-le, take_all}
 use Rattle.std.proofs.lemmas.Option.{slice_get_read}
-use Rattle.definitions.specs.Tree.{height}
+use Rattle.call_laws.specs.Lengths.{height}
 use Rattle.plan_steps.specs.declared.step.PlanEdge.{PlanEdge}
 use Rattle.plan_steps.specs.Steps.{trees_after, all_below}
 use Rattle.plan_steps.specs.Stretches.{to_split, aside, asides_among}

@@ -7,7 +7,8 @@ use Rattle.definitions.specs.After.{posts_wanted}
 use Rattle.vocabulary.specs.declared.table.Listener.{Listener}
 use Rattle.vocabulary.specs.declared.targets.Target.{Target}
 use Rattle.vocabulary.specs.declared.targets.Target.TheVariants.{Reload}
-use Rattle.definitions.specs.Plans.{Turn, plan_tree, plan_length}
+use Rattle.definitions.specs.Plans.{Turn, plan_tree}
+use Rattle.call_laws.specs.Lengths.{plan_length}
 use Rattle.rollback_plan.specs.Plans.{tree_under, length_of, trees_in}
 use Rattle.reload_planner.specs.Planning.{most_steps}
 use Rattle.reload_planner.proofs.Sets.{length-below}

@@ -10,7 +10,8 @@ use Rattle.definitions.specs.After.{posts_wanted}
 use Rattle.vocabulary.specs.declared.targets.Target.TheVariants as target
 use Rattle.definitions.specs.Target.{handover_for, only_in, upgrade_generation}
 use Rattle.handover_text.specs.Reading.{Hands}
-use Rattle.definitions.specs.Plans.{Turn, plan_tree, plan_length}
+use Rattle.definitions.specs.Plans.{Turn, plan_tree}
+use Rattle.call_laws.specs.Lengths.{plan_length}
 use Rattle.rollback_plan.specs.Plans.{tree_under, length_of, text_of}
 use Rattle.reload_planner.proofs.Sets.{filter_few, length-below}
 use Rattle.upgrade_planner.specs.Trees.{asked_for}

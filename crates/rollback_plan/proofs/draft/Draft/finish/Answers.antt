@@ -1,5 +1,5 @@
 use Rattle.std.proofs.Common.{false, refl, sym, ◌∙◌, ap, arith}
-use Rattle.definitions.specs.Tree.{height}
+use Rattle.call_laws.specs.Lengths.{height}
 use Rattle.plan_steps.specs.Fit.{is_fit}
 use Rattle.plan_steps.specs.Steps.{first_tree}
 use Rattle.plan_steps.proofs.StepTrees.{length-trees, length-trees_from}
