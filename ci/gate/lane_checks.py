@@ -4,7 +4,7 @@ import tempfile
 import time
 from collections.abc import Callable, Iterator
 
-from gate.scripts import BY_ITSELF, SCRIPTS, WITHOUT_PROGRAM, Scripts, lanes
+from gate.scripts import COMPUTING, FIRST, SCRIPTS, WAITING, WITHOUT_PROGRAM, Scripts, lanes
 from gate.waiting import comes
 
 PROCESSORS = (1, 2, 4, 8)
@@ -34,7 +34,7 @@ def laid_out(room: pathlib.Path, processors: int, **others: str) -> Scripts:
 def each_is_in_a_lane(room: pathlib.Path) -> Iterator[str]:
     for processors in PROCESSORS:
         names = [name for lane in lanes(processors) for name in lane.left]
-        if sorted([*names, *BY_ITSELF, *WITHOUT_PROGRAM]) != sorted(SCRIPTS):
+        if sorted([*names, *FIRST, *WITHOUT_PROGRAM]) != sorted(SCRIPTS):
             yield f"the lanes of {processors} processors have {names}"
 
 
@@ -52,7 +52,7 @@ def waiting_for(name: str) -> str:
 
 
 def run_side_by_side(room: pathlib.Path) -> Iterator[str]:
-    """On four processors three run at a time, on one processor one, and `json` before all of these."""
+    """On four processors three run at a time, on one processor one, and `json` before what computes."""
     for processors, wanted in ((1, 1), (2, 2), (4, 3)):
         # The first of both lanes, which a busy machine may otherwise begin one after the other.
         beside = {"adapters": waiting_for("cases"), "cases": waiting_for("adapters")} if wanted > 1 else {}
@@ -65,11 +65,29 @@ def run_side_by_side(room: pathlib.Path) -> Iterator[str]:
         most = most_at_a_time(notes)
         if not min(2, wanted) <= most <= wanted:
             yield f"{most} scripts run side by side on {processors} processors: {notes}"
-        at = notes.index(["begins", "json"])
-        if notes[at + 1] != ["ends", "json"] or most_at_a_time(notes[:at]) > 0:
-            yield f"json does not run by itself: {notes}"
+        before = notes[:notes.index(["ends", "json"])]
+        if any(["begins", name] in before for name in COMPUTING):
+            yield f"json does not run before what computes: {notes}"
         if scripts.counted != dict.fromkeys(SCRIPTS, (1, 0)) or scripts.wrong():
             yield f"{scripts.counted}, {scripts.wrong()}"
+
+
+def begin_with_what_waits(room: pathlib.Path) -> Iterator[str]:
+    """Once the program is proved, what waits begins, and nothing else before all is proved: on one processor nothing."""
+    for processors in PROCESSORS:
+        scripts, wanted = laid_out(room, processors), set(WAITING if processors > 1 else ())
+        with scripts:
+            scripts.begin()
+            scripts.program_is_proved()
+            if not comes(lambda: wanted <= set(scripts.counted)):
+                yield f"on {processors} processors {sorted(scripts.counted)} run beside the proofs, and not {sorted(wanted)}"
+            time.sleep(0.2)
+            if not set(scripts.counted) <= wanted | set(WITHOUT_PROGRAM):
+                yield f"on {processors} processors {sorted(scripts.counted)} run before all is proved"
+            scripts.all_is_proved()
+            scripts.run()
+        if scripts.counted != dict.fromkeys(SCRIPTS, (1, 0)):
+            yield f"on {processors} processors: {scripts.counted}"
 
 
 def tell_what_failed(room: pathlib.Path) -> Iterator[str]:
@@ -91,10 +109,10 @@ def tell_what_failed(room: pathlib.Path) -> Iterator[str]:
 
 def leave_none_behind(room: pathlib.Path) -> Iterator[str]:
     """A run that is broken off ends its scripts and what they started, and begins no more of them."""
-    scripts = laid_out(room, 4, adapters=LASTS, hostile=LASTS)
+    scripts = laid_out(room, 4, adapters=LASTS, cases=LASTS)
     try:
         with scripts:
-            scripts.started(lanes(4))
+            scripts.all_is_proved()
             if not comes(lambda: (room / "notes").exists() and (room / "notes").read_text().count("lasting") == 2):
                 yield "the scripts do not begin"
             raise KeyboardInterrupt
@@ -115,10 +133,17 @@ def leave_out_the_rest(room: pathlib.Path) -> Iterator[str]:
         scripts.leave_out()
     if scripts.counted != dict.fromkeys(SCRIPTS, (0, 1)) or (room / "notes").exists():
         yield f"{scripts.counted}"
+    scripts = laid_out(room, 4)
+    with scripts:
+        scripts.program_is_proved()
+        comes(lambda: set(WAITING) <= set(scripts.counted))
+        scripts.leave_out()
+    if scripts.counted != {name: (1, 0) if name in WAITING else (0, 1) for name in SCRIPTS}:
+        yield f"where what waits has run: {scripts.counted}"
 
 
 CHECKS: tuple[Callable[[pathlib.Path], Iterator[str]], ...] = (
-    each_is_in_a_lane, run_side_by_side, tell_what_failed, leave_none_behind, leave_out_the_rest,
+    each_is_in_a_lane, run_side_by_side, begin_with_what_waits, tell_what_failed, leave_none_behind, leave_out_the_rest,
 )
 
 

@@ -37,10 +37,12 @@ SCRIPTS = {
 }
 # Needs no program: it begins beside the proofs, once these leave it room.
 WITHOUT_PROGRAM = ("selftest",)
-# Compares two times that a processor takes, so it runs before the lanes begin.
-BY_ITSELF = ("json",)
-# What mostly waits, for services under load and for real children: the longest first.
+# Compares two times that a processor takes, so it runs before what computes.
+FIRST = ("json",)
+# What mostly waits, for services under load and for real children: the longest first. It begins once the program is
+# proved, beside the proofs of tests, and goes before them, as far as the system lets it.
 WAITING = ("adapters", "service", "children", "package", "soak")
+AHEAD = -5
 # What computes: first what tells most in a second, and then the longest, so that short ones fill the end. It gives way
 # to the others, whose loads and time limits are those of an operator.
 COMPUTING = ("cases", "hostile", "rehearsals", "roundtrips", "reader", "limits", "explorations", "documents",
@@ -57,25 +59,31 @@ Counted = tuple[int, int]
 
 
 class Lane:
-    """Scripts that are run one after another by each of the lane's runners, who then help in another lane."""
+    """Scripts that are run one after another by each of the lane's runners, who then help in another lane, once that
+    has begun."""
 
     def __init__(self, names: Iterable[str], runners: int = 1, nice: int = 0, then: "Lane | None" = None):
         self.left, self.runners, self.nice, self.then = collections.deque(names), runners, nice, then
+        self.begun = threading.Event()
 
     def next(self) -> tuple[str, int] | None:
         """The next script, and how nice it is."""
         try:
             return self.left.popleft(), self.nice
         except IndexError:
-            return self.then.next() if self.then else None
+            if not self.then:
+                return None
+        self.then.begun.wait()
+        return self.then.next()
 
 
 def lanes(processors: int) -> list[Lane]:
-    """The lanes of what needs the program, on this number of processors."""
+    """The lanes of what needs the program, on this number of processors: what waits, where that has a lane of its own,
+    and what computes."""
     if processors == 1:
         return [Lane([*WAITING, *COMPUTING])]
     computing = Lane(COMPUTING, nice=NICE)
-    return [Lane(WAITING, 2 if processors >= MANY else 1, then=computing), computing]
+    return [Lane(WAITING, 2 if processors >= MANY else 1, AHEAD, computing), computing]
 
 
 class Scripts:
@@ -84,24 +92,25 @@ class Scripts:
 
     def __init__(self, folder: pathlib.Path, program: pathlib.Path, say: Callable[[str], None], processors: int):
         self.folder, self.program, self.say, self.processors = folder, program, say, processors
+        *self.waiting, self.computing = lanes(processors)
         self.counted: dict[str, Counted] = {}
         self.seconds: dict[str, float] = {}
         self.failed: dict[str, list[str]] = {}
         self.mark, self.telling = Mark("PREFORK_GATE"), threading.Lock()
         self.proofs_ended, self.is_left_out = threading.Event(), False
-        self.beside: list[threading.Thread] = []
+        self.runners: list[threading.Thread] = []
 
     def __enter__(self) -> "Scripts":
         return self
 
     def __exit__(self, kind: Any, *_: Any) -> None:
         if kind:
-            self.is_left_out = True
+            self.leave_off()
             self.end_all()
 
     def begin(self) -> None:
         """Runs what needs no program, once the proofs leave room for it or have ended."""
-        self.beside = self.started([Lane(WITHOUT_PROGRAM)], self.wait_for_room)
+        self.run_beside(self.need_no_program)
 
     def wait_for_room(self) -> None:
         """Waits until about half of the processors are spare, or the proofs have ended."""
@@ -109,34 +118,62 @@ class Scripts:
         while seen < LOOKS and not self.proofs_ended.is_set():
             seen = seen + 1 if spare(1.0) >= ROOM * self.processors else 0
 
+    def program_is_proved(self) -> None:
+        """Runs what mostly waits, if it does not run yet."""
+        beginning, self.waiting = self.waiting, []
+        for lane in beginning:
+            for _ in range(lane.runners):
+                self.run_beside(self.go_along, lane)
+
+    def all_is_proved(self) -> None:
+        """Runs the others, if they do not run yet."""
+        if not self.proofs_ended.is_set():
+            self.program_is_proved()
+            self.proofs_ended.set()
+            self.run_beside(self.compute)
+
     def run(self) -> None:
-        """Runs the others, once all is proved, and waits for all."""
-        self.proofs_ended.set()
-        join(self.started([Lane(BY_ITSELF)]))
-        join(self.started(lanes(self.processors)))
-        join(self.beside)
+        """Runs all that does not run yet, and waits for all."""
+        self.all_is_proved()
+        self.join()
 
     def leave_out(self) -> None:
         """Runs no more of them."""
-        self.is_left_out = True
-        self.proofs_ended.set()
-        join(self.beside)
+        self.leave_off()
+        self.join()
         for name in SCRIPTS:
             if name not in self.counted:
                 self.counted[name], self.failed[name] = (0, 1), ["not run, since not all is proved"]
 
-    def started(self, chosen: list[Lane], waits: Callable[[], None] = lambda: None) -> list[threading.Thread]:
-        """Runners of these lanes, which wait for something first."""
-        runners = [threading.Thread(target=self.go_along, args=(lane, waits), daemon=True)
-                   for lane in chosen for _ in range(lane.runners)]
-        for runner in runners:
-            runner.start()
-        return runners
+    def leave_off(self) -> None:
+        """Begins no script any more."""
+        self.is_left_out = True
+        self.proofs_ended.set()
+        self.computing.begun.set()
 
-    def go_along(self, lane: Lane, waits: Callable[[], None]) -> None:
-        waits()
-        while not self.is_left_out and (found := lane.next()) is not None:
+    def run_beside(self, target: Callable[..., None], *given: Any) -> None:
+        """Starts a runner."""
+        runner = threading.Thread(target=target, args=given, daemon=True)
+        self.runners.append(runner)
+        runner.start()
+
+    def need_no_program(self) -> None:
+        self.wait_for_room()
+        self.go_along(Lane(WITHOUT_PROGRAM))
+
+    def compute(self) -> None:
+        """Runs what computes, after what comes first; then others may join."""
+        self.go_along(Lane(FIRST))
+        self.computing.begun.set()
+        self.go_along(self.computing)
+
+    def go_along(self, lane: Lane) -> None:
+        while (found := lane.next()) is not None and not self.is_left_out:
             self.try_one(*found)
+
+    def join(self) -> None:
+        for runner in self.runners:
+            runner.join()
 
     def try_one(self, name: str, nice: int) -> None:
         """Runs a script, and tells what it said."""
@@ -155,8 +192,7 @@ class Scripts:
 
     def heard(self, name: str, nice: int) -> tuple[list[str], Counted]:
         """What a script says of the program, and what it counts."""
-        lowered = ["nice", "-n", str(nice)] if nice else []
-        command = [*lowered, str(self.folder / name), str(self.program)]
+        command = [*at_niceness(nice), str(self.folder / name), str(self.program)]
         streams: dict[str, Any] = {"stdin": subprocess.DEVNULL, "stdout": subprocess.PIPE, "stderr": subprocess.STDOUT}
         ended = subprocess.run(command, **streams, errors="replace", env=self.mark.environment())
         lines = ended.stdout.rstrip("\n").split("\n")
@@ -187,6 +223,7 @@ class Scripts:
         return "; ".join(f"{what}: {sum(self.counted[name])}" for name, what in SCRIPTS.items())
 
 
-def join(runners: list[threading.Thread]) -> None:
-    for runner in runners:
-        runner.join()
+def at_niceness(nice: int) -> list[str]:
+    """The words before a command that runs so; none where that is not allowed."""
+    is_allowed = nice >= 0 or os.geteuid() == 0
+    return ["nice", "-n", str(nice)] if nice and is_allowed else []
