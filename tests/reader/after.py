@@ -1,14 +1,14 @@
 """What a master's record becomes once a plan has ended (After.antt)."""
-from typing import NamedTuple
-
-from reader.addresses import Address, FilePath, has
+from reader.addresses import Address, has
 from reader.crew import Addresses, Listeners, posts_of
 from reader.crews import Crew, Posts
 from reader.numbers import first_from
 from reader.record import Record
 from reader.settings import Settings
 from reader.table import Table, live_master
-from reader.target import Attended, Reload, Stop, Target, Upgrade, Workers, generation_wanted
+from reader.target import (
+    Attended, Reload, Stop, Target, Upgrade, Workers, generation_wanted, reload_generation, upgrade_generation,
+)
 from reader.vocabulary import AnyOutcome, Degraded, Generation, Listener, Outcome, Report, Side
 
 # Listeners that open and close
@@ -88,73 +88,60 @@ def crew_wanted(r: Record, t: Target) -> Crew:
     return Crew(generation_wanted(r, t), posts_wanted(r, t))
 
 
-# What a service is made of
+# The record of a service
 
 
-class Setup(NamedTuple):
-    listeners: Listeners
-    posts: Posts
-    generation: Generation
-    wanted: int
-    retries: int
-    timeout: int
-
-
-def setup_of(r: Record) -> Setup:
-    return Setup(r.listeners, r.posts, r.generation, r.wanted, r.retries, r.timeout)
-
-
-def next_number(n: int) -> int | None:
+def has_next(n: int) -> bool:
     """Image and config numbers end at 4,294,967,295."""
-    return n + 1 if n < 4294967295 else None
-
-
-def numbered(image: int | None, config: int | None) -> Generation | None:
-    return None if image is None or config is None else Generation(image, config)
+    return n < 4294967295
 
 
 def next_config(g: Generation) -> Generation | None:
     """The generation of a reload."""
-    return numbered(g.image, next_number(g.config))
+    return reload_generation(g) if has_next(g.config) else None
 
 
 def next_image(g: Generation) -> Generation | None:
     """The generation of an upgrade."""
-    return numbered(next_number(g.image), next_number(g.config))
+    return upgrade_generation(g) if has_next(g.image) and has_next(g.config) else None
 
 
-def renewed(s: Settings, posts: Posts, ls: Listeners | None, g: Generation | None) -> Setup | None:
-    """The service of new settings."""
-    return None if ls is None or g is None else Setup(ls, posts, g, s.workers, s.retries, s.timeout)
+def renewed(r: Record, s: Settings, posts: Posts, ls: Listeners | None, g: Generation | None) -> Record | None:
+    """A record with the service of new settings."""
+    if ls is None or g is None:
+        return None
+    return r._replace(listeners=ls, posts=posts, generation=g, wanted=s.workers, retries=s.retries, timeout=s.timeout)
 
 
-def target_setup(r: Record, target: Target) -> Setup | None:
-    """The target's service; a stop has none."""
+def target_record(r: Record, target: Target) -> Record | None:
+    """The record with the target's service; a stop has none."""
     match target:
         case Workers(n):
-            return setup_of(r)._replace(wanted=n)
+            return r._replace(wanted=n)
         case Reload(s):
-            return renewed(s, posts_wanted(r, target), reloaded(s.listeners, r.listeners), next_config(r.generation))
+            ls, g = reloaded(s.listeners, r.listeners), next_config(r.generation)
+            return renewed(r, s, posts_wanted(r, target), ls, g)
         case Upgrade(s) | Attended(s):
-            return renewed(s, posts_wanted(r, target), upgraded(s.listeners, r.listeners), next_image(r.generation))
+            ls, g = upgraded(s.listeners, r.listeners), next_image(r.generation)
+            return renewed(r, s, posts_wanted(r, target), ls, g)
         case Stop():
             return None
         case _:
-            return setup_of(r)
+            return r
 
 
-def old_setup(r: Record, target: Target) -> Setup | None:
-    """The service that ran before; nothing runs after a stop."""
-    return None if isinstance(target, Stop) else setup_of(r)
+def old_record(r: Record, target: Target) -> Record | None:
+    """The record with the service that ran before; nothing runs after a stop."""
+    return None if isinstance(target, Stop) else r
 
 
-def setup_after(outcome: AnyOutcome, r: Record, t: Target) -> Setup | None:
-    """The service that an outcome names."""
+def named_record(outcome: AnyOutcome, r: Record, t: Target) -> Record | None:
+    """The record with the service that an outcome names."""
     match outcome:
         case Outcome.Done | Degraded(Side.Target, _):
-            return target_setup(r, t)
+            return target_record(r, t)
         case Outcome.RolledBack | Degraded(Side.Old, _):
-            return old_setup(r, t)
+            return old_record(r, t)
         case _:
             return None
 
@@ -162,20 +149,9 @@ def setup_after(outcome: AnyOutcome, r: Record, t: Target) -> Setup | None:
 # The next record
 
 
-def recorded(s: Setup, path: FilePath | None, report: Report, pid: int) -> Record:
-    """A record of what a report says of a service, run by the master of a process number."""
-    return Record(
-        listeners=s.listeners,
-        posts=s.posts,
-        generation=s.generation,
-        ready=report.ready,
-        wanted=s.wanted,
-        retries=s.retries,
-        timeout=s.timeout,
-        pid_path=path,
-        note=report.note,
-        pid=pid,
-    )
+def reported(r: Record, report: Report, pid: int) -> Record:
+    """A record with what a report says, and the process number of the master."""
+    return r._replace(ready=report.ready, note=report.note, pid=pid)
 
 
 def keeps_rules(r: Record) -> bool:
@@ -184,25 +160,28 @@ def keeps_rules(r: Record) -> bool:
     return 1 <= len(r.listeners) and r.wanted <= 1024 and first_from(r.wanted, r.ready) is None and 1 <= r.pid
 
 
+def record_from(r: Record | None, report: Report, pid: int) -> Record | None:
+    record = None if r is None else reported(r, report, pid)
+    return record if record is not None and keeps_rules(record) else None
+
+
 def record_after(r: Record, t: Target, report: Report, pid: int) -> Record | None:
     """The record after a plan for a target: the service that the report names, with its ready numbers and its note.
     None after a stop, if the run was lost, or if the result would break the rules of a record."""
-    setup = setup_after(report.outcome, r, t)
-    record = None if setup is None else recorded(setup, r.pid_path, report, pid)
-    return record if record is not None and keeps_rules(record) else None
+    return record_from(named_record(report.outcome, r, t), report, pid)
 
 
 # Who reigns then
 
 
-def master_of(s: Setup | None, t: Table) -> int | None:
+def master_of(r: Record | None, t: Table) -> int | None:
     """The process number of the live master of a service's image."""
-    caller = None if s is None else live_master(s.generation.image, t.rows)
+    caller = None if r is None else live_master(r.generation.image, t.rows)
     return None if caller is None else caller.number
 
 
 def next_record(r: Record, t: Target, report: Report, last: Table) -> Record | None:
     """The record that a report leaves to the master that reigns in the last table: the live master of the image of the
     service that the outcome names."""
-    pid = master_of(setup_after(report.outcome, r, t), last)
+    pid = master_of(named_record(report.outcome, r, t), last)
     return None if pid is None else record_after(r, t, report, pid)

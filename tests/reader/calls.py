@@ -3,7 +3,7 @@ from collections.abc import Callable
 from typing import NamedTuple
 
 from reader.addresses import Address, FilePath
-from reader.exits import change
+from reader.exits import change, without_exited
 from reader.groups import Groups
 from reader.numbers import Numbers, is_in
 from reader.table import (
@@ -95,15 +95,6 @@ def lacks_address(a: Address, hs: Holds) -> Holds:
     return tuple(h for h in hs if not is_at(a, h))
 
 
-def closed(c: Caller, a: Address, t: Table) -> Stepped:
-    """The caller and its workers lose their holds of the address."""
-
-    def without(p: Process) -> Process:
-        return with_holds(lambda hs: lacks_address(a, hs), p)
-
-    return Stepped(Answer.Fine, each_row(lambda p: change(lambda row: is_of(c.number, row), without, p), t))
-
-
 # Fork
 
 
@@ -156,41 +147,18 @@ def made_draining(p: Process) -> Process:
     return Worker(p.number, p.parent, p.generation, p.nr, Stance.Draining, ()) if isinstance(p, Worker) else p
 
 
-def quitted(c: Caller, g: Generation, k: int, t: Table) -> Stepped:
-    """The active worker of the name drains and holds nothing."""
-    drained = each_row(lambda p: change(lambda row: is_worker(is_active, c.number, g, k, row), made_draining, p), t)
-    return Stepped(Answer.Fine, drained)
-
-
-def killed(c: Caller, g: Generation, k: int, t: Table) -> Stepped:
-    """All workers of the name leave, in any stance."""
-    left = each_row(lambda p: drop_where(lambda row: is_worker(is_any, c.number, g, k, row), p), t)
-    return Stepped(Answer.Fine, left)
-
-
 # Census
 
 
-def census_below(n: int, caller: int, g: Generation, rows: Rows) -> Numbers:
-    """The numbers below n that a Ready worker of the caller bears in the generation."""
+def census_of(caller: int, g: Generation, rows: Rows) -> Numbers:
+    """The numbers that a Ready worker of the caller bears in the generation; worker numbers are below 1024."""
     # (the rows are looked through once, and not for each number)
     borne = {p.nr for p in rows if isinstance(p, Worker) and is_worker(is_ready, caller, g, p.nr, p)}
-    return tuple(sorted(k for k in borne if k < n))
-
-
-def census_of(caller: int, g: Generation, rows: Rows) -> Numbers:
-    """Worker numbers are below 1024."""
-    return census_below(1024, caller, g, rows)
+    return tuple(sorted(k for k in borne if k < 1024))
 
 
 def is_exited_of(caller: int, p: Process) -> bool:
     return isinstance(p, Worker) and is_exited(p.stance) and p.parent == caller
-
-
-def counted(c: Caller, g: Generation, t: Table) -> Stepped:
-    """The numbers of the caller's Ready workers; its Exited ones of every generation leave."""
-    left = each_row(lambda p: drop_where(lambda row: is_exited_of(c.number, row), p), t)
-    return Stepped(Counted(census_of(c.number, g, t.rows)), left)
 
 
 # AwaitGone
@@ -236,11 +204,6 @@ def is_of_image(image: int, rows: Rows, p: Process) -> bool:
     if isinstance(p, Worker):
         return any(is_image_row(image, p.parent, row) for row in rows)
     return is_image(image, p)
-
-
-def terminated(image: int, t: Table) -> Stepped:
-    """The master of the image leaves, live or exited, and its workers do."""
-    return Stepped(Answer.Fine, each_row(lambda p: drop_where(lambda row: is_of_image(image, t.rows, row), p), t))
 
 
 # Adopt
@@ -294,40 +257,12 @@ def without_file(path: FilePath, files: tuple[File, ...]) -> tuple[File, ...]:
     return tuple(f for f in files if f.path != path)
 
 
-def written(c: Caller, path: FilePath, t: Table) -> Stepped:
-    """The file has the caller's process number."""
-    return Stepped(Answer.Fine, with_files(with_file(path, c.number, t.files), t))
-
-
 def moved(source: FilePath, to: FilePath, t: Table) -> Stepped:
     """The second path has the number of the first, which is gone; a fault where the first isn't there."""
     owner = owner_at(source, t.files)
     if owner is None:
         return Stepped(Answer.IoFault, t)
     return Stepped(Answer.Fine, with_files(with_file(to, owner, without_file(source, t.files)), t))
-
-
-def unlinked(path: FilePath, t: Table) -> Stepped:
-    """The file is gone, also where it wasn't there."""
-    return Stepped(Answer.Fine, with_files(without_file(path, t.files), t))
-
-
-# Leave
-
-
-def without_master(m: int, p: Process) -> Process | None:
-    """What becomes of a row where a master leaves: its own and its workers' leave, and a master whose parent it was
-    gets parent 1."""
-    if isinstance(p, Master):
-        return None if p.number == m else Master(p.number, 1 if p.parent == m else p.parent, p.image, p.live, p.holds)
-    if isinstance(p, Worker):
-        return None if p.parent == m else p
-    return p
-
-
-def departed(c: Caller, t: Table) -> Stepped:
-    """The caller leaves, with its workers."""
-    return Stepped(Answer.Fine, each_row(lambda p: without_master(c.number, p), t))
 
 
 # The order in a call
@@ -339,17 +274,25 @@ def own_step(handed: Handed, image: int, c: Caller, call: Call, t: Table) -> Ste
         case OpenAt(a):
             return opened(c, a, t)
         case CloseAt(a):
-            return closed(c, a, t)
+            # The caller and its workers lose their holds of the address.
+            return Stepped(Answer.Fine, each_row(lambda p: change(
+                lambda row: is_of(c.number, row), lambda row: with_holds(lambda hs: lacks_address(a, hs), row), p), t))
         case Fork(g, k, fds):
             return forked(c, g, k, fds, t)
         case AwaitReady(g, k):
             return awaited(c, g, k, t)
         case Quit(g, k):
-            return quitted(c, g, k, t)
+            # The active worker of the name drains and holds nothing.
+            return Stepped(Answer.Fine, each_row(lambda p: change(
+                lambda row: is_worker(is_active, c.number, g, k, row), made_draining, p), t))
         case Kill(g, k):
-            return killed(c, g, k, t)
+            # All workers of the name leave, in any stance.
+            return Stepped(Answer.Fine, each_row(lambda p: drop_where(
+                lambda row: is_worker(is_any, c.number, g, k, row), p), t))
         case Census(g):
-            return counted(c, g, t)
+            # The numbers of the caller's Ready workers; its Exited ones of every generation leave.
+            left = each_row(lambda p: drop_where(lambda row: is_exited_of(c.number, row), p), t)
+            return Stepped(Counted(census_of(c.number, g, t.rows)), left)
         case AwaitGone(g, k):
             return awaited_gone(c, g, k, t)
         case Usr1():
@@ -368,17 +311,21 @@ def own_step_of_masters(handed: Handed, image: int, c: Caller, call: Call, t: Ta
         case Adopt():
             return adopted(handed, image, c, t)
         case WritePid(path):
-            return written(c, path, t)
+            # The file has the caller's process number.
+            return Stepped(Answer.Fine, with_files(with_file(path, c.number, t.files), t))
         case MovePid(source, to):
             return moved(source, to, t)
         case RemovePid(path):
-            return unlinked(path, t)
+            # The file is gone, also where it wasn't there.
+            return Stepped(Answer.Fine, with_files(without_file(path, t.files), t))
         case Alive(i):
             return asked_alive(live_master(i, t.rows), i, t)
         case Leave():
-            return departed(c, t)
+            # The caller leaves, with its workers, as it would by an exit of which nobody hears.
+            return Stepped(Answer.Fine, each_row(lambda p: without_exited(c.number, lambda _: False, p), t))
         case TermMaster(i):
-            return terminated(i, t)
+            # The master of the image leaves, live or exited, and its workers do.
+            return Stepped(Answer.Fine, each_row(lambda p: drop_where(lambda row: is_of_image(i, t.rows, row), p), t))
         case _:
             raise ValueError(call)
 

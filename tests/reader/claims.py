@@ -42,23 +42,15 @@ def names_any(images: Numbers, es: tuple[Name, ...]) -> bool:
     return any(isinstance(e, name.Master) and is_in(images, e.image) for e in es)
 
 
-def executing_at(call: Call, executing: Numbers, heirs: Numbers) -> Numbers:
-    """The executing masters, at a call: those who leave are executing up to and at their Leave, and their heirs from
-    it on."""
-    return executing + heirs if is_leave_call(call) else executing
-
-
-def executing_after(call: Call, executing: Numbers, heirs: Numbers) -> Numbers:
-    return heirs if is_leave_call(call) else executing
-
-
 def refused_among(executing: Numbers, heirs: Numbers, pattern: Pattern, n: int, entries: Entries) -> int | None:
-    """The first moment, of those of these calls after the n-th, in which an executing master exits."""
+    """The first moment, of those of these calls after the n-th, in which an executing master exits. Those who leave are
+    executing up to and at their Leave, and their heirs from it on."""
     for e in entries:
         n += 1
-        if names_any(executing_at(e.call, executing, heirs), pattern(n).exits):
+        leaves = is_leave_call(e.call)
+        if names_any(executing + heirs if leaves else executing, pattern(n).exits):
             return n
-        executing = executing_after(e.call, executing, heirs)
+        executing = heirs if leaves else executing
     return None
 
 
@@ -134,19 +126,14 @@ def was_failed(paths: tuple[FilePath, ...], entries: Entries) -> bool:
     return any(is_failed_removal(paths, e.call, e.answer) for e in entries)
 
 
-def first_owner(path: FilePath, passed: tuple[Progress, ...]) -> int | None:
-    """The process number that the file at the path held in the first table of a run."""
-    return owner_at(path, passed[0].table.files) if passed else None
-
-
-def IsRemoved(path: FilePath, ran: Ran) -> bool:
+def IsRemoved(path: FilePath, first: Table, ran: Ran) -> bool:
     """Where the removal of the file failed, what was there at first is there: its owner, or no file. Else no file is
     there."""
-    was_there = first_owner(path, ran.passed) if was_failed((path,), ran.entries) else None
+    was_there = owner_at(path, first.files) if was_failed((path,), ran.entries) else None
     return owner_at(path, ran.last.table.files) == was_there
 
 
-def StopNote(note: PidNote, path: FilePath | None, ran: Ran) -> bool:
+def StopNote(note: PidNote, path: FilePath | None, first: Table, ran: Ran) -> bool:
     """The note after a stop: no file is there, or a removal failed and left what was there."""
     files = ran.last.table.files
     match note, path:
@@ -156,17 +143,17 @@ def StopNote(note: PidNote, path: FilePath | None, ran: Ran) -> bool:
             return owner_at(at, files) is None and owner_at(oldbin(at), files) is None
         case PidNote.Left, str(at):
             failed = was_failed((at, oldbin(at)), ran.entries)
-            return failed and IsRemoved(at, ran) and IsRemoved(oldbin(at), ran)
+            return failed and IsRemoved(at, first, ran) and IsRemoved(oldbin(at), first, ran)
         case _:
             return False
 
 
-def IsSucceeded(r: Record, target: Target, report: Report, ran: Ran) -> bool:
+def IsSucceeded(r: Record, target: Target, report: Report, first: Table, ran: Ran) -> bool:
     """What a run leaves: after a stop there is no record, and no master and no worker."""
     last = ran.last.table
     if isinstance(target, Stop):
         is_gone = next_record(r, target, report, last) is None and not any(map(is_own, last.rows))
-        return is_gone and StopNote(ran.last.note, r.pid_path, ran)
+        return is_gone and StopNote(ran.last.note, r.pid_path, first, ran)
     return AgreesAfter(r, target, report, last)
 
 
@@ -280,7 +267,7 @@ def EndsAsReported(t: Table, r: Record, target: Target, ran: Ran) -> Claims:
     sockets = sockets_kept(service(t), want(r, target), t)
     return {
         "says": Says(r, target, report.outcome, t, ran.last.table),
-        "after": IsSucceeded(r, target, report, ran),
+        "after": IsSucceeded(r, target, report, t, ran),
         "kept": all(Kept(sockets, p.table) for p in distinct(ran.passed)),
         "blamed": all(IsBlamed(p) for p in distinct(ran.passed)),
         "cause": HasCause(report.outcome, ran.last.cause),

@@ -4,7 +4,7 @@ from typing import NamedTuple
 
 from reader.addresses import Address, has
 from reader.calls import shared
-from reader.crews import Crew, Posts, fds_in, fds_of
+from reader.crews import Crew, Posts, fds_of
 from reader.groups import Groups, group_of
 from reader.numbers import Numbers, is_in, numbers_below
 from reader.table import Holds
@@ -70,13 +70,6 @@ def layout_in(groups: Groups, addresses: Addresses) -> Layout:
 def listeners_under(fds: Numbers | None, ls: Listeners) -> Listeners:
     """The listeners at these descriptors, or all."""
     return ls if fds is None else tuple(l for l in ls if is_in(fds, l.descriptor))
-
-
-def layout_at(posts: Posts, ls: Listeners) -> Layout:
-    """As a master's descriptors lay it out."""
-    return Layout(
-        posts.groups, lambda place, a: has([l.address for l in listeners_under(fds_in(posts, place), ls)], a)
-    )
 
 
 def served(layout: Layout, numbers: Numbers, a: Address) -> int:

@@ -7,7 +7,7 @@ from reader.table import (
     Caller, Master, Process, Rows, Table, Worker, is_active, is_draining, is_live_master, is_named, live_master,
     with_rows,
 )
-from reader.vocabulary import Generation, Stance
+from reader.vocabulary import Stance
 
 
 def change(test: Callable[[Process], bool], f: Callable[[Process], Process], p: Process) -> Process:
@@ -21,21 +21,11 @@ def made_exited(p: Process) -> Process:
     return p
 
 
-def worker_exits(g: Generation, k: int, rows: Rows) -> Rows:
-    """A Starting or Ready worker becomes Exited."""
-    return tuple(change(lambda p: is_named(is_active, g, k, p), made_exited, p) for p in rows)
-
-
 def first_changed(test: Callable[[Process], bool], f: Callable[[Process], Process], rows: Rows) -> Rows:
     for place, p in enumerate(rows):
         if test(p):
             return (*rows[:place], f(p), *rows[place + 1:])
     return rows
-
-
-def draining_exits(g: Generation, k: int, rows: Rows) -> Rows:
-    """The Draining worker of the name with the lowest process number becomes Exited."""
-    return first_changed(lambda p: is_named(is_draining, g, k, p), made_exited, rows)
 
 
 def without_exited(gone: int, lives: Callable[[int], bool], p: Process) -> Process | None:
@@ -62,19 +52,16 @@ def caller_exits(c: Caller | None, rows: Rows) -> Rows:
     return tuple(p for p in kept if p is not None)
 
 
-def master_exits(image: int, rows: Rows) -> Rows:
-    """The live master of the image exits, with its workers."""
-    return caller_exits(live_master(image, rows), rows)
-
-
 def exited(e: Name, rows: Rows) -> Rows:
+    """A Starting or Ready worker becomes Exited; or the Draining worker of the name with the lowest process number
+    does; or the live master of the image exits, with its workers."""
     match e:
         case name.Worker(g, k):
-            return worker_exits(g, k, rows)
+            return tuple(change(lambda row: is_named(is_active, g, k, row), made_exited, p) for p in rows)
         case name.Draining(g, k):
-            return draining_exits(g, k, rows)
+            return first_changed(lambda row: is_named(is_draining, g, k, row), made_exited, rows)
         case name.Master(image):
-            return master_exits(image, rows)
+            return caller_exits(live_master(image, rows), rows)
 
 
 def all_exited(es: tuple[Name, ...], rows: Rows) -> Rows:

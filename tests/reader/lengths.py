@@ -2,7 +2,8 @@
 from reader.after import crew_wanted
 from reader.crew import Addresses
 from reader.crews import Crew
-from reader.plans import back_from, does, move_aside, new_part, old_part, plan_tree, spawn_edges, taken_over
+from reader.pieces import spawn_edges
+from reader.plans import back_from, does, move_aside, new_part, old_part, plan_tree, taken_over
 from reader.record import Record, addresses_of, crew_of
 from reader.target import Attended, Target, Upgrade
 from reader.tree import Branches, Ends, Tree, shown

@@ -3,20 +3,20 @@ rollback_plan/specs/Following.antt)."""
 from typing import NamedTuple
 
 from reader.numbers import Numbers
-from reader.run import first_cause, lacked_after, lacked_by, lacking_after, outcome_at, ready_after, went_wrong
+from reader.pieces import first_cause
+from reader.run import lacked_after, lacked_by, lacked_last, outcome_at, ready_after, went_wrong
 from reader.target import Sides
 from reader.tree import Branch, Does, Ends, Tree, branch, call_of, reply_of, shown
 from reader.vocabulary import Answer, AnyAnswer, AnyOutcome, Entries, Entry, Lacks, Outcome, PidNote, Report
 
 
 class Trail(NamedTuple):
-    """How far a path has come: the rest of the tree, or nothing where the last answer had no edge; the last count and
-    what it lacked of its set; what the last count of each master lacked; the note; the first call that went wrong,
-    counted from 1; and how many calls were made."""
+    """How far a path has come: the rest of the tree, or nothing where the last answer had no edge; the last count, and
+    what the last counts lacked; the note; the first call that went wrong, counted from 1; and how many calls were
+    made."""
 
     rest: Tree | None
     ready: Numbers
-    lacking: Numbers
     lacked: Lacks
     note: PidNote
     cause: int | None
@@ -24,7 +24,7 @@ class Trail(NamedTuple):
 
 
 def begin(tree: Tree, note: PidNote) -> Trail:
-    return Trail(tree, (), (), (), note, None, 0)
+    return Trail(tree, (), (), note, None, 0)
 
 
 # One entry
@@ -52,7 +52,6 @@ def advance(t: Trail, e: Entry) -> Trail:
     return Trail(
         rest=None if edge is None else edge.rest,
         ready=ready_after(e.answer, t.ready),
-        lacking=lacking_after(numbers, e.answer, t.lacking),
         lacked=lacked_after(e.by, numbers, e.answer, t.lacked),
         note=note_after(edge, t.note),
         cause=first_cause(t.cause, went_wrong(e.call, reply_of(numbers, e.answer)), t.made + 1),
@@ -82,7 +81,7 @@ def IsOutcome(sides: Sides, rest: Tree | None, lacking: Numbers, o: AnyOutcome) 
 
 def Reports(sides: Sides, t: Trail, report: Report) -> bool:
     return (
-        IsOutcome(sides, t.rest, t.lacking, report.outcome)
+        IsOutcome(sides, t.rest, lacked_last(t.lacked), report.outcome)
         and report.cause == t.cause
         and report.note is t.note
         and report.ready == t.ready

@@ -20,7 +20,7 @@ from reader.vocabulary import (
 
 Turns = tuple[Turn, ...]
 
-# Edges
+# Edges and steps
 
 Replies = tuple[Reply, ...]
 
@@ -30,29 +30,13 @@ def on(replies: Replies, rest: Tree, more: Branches = ()) -> Branches:
     return (Branch(replies, None, rest), *more)
 
 
-def fork_edges(ok: Tree, bad: Tree) -> Branches:
-    return on((Reply.Forked,), ok, on((Reply.Again, Reply.NoMemory), bad))
-
-
-def await_edges(ok: Tree, gone: Tree, late: Tree) -> Branches:
-    return on((Reply.IsReady,), ok, on((Reply.Gone,), gone, on((Reply.Late,), late)))
+def then_edge(rest: Tree) -> Branches:
+    return on((Reply.Fine,), rest)
 
 
 def await_any_edges(rest: Tree, late: Tree) -> Branches:
     """Whether the worker is ready or gone is no matter."""
     return on((Reply.IsReady, Reply.Gone), rest, on((Reply.Late,), late))
-
-
-def then_edge(rest: Tree) -> Branches:
-    return on((Reply.Fine,), rest)
-
-
-def census_edges(full: Tree, short: Tree) -> Branches:
-    return on((Reply.Full,), full, on((Reply.Short,), short))
-
-
-def gone_edges(gone: Tree, late: Tree) -> Branches:
-    return on((Reply.Gone,), gone, on((Reply.Late,), late))
 
 
 def note_edges(fine: PidNote | None, fault: PidNote | None, rest: Tree) -> Branches:
@@ -64,8 +48,16 @@ def does(by: int, call: Call, branches: Branches) -> Tree:
     return Does(by, Make(call), (), branches)
 
 
-def census(by: int, g: Generation, numbers: Numbers, branches: Branches) -> Tree:
-    return Does(by, Make(Census(g)), numbers, branches)
+def either(by: int, call: Call, numbers: Numbers, ok: Tree, bad: Tree) -> Tree:
+    """A call, with the set of a census: the plain reply goes on, and any other elsewhere."""
+    return Does(by, Make(call), numbers, on((plain_reply(call),), ok, on(replies_to(call)[1:], bad)))
+
+
+def tells(by: int, calls: tuple[Call, ...], rest: Tree) -> Tree:
+    """Calls that have one reply alone, in their order."""
+    for call in reversed(calls):
+        rest = does(by, call, then_edge(rest))
+    return rest
 
 
 # Settle
@@ -84,7 +76,7 @@ def round_of(by: int, crew: Crew, rest: Tree) -> Tree:
     straight on."""
     kill = Does(by, KillLacking(crew.generation), (), then_edge(rest))
     wait = Does(by, AwaitLacking(crew.generation), (), await_any_edges(rest, kill))
-    return Does(by, ForkLacking(crew), (), fork_edges(wait, rest))
+    return Does(by, ForkLacking(crew), (), on((Reply.Forked,), wait, on((Reply.Again, Reply.NoMemory), rest)))
 
 
 def settle(by: int, crew: Crew, numbers: Numbers, side: Side, rounds: int) -> Tree:
@@ -93,10 +85,10 @@ def settle(by: int, crew: Crew, numbers: Numbers, side: Side, rounds: int) -> Tr
         short: Tree = Ends(short_end(side))
     else:
         short = round_of(by, crew, settle(by, crew, numbers, side, rounds - 1))
-    return census(by, crew.generation, numbers, census_edges(Ends(full_end(side)), short))
+    return either(by, Census(crew.generation), numbers, Ends(full_end(side)), short)
 
 
-# Starts and quits
+# Starts, waits and opens
 
 
 def forks(
@@ -106,27 +98,20 @@ def forks(
     if not ks:
         return ok(done)
     rest = forks(by, crew, ks[1:], (ks[0], *done), ok, bad)
-    return does(by, fork_of(crew, ks[0]), fork_edges(rest, Later(lambda: bad(done))))
+    return either(by, fork_of(crew, ks[0]), (), rest, Later(lambda: bad(done)))
 
 
 def awaits(by: int, g: Generation, ks: Numbers, ok: Tree, bad: Tree) -> Tree:
     """Wait for these numbers upwards. The first that fails, killed where it is late, leads to `bad`."""
     if not ks:
         return ok
-    late = does(by, Kill(g, ks[0]), then_edge(bad))
-    return does(by, AwaitReady(g, ks[0]), await_edges(awaits(by, g, ks[1:], ok, bad), bad, late))
+    unready = on((Reply.Gone,), bad, on((Reply.Late,), tells(by, (Kill(g, ks[0]),), bad)))
+    return does(by, AwaitReady(g, ks[0]), on((Reply.IsReady,), awaits(by, g, ks[1:], ok, bad), unready))
 
 
 def starts(by: int, crew: Crew, ks: Numbers, ok: Tree, bad: Callable[[Numbers], Tree]) -> Tree:
     """Fork all, then wait for all. A failure leads to `bad` of those that were forked, the last first."""
     return forks(by, crew, ks, (), lambda forked: awaits(by, crew.generation, ks, ok, Later(lambda: bad(forked))), bad)
-
-
-def quits(by: int, g: Generation, ks: Numbers, rest: Tree) -> Tree:
-    """Quit these numbers in their order."""
-    for k in reversed(ks):
-        rest = does(by, Quit(g, k), then_edge(rest))
-    return rest
 
 
 def forks_any(by: int, crew: Crew, ks: Numbers, rest: Tree) -> Tree:
@@ -139,7 +124,7 @@ def forks_any(by: int, crew: Crew, ks: Numbers, rest: Tree) -> Tree:
 def awaits_any(by: int, g: Generation, ks: Numbers, rest: Tree) -> Tree:
     """Wait for these numbers upwards, whatever is answered; one that is late is killed."""
     for k in reversed(ks):
-        rest = does(by, AwaitReady(g, k), await_any_edges(rest, does(by, Kill(g, k), then_edge(rest))))
+        rest = does(by, AwaitReady(g, k), await_any_edges(rest, tells(by, (Kill(g, k),), rest)))
     return rest
 
 
@@ -148,26 +133,11 @@ def starts_any(by: int, crew: Crew, ks: Numbers, rest: Tree) -> Tree:
     return forks_any(by, crew, ks, awaits_any(by, crew.generation, ks, rest))
 
 
-def kills(by: int, g: Generation, ks: Numbers, rest: Tree) -> Tree:
-    for k in reversed(ks):
-        rest = does(by, Kill(g, k), then_edge(rest))
-    return rest
-
-
-def usr1s(by: int, g: Generation, ks: Numbers, rest: Tree) -> Tree:
-    for k in reversed(ks):
-        rest = does(by, Usr1(g, k), then_edge(rest))
-    return rest
-
-
 def awaits_gone(by: int, g: Generation, ks: Numbers, rest: Tree) -> Tree:
     """Wait until these are gone, in their order; one that is late is killed."""
     for k in reversed(ks):
-        rest = does(by, AwaitGone(g, k), gone_edges(rest, does(by, Kill(g, k), then_edge(rest))))
+        rest = either(by, AwaitGone(g, k), (), rest, tells(by, (Kill(g, k),), rest))
     return rest
-
-
-# Opens and closes
 
 
 def opens(
@@ -181,14 +151,7 @@ def opens(
     if not addresses:
         return ok(done)
     rest = opens(by, addresses[1:], (addresses[0], *done), ok, bad)
-    unopened = on((Reply.InUse, Reply.TooMany, Reply.Denied, Reply.NoMemory), Later(lambda: bad(done)))
-    return does(by, OpenAt(addresses[0]), on((Reply.Opened,), rest, unopened))
-
-
-def closes(by: int, addresses: Addresses, rest: Tree) -> Tree:
-    for a in reversed(addresses):
-        rest = does(by, CloseAt(a), then_edge(rest))
-    return rest
+    return either(by, OpenAt(addresses[0]), (), rest, Later(lambda: bad(done)))
 
 
 # One master
@@ -197,29 +160,29 @@ def closes(by: int, addresses: Addresses, rest: Tree) -> Tree:
 def workers_tree(by: int, crew: Crew, ready: Numbers, retries: int, n: int) -> Tree:
     """The numbers below n that are lacking are started, those from n on quit downwards, and the target settles. A
     failed start quits what was forked, downwards, and the old side settles."""
+    lacking = tuple(k for k in numbers_below(n) if not is_in(ready, k))
+    quits = tuple(Quit(crew.generation, k) for k in ready[::-1] if not k < n)
     settled = settle(by, crew, numbers_below(n), Side.Target, retries)
-    too_many = tuple(k for k in ready if not k < n)
-    return starts(
-        by,
-        crew,
-        tuple(k for k in numbers_below(n) if not is_in(ready, k)),
-        quits(by, crew.generation, too_many[::-1], settled),
-        lambda forked: quits(by, crew.generation, forked, settle(by, crew, ready, Side.Old, retries)),
-    )
+
+    def back(forked: Numbers) -> Tree:
+        return tells(by, tuple(Quit(crew.generation, k) for k in forked), settle(by, crew, ready, Side.Old, retries))
+
+    return starts(by, crew, lacking, tells(by, quits, settled), back)
 
 
 def mend_tree(by: int, crew: Crew, ready: Numbers, retries: int, overdue: Numbers, wanted: int) -> Tree:
     """Those that are overdue and ready are killed; each wanted number that isn't ready or is overdue is started, going
     on after a failure; and the target settles."""
-    settled = settle(by, crew, numbers_below(wanted), Side.Target, retries)
+    kills = tuple(Kill(crew.generation, k) for k in overdue if is_in(ready, k))
     missing = tuple(k for k in numbers_below(wanted) if not is_in(ready, k) or is_in(overdue, k))
-    late = tuple(k for k in overdue if is_in(ready, k))
-    return kills(by, crew.generation, late, starts_any(by, crew, missing, settled))
+    settled = settle(by, crew, numbers_below(wanted), Side.Target, retries)
+    return tells(by, kills, starts_any(by, crew, missing, settled))
 
 
 def reopen_tree(by: int, crew: Crew, ready: Numbers, retries: int) -> Tree:
     """Each ready worker is told, and the target settles."""
-    return usr1s(by, crew.generation, ready, settle(by, crew, ready, Side.Target, retries))
+    usr1s = tuple(Usr1(crew.generation, k) for k in ready)
+    return tells(by, usr1s, settle(by, crew, ready, Side.Target, retries))
 
 
 def reload_back(
@@ -227,14 +190,15 @@ def reload_back(
 ) -> Tree:
     """Back from a reload: the new workers quit, what was opened is closed, the last first, and the old side
     settles."""
-    return quits(by, new.generation, forked, closes(by, opened, settle(by, old, ready, Side.Old, retries)))
+    closed = tells(by, tuple(map(CloseAt, opened)), settle(by, old, ready, Side.Old, retries))
+    return tells(by, tuple(Quit(new.generation, k) for k in forked), closed)
 
 
 def reload_on(by: int, old: Crew, new: Crew, ready: Numbers, retries: int, dropped: Addresses, n: int) -> Tree:
     """On with a reload: the old workers quit, the dropped addresses are closed in the old order, and the target
     settles."""
-    settled = settle(by, new, numbers_below(n), Side.Target, retries)
-    return quits(by, old.generation, ready[::-1], closes(by, dropped, settled))
+    closed = tells(by, tuple(map(CloseAt, dropped)), settle(by, new, numbers_below(n), Side.Target, retries))
+    return tells(by, tuple(Quit(old.generation, k) for k in ready[::-1]), closed)
 
 
 def reload_tree(
@@ -246,11 +210,11 @@ def reload_tree(
     def start(opened: Addresses) -> Tree:
         back = partial(reload_back, by, old, new, ready, retries, opened)
         go_on = reload_on(by, old, new, ready, retries, only_in(held, wanted), n)
-        counted = census_edges(go_on, back(numbers_below(n)[::-1]))
-        return starts(by, new, numbers_below(n), census(by, new.generation, numbers_below(n), counted), back)
+        counted = either(by, Census(new.generation), numbers_below(n), go_on, back(numbers_below(n)[::-1]))
+        return starts(by, new, numbers_below(n), counted, back)
 
     def close(opened: Addresses) -> Tree:
-        return closes(by, opened, settle(by, old, ready, Side.Old, retries))
+        return tells(by, tuple(map(CloseAt, opened)), settle(by, old, ready, Side.Old, retries))
 
     return opens(by, only_in(wanted, held), (), start, close)
 
@@ -277,15 +241,15 @@ def removes(by: int, path: FilePath | None, note: PidNote, rest: Tree) -> Tree:
 
 
 def stopped(by: int) -> Tree:
-    return does(by, Leave(), then_edge(Ends(End.Done)))
+    return tells(by, (Leave(),), Ends(End.Done))
 
 
 def stop_tree(by: int, g: Generation, ready: Numbers, path: FilePath | None, note: PidNote, quick: bool) -> Tree:
     """The workers quit and are waited for, or are killed at once; the files are removed, and the master leaves."""
     removed = removes(by, path, note, stopped(by))
     if quick:
-        return kills(by, g, ready, removed)
-    return quits(by, g, ready[::-1], awaits_gone(by, g, ready[::-1], removed))
+        return tells(by, tuple(Kill(g, k) for k in ready), removed)
+    return tells(by, tuple(Quit(g, k) for k in ready[::-1]), awaits_gone(by, g, ready[::-1], removed))
 
 
 # Two parts of a plan that two masters carry out side by side: under a list of turns they are an ordinary tree
@@ -383,16 +347,16 @@ def old_part(by: int, crew: Crew, ready: Numbers, rounds: int) -> Tree:
     """The old master meanwhile mends its own workers: it counts those that were ready, and starts what is lacking, in
     a number of rounds; what the last count says is no matter."""
     if rounds == 0:
-        return census(by, crew.generation, ready, on((Reply.Full, Reply.Short), Ends(End.Join)))
+        return Does(by, Make(Census(crew.generation)), ready, on((Reply.Full, Reply.Short), Ends(End.Join)))
     again = round_of(by, crew, old_part(by, crew, ready, rounds - 1))
-    return census(by, crew.generation, ready, census_edges(Ends(End.Join), again))
+    return either(by, Census(crew.generation), ready, Ends(End.Join), again)
 
 
 def move_aside(by: int, path: FilePath | None, note: PidNote, ok: Tree, bad: Tree) -> Tree:
     """The pid file goes aside, where it isn't yet."""
     if path is None or note is PidNote.AtOldbin:
         return ok
-    return does(by, MovePid(path, oldbin(path)), on((Reply.Fine,), ok, on((Reply.IoFault,), bad)))
+    return either(by, MovePid(path, oldbin(path)), (), ok, bad)
 
 
 def move_back(by: int, path: FilePath | None, rest: Tree) -> Tree:
@@ -416,13 +380,13 @@ def back_alone(by: int, crew: Crew, ready: Numbers, retries: int, path: FilePath
 
 def back_from(by: int, heir: int, crew: Crew, ready: Numbers, retries: int, path: FilePath | None) -> Tree:
     """And with one."""
-    return does(by, TermMaster(heir), then_edge(back_alone(by, crew, ready, retries, path)))
+    return tells(by, (TermMaster(heir),), back_alone(by, crew, ready, retries, path))
 
 
 def back_late(by: int, heir: int, crew: Crew, ready: Numbers, retries: int, path: FilePath | None) -> Tree:
     """Back after the old workers are gone: they are started again."""
     again = starts_any(by, crew, ready, back_alone(by, crew, ready, retries, path))
-    return does(by, TermMaster(heir), then_edge(again))
+    return tells(by, (TermMaster(heir),), again)
 
 
 def back_serving(by: int, heir: int, crew: Crew, ready: Numbers, retries: int, path: FilePath | None) -> Tree:
@@ -433,24 +397,21 @@ def back_serving(by: int, heir: int, crew: Crew, ready: Numbers, retries: int, p
 
 def asks(attended: bool, by: int, question: int, on_go: Tree, on_back: Tree) -> Tree:
     """An attended upgrade asks the operator whether to go on or back; any other goes on."""
-    if not attended:
-        return on_go
-    return does(by, Ask(question), on((Reply.Go,), on_go, on((Reply.Back,), on_back)))
+    return either(by, Ask(question), (), on_go, on_back) if attended else on_go
 
 
 def hand_over(by: int, new: Crew, retries: int, path: FilePath | None, n: int) -> Tree:
     """The old master leaves; the new one removes the old file and settles."""
     heir = new.generation.image
     settled = settle(heir, new, numbers_below(n), Side.Target, retries)
-    return does(by, Leave(), then_edge(remove_oldbin(heir, path, settled)))
+    return tells(by, (Leave(),), remove_oldbin(heir, path, settled))
 
 
 def retire(by: int, old: Crew, new: Crew, ready: Numbers, retries: int, path: FilePath | None, n: int) -> Tree:
     """If the new master still lives, the old one leaves."""
     heir = new.generation.image
     handed = hand_over(by, new, retries, path, n)
-    late = back_late(by, heir, old, ready, retries, path)
-    return does(by, Alive(heir), on((Reply.IsAlive,), handed, on((Reply.Gone,), late)))
+    return either(by, Alive(heir), (), handed, back_late(by, heir, old, ready, retries, path))
 
 
 def relieve(
@@ -461,12 +422,9 @@ def relieve(
     heir = new.generation.image
     retired = retire(by, old, new, ready, retries, path, n)
     second = asks(attended, by, 2, retired, back_serving(by, heir, old, ready, retries, path))
-    gone = quits(by, old.generation, ready[::-1], awaits_gone(by, old.generation, ready[::-1], second))
+    quits = tuple(Quit(old.generation, k) for k in ready[::-1])
+    gone = tells(by, quits, awaits_gone(by, old.generation, ready[::-1], second))
     return asks(attended, by, 1, gone, back_from(by, heir, old, ready, retries, path))
-
-
-def spawn_edges(ok: Tree, bad: Tree) -> Branches:
-    return on((Reply.Spawned,), ok, on((Reply.Again, Reply.NoMemory, Reply.NoImage), bad))
 
 
 def taken_over(
@@ -498,7 +456,7 @@ def upgrade_tree(attended: bool, r: Record, new: Crew, wanted: Addresses, n: int
         turns,
         old_part(by, old, r.ready, r.retries),
     )
-    spawn = does(by, SpawnMaster(heir), spawn_edges(parts, back_alone(by, old, r.ready, r.retries, r.pid_path)))
+    spawn = either(by, SpawnMaster(heir), (), parts, back_alone(by, old, r.ready, r.retries, r.pid_path))
     return move_aside(by, r.pid_path, r.note, spawn, settle(by, old, r.ready, Side.Old, r.retries))
 
 

@@ -1,9 +1,9 @@
 """What a master knows of itself, and when it is so (Record.antt)."""
 from typing import NamedTuple
 
-from reader.addresses import FilePath
-from reader.crew import Addresses, Layout, Listeners, layout_at, share
-from reader.crews import Crew, Posts
+from reader.addresses import FilePath, has
+from reader.crew import Addresses, Layout, Listeners, listeners_under, share
+from reader.crews import Crew, Posts, fds_in
 from reader.groups import AreGroups
 from reader.numbers import Numbers, is_in
 from reader.settings import HasSuffixRoom
@@ -50,7 +50,11 @@ def crew_of(r: Record) -> Crew:
 
 
 def layout_of(r: Record) -> Layout:
-    return layout_at(r.posts, r.listeners)
+    """As a master's descriptors lay it out."""
+    return Layout(
+        r.posts.groups,
+        lambda place, a: has([l.address for l in listeners_under(fds_in(r.posts, place), r.listeners)], a),
+    )
 
 
 # When a record agrees with a table

@@ -35,13 +35,14 @@ def ready_after(a: AnyAnswer, ready: Numbers) -> Numbers:
     return a.numbers if isinstance(a, Counted) else ready
 
 
-def lacking_after(numbers: Numbers, a: AnyAnswer, lacking: Numbers) -> Numbers:
-    return lacks(numbers, a.numbers) if isinstance(a, Counted) else lacking
-
-
 def lacked_by(by: int, lacked: Lacks) -> Numbers:
     """What the last count of a master lacked."""
     return next((lack.numbers for lack in lacked if lack.by == by), ())
+
+
+def lacked_last(lacked: Lacks) -> Numbers:
+    """What the last count of all lacked."""
+    return lacked[0].numbers if lacked else ()
 
 
 def beside(by: int, lacked: Lacks) -> Lacks:
@@ -58,10 +59,6 @@ def lacked_after(by: int, numbers: Numbers, a: AnyAnswer, lacked: Lacks) -> Lack
 def went_wrong(call: Call, r: Reply) -> bool:
     """A call that is not answered plainly, or a census that lacks a number of its set."""
     return not same_reply(r, plain_reply(call))
-
-
-def first_cause(cause: int | None, wrong: bool, n: int) -> int | None:
-    return cause if cause is not None else n if wrong else None
 
 
 def is_fault(call: Call, a: AnyAnswer) -> bool:
@@ -95,13 +92,12 @@ def faults_since(question: int, returns: Returns, faults: int) -> int:
 
 
 class Progress(NamedTuple):
-    """How far a run has come: its table, the number of calls made, the last count and what it lacked of its set, the
+    """How far a run has come: its table, the number of calls made, the last count, what the last counts lacked, the
     faults and losses so far, where the operator went back, the first call that went wrong, and the note."""
 
     table: Table
     calls: int
     ready: Numbers
-    lacking: Numbers
     lacked: Lacks
     faults: int
     losses: int
@@ -111,7 +107,7 @@ class Progress(NamedTuple):
 
 
 def start_at(t: Table, note: PidNote) -> Progress:
-    return Progress(t, 0, (), (), (), 0, 0, (), None, note)
+    return Progress(t, 0, (), (), 0, 0, (), None, note)
 
 
 def after_moment(es: tuple[Name, ...], p: Progress) -> Progress:
@@ -123,22 +119,20 @@ def after_moment(es: tuple[Name, ...], p: Progress) -> Progress:
 
 def after_call(by: int, order: Order, numbers: Numbers, s: Stepped, p: Progress) -> Progress:
     call = call_of(order, lacked_by(by, p.lacked))
-    return Progress(
+    is_first = p.cause is None and went_wrong(call, reply_of(numbers, s.answer))
+    return p._replace(
         table=s.table,
         calls=p.calls + 1,
         ready=ready_after(s.answer, p.ready),
-        lacking=lacking_after(numbers, s.answer, p.lacking),
         lacked=lacked_after(by, numbers, s.answer, p.lacked),
         faults=p.faults + 1 if is_fault(call, s.answer) else p.faults,
-        losses=p.losses,
         returns=returns_after(call, s.answer, p.faults, p.returns),
-        cause=first_cause(p.cause, went_wrong(call, reply_of(numbers, s.answer)), p.calls + 1),
-        note=p.note,
+        cause=p.calls + 1 if is_first else p.cause,
     )
 
 
 def noted(said: PidNote | None, p: Progress) -> Progress:
-    return p if said is None else p._replace(note=said)
+    return p._replace(note=p.note if said is None else said)
 
 
 def answered(handed: Handed, by: int, order: Order, f: Fate | None, p: Progress) -> Stepped:
@@ -200,4 +194,5 @@ def outcome_of(sides: Sides, ending: End | None, lacking: Numbers) -> AnyOutcome
 
 def report_of(sides: Sides, ran: Ran) -> Report:
     """What the report of a run says, by the groups of both sides."""
-    return Report(outcome_of(sides, ran.ending, ran.last.lacking), ran.last.cause, ran.last.note, ran.last.ready)
+    outcome = outcome_of(sides, ran.ending, lacked_last(ran.last.lacked))
+    return Report(outcome, ran.last.cause, ran.last.note, ran.last.ready)

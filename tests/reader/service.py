@@ -34,7 +34,8 @@ def counts_at(a: Address, t: Table) -> Counts:
 
 def service(t: Table) -> Service:
     """The keys are the addresses that a live master holds, each with its Ready workers, by generation."""
-    keys = {h.address for p in t.rows if isinstance(p, Master) and p.live for h in p.holds}
+    # (in the order of the holds, so that a seed gives the same run again)
+    keys = dict.fromkeys(h.address for p in t.rows if isinstance(p, Master) and p.live for h in p.holds)
     return {a: counts_at(a, t) for a in keys}
 
 

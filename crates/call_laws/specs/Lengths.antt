@@ -14,7 +14,8 @@ use Rattle.definitions.specs.Calls.{SpawnMaster}
 use Rattle.definitions.specs.Record.{Record, addresses_of, crew_of}
 use Rattle.definitions.specs.Tree.{Tree, Branches, Ends, Does, Nothing, Branch}
 use Rattle.definitions.specs.After.{crew_wanted}
-use Rattle.definitions.specs.Plans.{plan_tree, settle, does, spawn_edges, move_aside, new_part, old_part, taken_over}
+use Rattle.definitions.specs.Plans.{plan_tree, settle, does, move_aside, new_part, old_part, taken_over}
+use Rattle.call_laws.specs.Pieces.{spawn_edges}
 use Rattle.definitions.specs.Plans.{back_from}
 
 -- The number of steps on the longest path.

@@ -1,3 +1,4 @@
 pub mod Start
 pub mod Aside
 pub mod Lengths
+pub mod Pieces

@@ -6,7 +6,7 @@ use Rattle.vocabulary.specs.declared.reports.Outcome.TheVariants as outcome
 use Rattle.vocabulary.specs.declared.plans.End.TheVariants.{Done, RolledBack, ShortOld, ShortTarget, Split, JoinReady, JoinBack, Join}
 use Rattle.vocabulary.specs.declared.plans.PidNote.{PidNote}
 use Rattle.definitions.specs.Tree.{Tree, Ends, Does}
-use Rattle.definitions.specs.Run.{Entry, Report, Sides, Lack}
+use Rattle.definitions.specs.Run.{Entry, Report, Sides, Lack, lacked_last}
 use Rattle.plan_walk.specs.Path.{Trail, Asks, rest_after, IsOver, IsOutcome, Reports}
 
 -- an entry that is asked for as another is, is the same call by the same master
@@ -46,7 +46,7 @@ same-outcome sides (Some (Does by order set branches)) lacking one other h k = a
 -- a path has one report
 pub one-report : (sides : Sides) (t : Trail) (one other : Report) → Reports sides t one → Reports sides t other → one ≡ other
 one-report sides t one other h k =
-    let outcomes = same-outcome sides t.rest t.lacking one.outcome other.outcome h.outcome k.outcome in
+    let outcomes = same-outcome sides t.rest (lacked_last t.lacked) one.outcome other.outcome h.outcome k.outcome in
     let causes = h.cause ∙ sym k.cause in
     let notes = h.note ∙ sym k.note in
     let readies = h.ready ∙ sym k.ready in

@@ -12,10 +12,11 @@ use Rattle.definitions.specs.Exits.{after_exits}
 use Rattle.definitions.specs.Target.{handover_for, sides_of}
 use Rattle.definitions.specs.Plans.{Turn, plan_tree}
 use Rattle.definitions.specs.Tree.{Tree, Ends, Does, Branches, Nothing, Branch, among, branch, call_of, reply_of}
-use Rattle.definitions.specs.Run.{Entry, Report, Sides, lacked_by}
+use Rattle.definitions.specs.Run.{Entry, Report, Sides, lacked_by, lacked_last}
 use Rattle.plan_walk.specs.Path.{Trail, advance, trail_after, IsOver, IsOutcome, Reports}
 use Rattle.definitions.specs.Run.{Progress, Ending, Lost, Ran, start_at, run_with, goes_with, noted, after_moment, after_call, answered, outcome_of}
-use Rattle.definitions.specs.Claims.{IsStart, HasDescriptors, Says, names_any, executing_at, executing_after, refused_among, heirs_of, run_of}
+use Rattle.definitions.specs.Claims.{IsStart, HasDescriptors, Says, names_any, refused_among, heirs_of, run_of}
+use Rattle.call_laws.specs.Pieces.{executing_at, executing_after}
 use Rattle.plan_executor.specs.Lawful.{trail_at, ending_of}
 use Rattle.plan_executor.specs.Enacted.{EndsSo}
 use Rattle.plan_executor.specs.Refusals.{HasPlan}
@@ -130,7 +131,7 @@ never-lost : (t : Table) (r : Record) (target : Target) → IsDue t r target →
 never-lost t r target due turns fates lost =
     let ran = run_of r target turns (faults_alone fates) t in
     let kept = due.ends t r turns (faults_alone fates) due.start due.descriptors due.has_plan (none-named fates (r.generation.image ∷ []) (heirs_of r target) 0 ran.entries) in
-    subst (λ e. Says r target (outcome_of (sides_of r target) e ran.last.lacking) t ran.last.table) lost kept.promise.ends.says
+    subst (λ e. Says r target (outcome_of (sides_of r target) e (lacked_last ran.last.lacked)) t ran.last.table) lost kept.promise.ends.says
 
 -- what comes of a run under some turns and faults alone
 pub record IsGood (t : Table) (r : Record) (target : Target) (entries : List Entry) (report : Report) : Type 0 where
@@ -154,7 +155,7 @@ is-good t r target entries report due h =
       reports =
           subst (λ (x : Trail). Reports sides x report) (sym trail)
           (subst (Reports sides (trail_at w.rest ran.last)) (sym h.is_run.report_is)
-          (record { outcome = outcome-so sides w.rest ran.last.lacking ran.ending w.over w.ending; cause = refl; note = refl; ready = refl }));
+          (record { outcome = outcome-so sides w.rest (lacked_last ran.last.lacked) ran.ending w.over w.ending; cause = refl; note = refl; ready = refl }));
     }
 
 -- it is refused, if at all, before its first entry

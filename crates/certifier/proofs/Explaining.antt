@@ -14,7 +14,8 @@ use Rattle.definitions.specs.Run.{Entry, Moment, quiet, Pattern}
 use Rattle.plan_walk.specs.Path.{Trail, begin, advance, rest_after, trail_after, Follows}
 use Rattle.rollback_plan.specs.Following.{follow}
 use Rattle.plan_executor.specs.Replays.{Replays}
-use Rattle.definitions.specs.Claims.{names_any, executing_at, executing_after, refused_among, heirs_of}
+use Rattle.definitions.specs.Claims.{names_any, refused_among, heirs_of}
+use Rattle.call_laws.specs.Pieces.{executing_at, executing_after}
 use Rattle.certifier.specs.Shown.{moment_shown, moments_shown, pattern_of, stepped_at}
 use Rattle.certifier.specs.Places.{Place, Start, place_at, place_after, place_after_all, AreNext}
 use Rattle.certifier.specs.Explained.{pattern_shown, IsExplainedBy}

@@ -11,7 +11,7 @@ use Rattle.vocabulary.specs.declared.targets.Target.{Target}
 use Rattle.definitions.specs.Target.{handover_for, sides_of}
 use Rattle.definitions.specs.Plans.{Turn, plan_tree}
 use Rattle.call_laws.specs.Lengths.{plan_length}
-use Rattle.definitions.specs.Run.{Entry, Report}
+use Rattle.definitions.specs.Run.{Entry, Report, lacked_last}
 use Rattle.plan_walk.specs.Path.{KeepsPathLaw}
 use Rattle.definitions.specs.Claims.{refused_among, refusal_of, heirs_of}
 use Rattle.kernel_model.specs.Pattern.{moment_at}
@@ -90,7 +90,7 @@ module _ (t : Table) (r : Record) (target : Target) (entries : List Entry) (repo
       let law : KeepsPathLaw (plan_tree r target turns) r.note sides entries report = record {
         path = next-follows handed heirs p entries next;
         report_is = h.reports;
-        lost = λ lost. absurd (not-lost sides trail.rest trail.lacking report.outcome (next-edges handed heirs p entries refl next) h.reports.outcome lost);
+        lost = λ lost. absurd (not-lost sides trail.rest (lacked_last trail.lacked) report.outcome (next-edges handed heirs p entries refl next) h.reports.outcome lost);
       } in
       whole-run r target turns (moment_at pattern) t (place_after_all handed heirs p entries).table entries report law (next-replays handed heirs (moment_at pattern) 0 p entries goes next)
 

@@ -4,7 +4,8 @@ use Rattle.definitions.specs.Plans.{Turn, New}
 use Rattle.definitions.specs.Run.{Entry}
 use Rattle.plan_walk.specs.Path.{Trail, Asks, advance, rest_after}
 use Rattle.rollback_plan.specs.Following.{follow}
-use Rattle.definitions.specs.Claims.{names_any, executing_at}
+use Rattle.definitions.specs.Claims.{names_any}
+use Rattle.call_laws.specs.Pieces.{executing_at}
 use Rattle.handover_text.specs.Reading.{handed_by}
 use Rattle.rollback_plan.specs.declared.cursor.Cursor.{Cursor}
 use Rattle.rollback_plan.specs.Places.{is_both, without_first}

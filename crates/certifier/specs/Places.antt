@@ -6,7 +6,8 @@ use Rattle.theorems.specs.Apart.{Plays}
 use Rattle.definitions.specs.Run.{Entry, Report, Sides, quiet}
 use Rattle.plan_walk.specs.Path.{Trail, Asks, Follows, IsOver, Reports, begin, advance, trail_after}
 use Rattle.rollback_plan.specs.Following.{follow}
-use Rattle.definitions.specs.Claims.{names_any, executing_at, executing_after}
+use Rattle.definitions.specs.Claims.{names_any}
+use Rattle.call_laws.specs.Pieces.{executing_at, executing_after}
 use Rattle.definitions.specs.Calls.{Handed}
 use Rattle.handover_text.specs.Reading.{handed_by}
 use Rattle.rollback_plan.specs.declared.plan.Plan.{Plan}

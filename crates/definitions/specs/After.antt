@@ -8,10 +8,10 @@ use Rattle.vocabulary.specs.Words.{is_none, option_map, option_and_then, unwrap_
 use Rattle.vocabulary.specs.Words.{has, first_from, Settings, then_some}
 use Rattle.vocabulary.specs.declared.reports.Outcome.TheVariants as outcome
 use Rattle.vocabulary.specs.declared.targets.Target.TheVariants as target
-use Rattle.definitions.specs.Table.{Address, FilePath, Generation, Table, Caller, live_master}
+use Rattle.definitions.specs.Table.{Address, Generation, Table, Caller, live_master}
 use Rattle.definitions.specs.Crew.{Posts, Crew, posts_of}
 use Rattle.definitions.specs.Record.{Listener, Record}
-use Rattle.definitions.specs.Target.{generation_wanted, Target}
+use Rattle.definitions.specs.Target.{generation_wanted, reload_generation, upgrade_generation, Target}
 use Rattle.definitions.specs.Tree.{Old, Target as TargetSide}
 use Rattle.vocabulary.specs.declared.reports.Report.{Report}
 use Rattle.vocabulary.specs.declared.reports.Outcome.{Outcome}
@@ -76,48 +76,23 @@ posts_wanted r _ = r.posts
 abbrev pub crew_wanted : Record → Target → Crew
 crew_wanted r t = record { generation = generation_wanted r t; posts = posts_wanted r t }
 
----- What a service stands on
+---- The record of a service
 
-pub record Setup : Type 0 where
-  pub listeners : List Listener
-  pub posts : Posts
-  pub generation : Generation
-  pub wanted : ℕ
-  pub retries : ℕ
-  pub timeout : ℕ
-
-abbrev pub setup_of : Record → Setup
-setup_of r = record {
-  listeners = r.listeners;
-  posts = r.posts;
-  generation = r.generation;
-  wanted = r.wanted;
-  retries = r.retries;
-  timeout = r.timeout;
-}
-
--- image and config numbers end at 4,294,967,295
-abbrev pub next_number : ℕ → Option ℕ
-next_number n = if nat_lt n 4294967295 then Some (n + 1) else None
-
-abbrev pub numbered : Option ℕ → Option ℕ → Option Generation
-numbered None config = None
-numbered (Some image) None = None
-numbered (Some image) (Some config) = Some (record { image = image; config = config })
+-- Image and config numbers end at 4,294,967,295.
+abbrev pub has_next : ℕ → Bool
+has_next n = nat_lt n 4294967295
 
 -- the generation of a reload
 abbrev pub next_config : Generation → Option Generation
-next_config g = numbered (Some g.image) (next_number g.config)
+next_config g = then_some (has_next g.config) (reload_generation g)
 
 -- the generation of an upgrade
 abbrev pub next_image : Generation → Option Generation
-next_image g = numbered (next_number g.image) (next_number g.config)
+next_image g = then_some (has_next g.image && has_next g.config) (upgrade_generation g)
 
--- the service of new settings
-abbrev pub renewed : Settings → Posts → Option (List Listener) → Option Generation → Option Setup
-renewed s posts None g = None
-renewed s posts (Some ls) None = None
-renewed s posts (Some ls) (Some g) = Some (record {
+-- a record with the service of new settings
+abbrev pub renewed : Record → Settings → Posts → Option (List Listener) → Option Generation → Option Record
+renewed r s posts (Some ls) (Some g) = Some (record r {
   listeners = ls;
   posts = posts;
   generation = g;
@@ -125,55 +100,38 @@ renewed s posts (Some ls) (Some g) = Some (record {
   retries = s.retries;
   timeout = s.timeout;
 })
+renewed r s posts _ _ = None
 
--- the target's service; a stop has none
-abbrev pub target_setup : Record → Target → Option Setup
-target_setup r (target.Workers n) = Some (record {
-  listeners = r.listeners;
-  posts = r.posts;
-  generation = r.generation;
-  wanted = n;
-  retries = r.retries;
-  timeout = r.timeout;
-})
-target_setup r (target.Reload s) =
-    renewed s (posts_wanted r (target.Reload s)) (reloaded s.listeners r.listeners) (next_config r.generation)
-target_setup r (target.Upgrade s) =
-    renewed s (posts_wanted r (target.Upgrade s)) (upgraded s.listeners r.listeners) (next_image r.generation)
-target_setup r (target.Attended s) =
-    renewed s (posts_wanted r (target.Attended s)) (upgraded s.listeners r.listeners) (next_image r.generation)
-target_setup r (target.Stop quick) = None
-target_setup r _ = Some (setup_of r)
+-- with the target's service; a stop has none
+abbrev pub target_record : Record → Target → Option Record
+target_record r (target.Workers n) = Some (record r { wanted = n })
+target_record r (target.Reload s) =
+    renewed r s (posts_wanted r (target.Reload s)) (reloaded s.listeners r.listeners) (next_config r.generation)
+target_record r (target.Upgrade s) =
+    renewed r s (posts_wanted r (target.Upgrade s)) (upgraded s.listeners r.listeners) (next_image r.generation)
+target_record r (target.Attended s) =
+    renewed r s (posts_wanted r (target.Attended s)) (upgraded s.listeners r.listeners) (next_image r.generation)
+target_record r (target.Stop quick) = None
+target_record r _ = Some r
 
--- the service that ran before; nothing runs after a stop
-abbrev pub old_setup : Record → Target → Option Setup
-old_setup r (target.Stop quick) = None
-old_setup r _ = Some (setup_of r)
+-- with the service that ran before; nothing runs after a stop
+abbrev pub old_record : Record → Target → Option Record
+old_record r (target.Stop quick) = None
+old_record r _ = Some r
 
--- the service that an outcome names
-abbrev pub setup_after : Outcome → Record → Target → Option Setup
-setup_after outcome.Done r t = target_setup r t
-setup_after outcome.RolledBack r t = old_setup r t
-setup_after (outcome.Degraded Old shortfalls) r t = old_setup r t
-setup_after (outcome.Degraded TargetSide shortfalls) r t = target_setup r t
-setup_after outcome.Lost r t = None
+-- with the service that an outcome names
+abbrev pub named_record : Outcome → Record → Target → Option Record
+named_record outcome.Done r t = target_record r t
+named_record outcome.RolledBack r t = old_record r t
+named_record (outcome.Degraded Old shortfalls) r t = old_record r t
+named_record (outcome.Degraded TargetSide shortfalls) r t = target_record r t
+named_record outcome.Lost r t = None
 
 ---- The next record
 
--- a record of what a report says of a service, run by the master of a process number
-abbrev pub recorded : Setup → Option FilePath → Report → ℕ → Record
-recorded s path report pid = record {
-  listeners = s.listeners;
-  posts = s.posts;
-  generation = s.generation;
-  ready = report.ready;
-  wanted = s.wanted;
-  retries = s.retries;
-  timeout = s.timeout;
-  pid_path = path;
-  note = report.note;
-  pid = pid;
-}
+-- with what a report says, and the process number of the master
+abbrev pub reported : Record → Report → ℕ → Record
+reported r report pid = record r { ready = report.ready; note = report.note; pid = pid }
 
 -- what a report might break of the rules of a record: it listens, at most 1024 workers are wanted, each ready number
 -- is below the wanted count, and there is a process number
@@ -181,27 +139,27 @@ abbrev pub keeps_rules : Record → Bool
 keeps_rules r =
     nat_le 1 (length r.listeners) && (nat_le r.wanted 1024 && (is_none (first_from r.wanted r.ready) && nat_le 1 r.pid))
 
-abbrev pub record_from : Option Setup → Option FilePath → Report → ℕ → Option Record
-record_from None path report pid = None
-record_from (Some s) path report pid = then_some (keeps_rules (recorded s path report pid)) (recorded s path report pid)
+abbrev pub record_from : Option Record → Report → ℕ → Option Record
+record_from None report pid = None
+record_from (Some r) report pid = then_some (keeps_rules (reported r report pid)) (reported r report pid)
 
 -- The record after a plan for a target: the service that the report names, with its ready numbers and its note. There
 -- is none after a stop or where the run was lost, nor where the result would break the rules of a record.
 abbrev pub record_after : Record → Target → Report → ℕ → Option Record
-record_after r t report pid = record_from (setup_after report.outcome r t) r.pid_path report pid
+record_after r t report pid = record_from (named_record report.outcome r t) report pid
 
 ---- Who reigns then
 
 -- the process number of the live master of a service's image
-abbrev pub master_of : Option Setup → Table → Option ℕ
+abbrev pub master_of : Option Record → Table → Option ℕ
 master_of None t = None
-master_of (Some s) t = option_map (λ (c : Caller). c.number) (live_master s.generation.image t.rows)
+master_of (Some r) t = option_map (λ (c : Caller). c.number) (live_master r.generation.image t.rows)
 
 -- The record that a report leaves to the master that reigns in the last table: the live master of the image of the
 -- service that the outcome names.
 abbrev pub next_record : Record → Target → Report → Table → Option Record
 next_record r t report last =
-    option_and_then (record_after r t report) (master_of (setup_after report.outcome r t) last)
+    option_and_then (record_after r t report) (master_of (named_record report.outcome r t) last)
 
 ---- An example: the gap in the descriptors is filled first
 

@@ -6,14 +6,14 @@
 use Rattle.std.specs.Prelude.{◌≡◌, ◌+◌, ◌&&◌, ◌==◌, ◌∷◌, ◌++◌, if◌then◌else◌}
 use Rattle.vocabulary.specs.Words.{refl, ℕ, Bool, true, false, nat_lt, not, List, [], Option, Some, None, filter}
 use Rattle.vocabulary.specs.Words.{count_by, length, zero, suc, bytes_eq, list_any, filter_map, Group}
-use Rattle.vocabulary.specs.Words.{numbers_below, is_in, then_some}
+use Rattle.vocabulary.specs.Words.{numbers_below, is_in, then_some, option_and_then}
 use Rattle.vocabulary.specs.declared.calls.Answer.TheVariants as answer
 use Rattle.vocabulary.specs.declared.calls.Fate.TheVariants as fate
 use Rattle.definitions.specs.Table.{Listener, FilePath, File, owner_at, is_draining, Address, Generation, Hold}
 use Rattle.definitions.specs.Table.{Starting, Ready, Draining, Process, Master, Worker, Foreign, Table, with_rows}
 use Rattle.definitions.specs.Table.{is_starting, is_ready, is_active, is_exited, is_any, is_worker, is_own, is_at}
 use Rattle.definitions.specs.Table.{is_held, Caller, live_master}
-use Rattle.definitions.specs.Exits.{change}
+use Rattle.definitions.specs.Exits.{change, without_exited}
 pub use Rattle.vocabulary.specs.declared.calls.Call.{Call}
 pub use Rattle.vocabulary.specs.declared.calls.Call.TheVariants.{OpenAt, CloseAt, Fork, AwaitReady, Quit, Kill, Census}
 pub use Rattle.vocabulary.specs.declared.calls.Call.TheVariants.{AwaitGone, SpawnMaster, Adopt, WritePid, MovePid}
@@ -89,10 +89,6 @@ is_of caller (Foreign n hs) = false
 abbrev pub lacks_address : Address → List Hold → List Hold
 lacks_address a hs = filter (λ h. not (is_at a h)) hs
 
--- The caller and its workers lose their holds of the address.
-abbrev pub closed : Caller → Address → Table → Stepped
-closed c a t = gives answer.Fine (each_row (change (is_of c.number) (with_holds (lacks_address a))) t)
-
 ---- Fork
 
 abbrev pub has_process_room : Table → Bool
@@ -134,31 +130,15 @@ abbrev pub made_draining : Process → Process
 made_draining (Worker n q g k s hs) = Worker n q g k Draining []
 made_draining p = p
 
--- The active worker of the name drains and holds nothing.
-abbrev pub quitted : Caller → Generation → ℕ → Table → Stepped
-quitted c g k t = gives answer.Fine (each_row (change (is_worker is_active c.number g k) made_draining) t)
-
--- All workers of the name leave, in any stance.
-abbrev pub killed : Caller → Generation → ℕ → Table → Stepped
-killed c g k t = gives answer.Fine (each_row (drop_where (is_worker is_any c.number g k)) t)
-
 ---- Census
 
--- the numbers below n that a Ready worker of the caller bears in the generation
-abbrev pub census_below : ℕ → ℕ → Generation → List Process → List ℕ
-census_below n caller g rows = filter (λ k. list_any (is_worker is_ready caller g k) rows) (numbers_below n)
-
--- worker numbers are below 1024
+-- the numbers that a Ready worker of the caller bears in the generation; worker numbers are below 1024
 unfoldable pub census_of : ℕ → Generation → List Process → List ℕ
-census_of caller g rows = census_below 1024 caller g rows
+census_of caller g rows = filter (λ k. list_any (is_worker is_ready caller g k) rows) (numbers_below 1024)
 
 abbrev pub is_exited_of : ℕ → Process → Bool
 is_exited_of caller (Worker n q g k s hs) = is_exited s && (q == caller)
 is_exited_of caller _ = false
-
--- The numbers of the caller's Ready workers; its Exited ones of every generation leave.
-abbrev pub counted : Caller → Generation → Table → Stepped
-counted c g t = gives (answer.Counted (census_of c.number g t.rows)) (each_row (drop_where (is_exited_of c.number)) t)
 
 ---- AwaitGone
 
@@ -197,10 +177,6 @@ abbrev pub is_of_image : ℕ → List Process → Process → Bool
 is_of_image image rows (Master n q i live hs) = i == image
 is_of_image image rows (Worker n q g k s hs) = list_any (is_image_row image q) rows
 is_of_image image rows (Foreign n hs) = false
-
--- The master of the image leaves, live or exited, and its workers do.
-abbrev pub terminated : ℕ → Table → Stepped
-terminated image t = gives answer.Fine (each_row (drop_where (is_of_image image t.rows)) t)
 
 ---- Adopt
 
@@ -248,10 +224,6 @@ with_file path owner (f ∷ files) =
 abbrev pub without_file : FilePath → List File → List File
 without_file path files = filter (λ f. not (bytes_eq f.path path)) files
 
--- The file has the caller's process number.
-abbrev pub written : Caller → FilePath → Table → Stepped
-written c path t = gives answer.Fine (with_files (with_file path c.number t.files) t)
-
 abbrev pub moved_if : Option ℕ → FilePath → FilePath → Table → Stepped
 moved_if None from to t = gives answer.IoFault t
 moved_if (Some owner) from to t = gives answer.Fine (with_files (with_file to owner (without_file from t.files)) t)
@@ -260,44 +232,38 @@ moved_if (Some owner) from to t = gives answer.Fine (with_files (with_file to ow
 abbrev pub moved : FilePath → FilePath → Table → Stepped
 moved from to t = moved_if (owner_at from t.files) from to t
 
--- The file is gone, also where it wasn't there.
-abbrev pub unlinked : FilePath → Table → Stepped
-unlinked path t = gives answer.Fine (with_files (without_file path t.files) t)
-
----- Leave
-
--- what becomes of a row where a master leaves: its own and its workers' leave, and a master whose parent it was gets
--- parent 1
-abbrev pub without_master : ℕ → Process → Option Process
-without_master m (Master n q i live hs) = if n == m then None else Some (Master n (if q == m then 1 else q) i live hs)
-without_master m (Worker n q g k s hs) = if q == m then None else Some (Worker n q g k s hs)
-without_master m (Foreign n hs) = Some (Foreign n hs)
-
--- The caller leaves, with its workers.
-abbrev pub departed : Caller → Table → Stepped
-departed c t = gives answer.Fine (each_row (without_master c.number) t)
-
 ---- The order in a call
 
 -- The call's own answer, to a caller that lives, of that image, which is handed that.
 abbrev pub own_step : Handed → ℕ → Caller → Call → Table → Stepped
 own_step handed image c (OpenAt a) t = opened c a t
-own_step handed image c (CloseAt a) t = closed c a t
+-- The caller and its workers lose their holds of the address.
+own_step handed image c (CloseAt a) t =
+    gives answer.Fine (each_row (change (is_of c.number) (with_holds (lacks_address a))) t)
 own_step handed image c (Fork g k fds) t = forked c g k fds t
 own_step handed image c (AwaitReady g k) t = awaited c g k t
-own_step handed image c (Quit g k) t = quitted c g k t
-own_step handed image c (Kill g k) t = killed c g k t
-own_step handed image c (Census g) t = counted c g t
+-- The active worker of the name drains and holds nothing.
+own_step handed image c (Quit g k) t =
+    gives answer.Fine (each_row (change (is_worker is_active c.number g k) made_draining) t)
+-- All workers of the name leave, in any stance.
+own_step handed image c (Kill g k) t = gives answer.Fine (each_row (drop_where (is_worker is_any c.number g k)) t)
+-- The numbers of the caller's Ready workers; its Exited ones of every generation leave.
+own_step handed image c (Census g) t =
+    gives (answer.Counted (census_of c.number g t.rows)) (each_row (drop_where (is_exited_of c.number)) t)
 own_step handed image c (AwaitGone g k) t = awaited_gone c g k t
 own_step handed image c (SpawnMaster i) t = spawned c i t
 own_step handed image c Adopt t = adopted handed image c t
-own_step handed image c (WritePid path) t = written c path t
+-- The file has the caller's process number.
+own_step handed image c (WritePid path) t = gives answer.Fine (with_files (with_file path c.number t.files) t)
 own_step handed image c (MovePid from to) t = moved from to t
-own_step handed image c (RemovePid path) t = unlinked path t
+-- The file is gone, also where it wasn't there.
+own_step handed image c (RemovePid path) t = gives answer.Fine (with_files (without_file path t.files) t)
 own_step handed image c (Alive i) t = asked_alive (live_master i t.rows) i t
-own_step handed image c Leave t = departed c t
+-- The caller leaves, with its workers, as it would by an exit of which nobody hears.
+own_step handed image c Leave t = gives answer.Fine (each_row (without_exited c.number (λ parent. false)) t)
 own_step handed image c (Usr1 g k) t = gives answer.Fine t
-own_step handed image c (TermMaster i) t = terminated i t
+-- The master of the image leaves, live or exited, and its workers do.
+own_step handed image c (TermMaster i) t = gives answer.Fine (each_row (drop_where (is_of_image i t.rows)) t)
 own_step handed image c (Ask n) t = gives answer.Go t
 
 -- the fault that a fate gives at a call; one that is not the call's, or whose condition does not hold, gives none
@@ -320,17 +286,14 @@ fault_of c (RemovePid path) fate.IoFault t = Some answer.IoFault
 fault_of c (Ask n) fate.Back t = Some answer.Back
 fault_of c _ _ t = None
 
-abbrev pub fault_at : Caller → Call → Option Fate → Table → Option Answer
-fault_at c call None t = None
-fault_at c call (Some f) t = fault_of c call f t
-
 abbrev pub fault_or_own : Option Answer → Handed → ℕ → Caller → Call → Table → Stepped
 fault_or_own (Some a) handed image c call t = gives a t
 fault_or_own None handed image c call t = own_step handed image c call t
 
 abbrev pub step_by : Handed → ℕ → Option Caller → Call → Option Fate → Table → Stepped
 step_by handed image None call f t = gives answer.MasterGone t
-step_by handed image (Some c) call f t = fault_or_own (fault_at c call f t) handed image c call t
+step_by handed image (Some c) call f t =
+    fault_or_own (option_and_then (λ fate. fault_of c call fate t) f) handed image c call t
 
 -- A call by the master of an image, which is handed that: master-gone where it is not live, without effect; then the
 -- fate, without effect; then the call's own answer.

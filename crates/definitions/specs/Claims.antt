@@ -42,20 +42,14 @@ names_any images [] = false
 names_any images (name.Master i ∷ es) = is_in images i || names_any images es
 names_any images (e ∷ es) = names_any images es
 
--- The executing masters, at a call and after it: those who leave are executing up to and at their Leave, and their
--- heirs from it on.
-abbrev pub executing_at : Call → List ℕ → List ℕ → List ℕ
-executing_at call executing heirs = if is_leave_call call then executing ++ heirs else executing
-
-abbrev pub executing_after : Call → List ℕ → List ℕ → List ℕ
-executing_after call executing heirs = if is_leave_call call then heirs else executing
-
--- The first moment, of those of these calls after the n-th, in which an executing master exits.
+-- The first moment, of those of these calls after the n-th, in which an executing master exits. Those who leave are
+-- executing up to and at their Leave, and their heirs from it on.
 abbrev pub refused_among : List ℕ → List ℕ → Pattern → ℕ → List Entry → Option ℕ
 refused_among executing heirs pattern n [] = None
 refused_among executing heirs pattern n (e ∷ entries) =
-    if names_any (executing_at e.call executing heirs) (pattern (n + 1)).exits then Some (n + 1)
-    else refused_among (executing_after e.call executing heirs) heirs pattern (n + 1) entries
+    let leaves = is_leave_call e.call in
+    if names_any (if leaves then executing ++ heirs else executing) (pattern (n + 1)).exits then Some (n + 1)
+    else refused_among (if leaves then heirs else executing) heirs pattern (n + 1) entries
 
 -- An upgrade's new master takes over.
 abbrev pub heirs_of : Record → Target → List ℕ
@@ -119,32 +113,28 @@ is_failed_removal paths _ _ = false
 abbrev pub was_failed : List FilePath → List Entry → Bool
 was_failed paths entries = list_any (λ e. is_failed_removal paths e.call e.answer) entries
 
--- the process number that the file at the path held in the first table of a run
-abbrev pub first_owner : FilePath → List Progress → Option ℕ
-first_owner path [] = None
-first_owner path (p ∷ passed) = owner_at path p.table.files
-
 -- Where the removal of the file failed, what was there at first is there: its owner, or no file. Else no file is there.
-abbrev pub IsRemoved : FilePath → Ran → Type 0
-IsRemoved path ran =
+abbrev pub IsRemoved : FilePath → Table → Ran → Type 0
+IsRemoved path first ran =
     owner_at path ran.last.table.files ≡
-    (if was_failed (path ∷ []) ran.entries then first_owner path ran.passed else None)
+    (if was_failed (path ∷ []) ran.entries then owner_at path first.files else None)
 
 -- The note after a stop: no file is there, or a removal failed and left what was there.
-abbrev pub StopNote : PidNote → Option FilePath → Ran → Type 0
-StopNote NoFile None ran = ⊤
-StopNote NoFile (Some path) ran =
+abbrev pub StopNote : PidNote → Option FilePath → Table → Ran → Type 0
+StopNote NoFile None first ran = ⊤
+StopNote NoFile (Some path) first ran =
     (owner_at path ran.last.table.files ≡ None) × (owner_at (oldbin path) ran.last.table.files ≡ None)
-StopNote Left (Some path) ran =
-    (was_failed (path ∷ oldbin path ∷ []) ran.entries ≡ true) × IsRemoved path ran × IsRemoved (oldbin path) ran
-StopNote note path ran = ⊥
+StopNote Left (Some path) first ran =
+    (was_failed (path ∷ oldbin path ∷ []) ran.entries ≡ true)
+    × IsRemoved path first ran × IsRemoved (oldbin path) first ran
+StopNote note path first ran = ⊥
 
 -- What a run leaves: after a stop there is no record, and no master and no worker.
-abbrev pub IsSucceeded : Record → Target → Ran → Type 0
-IsSucceeded r (Stop quick) ran =
+abbrev pub IsSucceeded : Record → Target → Table → Ran → Type 0
+IsSucceeded r (Stop quick) first ran =
     (next_record r (Stop quick) (report_of (sides_of r (Stop quick)) ran) ran.last.table ≡ None)
-    × (list_any is_own ran.last.table.rows ≡ false) × StopNote ran.last.note r.pid_path ran
-IsSucceeded r target ran = AgreesAfter r target (report_of (sides_of r target) ran) ran.last.table
+    × (list_any is_own ran.last.table.rows ≡ false) × StopNote ran.last.note r.pid_path first ran
+IsSucceeded r target first ran = AgreesAfter r target (report_of (sides_of r target) ran) ran.last.table
 
 ---- What is kept throughout
 
@@ -208,7 +198,7 @@ IsPaid retries _ p = ⊤
 -- The run of a target's plan ends as its report says, and keeps what it has to.
 pub record EndsAsReported (t : Table) (r : Record) (target : Target) (ran : Ran) : Type 0 where
   pub says : Says r target (report_of (sides_of r target) ran).outcome t ran.last.table
-  pub after : IsSucceeded r target ran
+  pub after : IsSucceeded r target t ran
   pub kept : AllByRecursion (λ p. Kept (service t) (want r target) t p.table) ran.passed
   pub blamed : AllByRecursion IsBlamed ran.passed
   pub cause : HasCause (report_of (sides_of r target) ran).outcome ran.last.cause

@@ -56,13 +56,6 @@ abbrev pub listeners_under : Option (List ℕ) → List Listener → List Listen
 listeners_under None ls = ls
 listeners_under (Some fds) ls = filter (λ (l : Listener). is_in fds l.descriptor) ls
 
--- as a master's descriptors lay it out
-abbrev pub layout_at : Posts → List Listener → Layout
-layout_at posts ls = record {
-  groups = posts.groups;
-  listens = λ place a. has (map (λ (l : Listener). l.address) (listeners_under (fds_in posts place) ls)) a;
-}
-
 -- how many of these worker numbers an address counts: those whose group listens there
 abbrev pub served : Layout → List ℕ → Address → ℕ
 served layout numbers a = count_by (λ k. layout.listens (group_of layout.groups k) a) numbers

@@ -23,30 +23,18 @@ use Rattle.definitions.specs.After.{crew_wanted}
 pub use Rattle.vocabulary.specs.declared.plans.Turn.{Turn}
 pub use Rattle.vocabulary.specs.declared.plans.Turn.TheVariants.{New, Old}
 
----- Edges
+---- Edges and steps
 
 -- an edge that sets no note
 abbrev pub on : List Reply → Tree → Branches → Branches
 on replies rest more = Branch replies None rest more
 
-abbrev pub fork_edges : Tree → Tree → Branches
-fork_edges ok bad = on (reply.Forked ∷ []) ok (on (reply.Again ∷ reply.NoMemory ∷ []) bad Nothing)
-
-abbrev pub await_edges : Tree → Tree → Tree → Branches
-await_edges ok gone late = on (reply.IsReady ∷ []) ok (on (reply.Gone ∷ []) gone (on (reply.Late ∷ []) late Nothing))
+abbrev pub then_edge : Tree → Branches
+then_edge rest = on (reply.Fine ∷ []) rest Nothing
 
 -- whether the worker is ready or gone is no matter
 abbrev pub await_any_edges : Tree → Tree → Branches
 await_any_edges next late = on (reply.IsReady ∷ reply.Gone ∷ []) next (on (reply.Late ∷ []) late Nothing)
-
-abbrev pub then_edge : Tree → Branches
-then_edge rest = on (reply.Fine ∷ []) rest Nothing
-
-abbrev pub census_edges : Tree → Tree → Branches
-census_edges full short = on (reply.Full ∷ []) full (on (reply.Short ∷ []) short Nothing)
-
-abbrev pub gone_edges : Tree → Tree → Branches
-gone_edges gone late = on (reply.Gone ∷ []) gone (on (reply.Late ∷ []) late Nothing)
 
 -- the rest is the same, and the note is another
 abbrev pub note_edges : Option PidNote → Option PidNote → Tree → Branches
@@ -55,8 +43,15 @@ note_edges fine fault rest = Branch (reply.Fine ∷ []) fine rest (Branch (reply
 abbrev pub does : ℕ → Call → Branches → Tree
 does by call branches = Does by (Make call) [] branches
 
-abbrev pub census : ℕ → Generation → List ℕ → Branches → Tree
-census by g set branches = Does by (Make (Census g)) set branches
+-- a call, with the set of a census: the plain reply goes on, and any other elsewhere
+abbrev pub either : ℕ → Call → List ℕ → Tree → Tree → Tree
+either by call set ok bad =
+    Does by (Make call) set (on (plain_reply call ∷ []) ok (on (drop 1 (replies_to call)) bad Nothing))
+
+-- Calls that have one reply alone, in their order.
+abbrev pub tells : ℕ → List Call → Tree → Tree
+tells by [] rest = rest
+tells by (call ∷ calls) rest = does by call (then_edge (tells by calls rest))
 
 ---- Settle
 
@@ -72,40 +67,36 @@ short_end side.Target = ShortTarget
 abbrev pub round : ℕ → Crew → Tree → Tree
 round by crew rest =
     Does by (ForkLacking crew) []
-    (fork_edges
+    (on (reply.Forked ∷ [])
     (Does by (AwaitLacking crew.generation) []
     (await_any_edges rest (Does by (KillLacking crew.generation) [] (then_edge rest))))
-    rest)
+    (on (reply.Again ∷ reply.NoMemory ∷ []) rest Nothing))
 
 -- A census of the set: full ends well; short makes a round and counts again, as long as rounds are left.
 abbrev pub settle : ℕ → Crew → List ℕ → Side → ℕ → Tree
 settle by crew set side zero =
-    census by crew.generation set (census_edges (Ends (full_end side)) (Ends (short_end side)))
+    either by (Census crew.generation) set (Ends (full_end side)) (Ends (short_end side))
 settle by crew set side (suc rounds) =
-    census by crew.generation set (census_edges (Ends (full_end side)) (round by crew (settle by crew set side rounds)))
+    either by (Census crew.generation) set (Ends (full_end side)) (round by crew (settle by crew set side rounds))
 
----- Starts and quits
+---- Starts, waits and opens
 
 -- Fork these numbers upwards. The first failed fork leads to `bad` of those that were forked, the last first.
 abbrev pub forks : ℕ → Crew → List ℕ → List ℕ → (List ℕ → Tree) → (List ℕ → Tree) → Tree
 forks by crew [] done ok bad = ok done
 forks by crew (k ∷ ks) done ok bad =
-    does by (fork_of crew k) (fork_edges (forks by crew ks (k ∷ done) ok bad) (bad done))
+    either by (fork_of crew k) [] (forks by crew ks (k ∷ done) ok bad) (bad done)
 
 -- Wait for these numbers upwards. The first that fails, killed where it is late, leads to `bad`.
 abbrev pub awaits : ℕ → Generation → List ℕ → Tree → Tree → Tree
 awaits by g [] ok bad = ok
 awaits by g (k ∷ ks) ok bad =
-    does by (AwaitReady g k) (await_edges (awaits by g ks ok bad) bad (does by (Kill g k) (then_edge bad)))
+    does by (AwaitReady g k) (on (reply.IsReady ∷ []) (awaits by g ks ok bad)
+    (on (reply.Gone ∷ []) bad (on (reply.Late ∷ []) (tells by (Kill g k ∷ []) bad) Nothing)))
 
 -- Fork all, then wait for all. A failure leads to `bad` of those that were forked, the last first.
 abbrev pub starts : ℕ → Crew → List ℕ → Tree → (List ℕ → Tree) → Tree
 starts by crew ks ok bad = forks by crew ks [] (λ forked. awaits by crew.generation ks ok (bad forked)) bad
-
--- Quit these numbers in their order.
-abbrev pub quits : ℕ → Generation → List ℕ → Tree → Tree
-quits by g [] rest = rest
-quits by g (k ∷ ks) rest = does by (Quit g k) (then_edge (quits by g ks rest))
 
 -- Fork these numbers upwards, whatever is answered.
 abbrev pub forks_any : ℕ → Crew → List ℕ → Tree → Tree
@@ -118,39 +109,23 @@ abbrev pub awaits_any : ℕ → Generation → List ℕ → Tree → Tree
 awaits_any by g [] rest = rest
 awaits_any by g (k ∷ ks) rest =
     does by (AwaitReady g k)
-    (await_any_edges (awaits_any by g ks rest) (does by (Kill g k) (then_edge (awaits_any by g ks rest))))
+    (await_any_edges (awaits_any by g ks rest) (tells by (Kill g k ∷ []) (awaits_any by g ks rest)))
 
 -- Fork all, then wait for all, going on after a failure.
 abbrev pub starts_any : ℕ → Crew → List ℕ → Tree → Tree
 starts_any by crew ks rest = forks_any by crew ks (awaits_any by crew.generation ks rest)
 
-abbrev pub kills : ℕ → Generation → List ℕ → Tree → Tree
-kills by g [] rest = rest
-kills by g (k ∷ ks) rest = does by (Kill g k) (then_edge (kills by g ks rest))
-
-abbrev pub usr1s : ℕ → Generation → List ℕ → Tree → Tree
-usr1s by g [] rest = rest
-usr1s by g (k ∷ ks) rest = does by (Usr1 g k) (then_edge (usr1s by g ks rest))
-
 -- Wait until these are gone, in their order; one that is late is killed.
 abbrev pub awaits_gone : ℕ → Generation → List ℕ → Tree → Tree
 awaits_gone by g [] rest = rest
 awaits_gone by g (k ∷ ks) rest =
-    does by (AwaitGone g k)
-    (gone_edges (awaits_gone by g ks rest) (does by (Kill g k) (then_edge (awaits_gone by g ks rest))))
-
----- Opens and closes
+    either by (AwaitGone g k) [] (awaits_gone by g ks rest) (tells by (Kill g k ∷ []) (awaits_gone by g ks rest))
 
 -- Open these in their order. The first that fails leads to `bad` of those that were opened, the last first.
 abbrev pub opens : ℕ → List Address → List Address → (List Address → Tree) → (List Address → Tree) → Tree
 opens by [] done ok bad = ok done
 opens by (a ∷ rest) done ok bad =
-    does by (OpenAt a) (on (reply.Opened ∷ []) (opens by rest (a ∷ done) ok bad)
-    (on (reply.InUse ∷ reply.TooMany ∷ reply.Denied ∷ reply.NoMemory ∷ []) (bad done) Nothing))
-
-abbrev pub closes : ℕ → List Address → Tree → Tree
-closes by [] rest = rest
-closes by (a ∷ more) rest = does by (CloseAt a) (then_edge (closes by more rest))
+    either by (OpenAt a) [] (opens by rest (a ∷ done) ok bad) (bad done)
 
 ---- One master
 
@@ -159,42 +134,43 @@ closes by (a ∷ more) rest = does by (CloseAt a) (then_edge (closes by more res
 abbrev pub workers_tree : ℕ → Crew → List ℕ → ℕ → ℕ → Tree
 workers_tree by crew ready retries n =
     starts by crew (filter (λ k. not (is_in ready k)) (numbers_below n))
-    (quits by crew.generation (reverse (filter (λ k. not (nat_lt k n)) ready))
+    (tells by (map (Quit crew.generation) (reverse (filter (λ k. not (nat_lt k n)) ready)))
     (settle by crew (numbers_below n) side.Target retries))
-    (λ forked. quits by crew.generation forked (settle by crew ready side.Old retries))
+    (λ forked. tells by (map (Quit crew.generation) forked) (settle by crew ready side.Old retries))
 
 -- Those that are overdue and ready are killed; each wanted number that isn't ready or is overdue is started, going on
 -- after a failure; and the target settles.
 abbrev pub mend_tree : ℕ → Crew → List ℕ → ℕ → List ℕ → ℕ → Tree
 mend_tree by crew ready retries overdue wanted =
-    kills by crew.generation (filter (is_in ready) overdue)
+    tells by (map (Kill crew.generation) (filter (is_in ready) overdue))
     (starts_any by crew (filter (λ k. not (is_in ready k) || is_in overdue k) (numbers_below wanted))
     (settle by crew (numbers_below wanted) side.Target retries))
 
 -- Each ready worker is told, and the target settles.
 abbrev pub reopen_tree : ℕ → Crew → List ℕ → ℕ → Tree
-reopen_tree by crew ready retries = usr1s by crew.generation ready (settle by crew ready side.Target retries)
+reopen_tree by crew ready retries =
+    tells by (map (Usr1 crew.generation) ready) (settle by crew ready side.Target retries)
 
 -- Back from a reload: the new workers quit, what was opened is closed, the last first, and the old side settles.
 abbrev pub reload_back : ℕ → Crew → Crew → List ℕ → ℕ → List Address → List ℕ → Tree
 reload_back by old new ready retries opened forked =
-    quits by new.generation forked (closes by opened (settle by old ready side.Old retries))
+    tells by (map (Quit new.generation) forked) (tells by (map CloseAt opened) (settle by old ready side.Old retries))
 
 -- On with a reload: the old workers quit, the dropped addresses are closed in the old order, and the target settles.
 abbrev pub reload_on : ℕ → Crew → Crew → List ℕ → ℕ → List Address → ℕ → Tree
 reload_on by old new ready retries dropped n =
-    quits by old.generation (reverse ready) (closes by dropped (settle by new (numbers_below n) side.Target retries))
+    tells by (map (Quit old.generation) (reverse ready))
+    (tells by (map CloseAt dropped) (settle by new (numbers_below n) side.Target retries))
 
 -- The added addresses are opened, the new workers started and counted; if all is well, it goes on, and else back.
 abbrev pub reload_tree : ℕ → Crew → Crew → List ℕ → ℕ → List Address → List Address → ℕ → Tree
 reload_tree by old new ready retries held wanted n =
     opens by (only_in wanted held) []
     (λ opened. starts by new (numbers_below n)
-    (census by new.generation (numbers_below n) (census_edges
-    (reload_on by old new ready retries (only_in held wanted) n)
-    (reload_back by old new ready retries opened (reverse (numbers_below n)))))
+    (either by (Census new.generation) (numbers_below n) (reload_on by old new ready retries (only_in held wanted) n)
+    (reload_back by old new ready retries opened (reverse (numbers_below n))))
     (reload_back by old new ready retries opened))
-    (λ opened. closes by opened (settle by old ready side.Old retries))
+    (λ opened. tells by (map CloseAt opened) (settle by old ready side.Old retries))
 
 ---- Stop
 
@@ -216,13 +192,13 @@ removes by (Some path) note rest =
     does by (RemovePid path) (note_edges (Some NoFile) (Some Left) (remove_oldbin_too by path (has_oldbin note) rest))
 
 abbrev pub stopped : ℕ → Tree
-stopped by = does by Leave (then_edge (Ends Done))
+stopped by = tells by (Leave ∷ []) (Ends Done)
 
 -- The workers quit and are waited for, or are killed at once; the files are removed, and the master leaves.
 abbrev pub stop_tree : ℕ → Generation → List ℕ → Option FilePath → PidNote → Bool → Tree
-stop_tree by g ready path note true = kills by g ready (removes by path note (stopped by))
+stop_tree by g ready path note true = tells by (map (Kill g) ready) (removes by path note (stopped by))
 stop_tree by g ready path note false =
-    quits by g (reverse ready) (awaits_gone by g (reverse ready) (removes by path note (stopped by)))
+    tells by (map (Quit g) (reverse ready)) (awaits_gone by g (reverse ready) (removes by path note (stopped by)))
 
 ---- Two parts of a plan that two masters carry out side by side: under a list of turns they are an ordinary tree
 
@@ -300,16 +276,16 @@ new_part crew held wanted n =
 -- The old master meanwhile mends its own workers: it counts those that were ready, and starts what is lacking, so
 -- many rounds; what the last count says is no matter.
 abbrev pub old_part : ℕ → Crew → List ℕ → ℕ → Tree
-old_part by crew ready zero = census by crew.generation ready (on (reply.Full ∷ reply.Short ∷ []) (Ends Join) Nothing)
+old_part by crew ready zero =
+    Does by (Make (Census crew.generation)) ready (on (reply.Full ∷ reply.Short ∷ []) (Ends Join) Nothing)
 old_part by crew ready (suc rounds) =
-    census by crew.generation ready (census_edges (Ends Join) (round by crew (old_part by crew ready rounds)))
+    either by (Census crew.generation) ready (Ends Join) (round by crew (old_part by crew ready rounds))
 
 -- The pid file goes aside, where it isn't yet.
 abbrev pub move_aside : ℕ → Option FilePath → PidNote → Tree → Tree → Tree
 move_aside by None note ok bad = ok
 move_aside by (Some path) AtOldbin ok bad = ok
-move_aside by (Some path) note ok bad =
-    does by (MovePid path (oldbin path)) (on (reply.Fine ∷ []) ok (on (reply.IoFault ∷ []) bad Nothing))
+move_aside by (Some path) note ok bad = either by (MovePid path (oldbin path)) [] ok bad
 
 -- The pid file goes back to its path.
 abbrev pub move_back : ℕ → Option FilePath → Tree → Tree
@@ -327,12 +303,12 @@ back_alone by crew ready retries path = move_back by path (settle by crew ready 
 
 abbrev pub back_from : ℕ → ℕ → Crew → List ℕ → ℕ → Option FilePath → Tree
 back_from by heir crew ready retries path =
-    does by (TermMaster heir) (then_edge (back_alone by crew ready retries path))
+    tells by (TermMaster heir ∷ []) (back_alone by crew ready retries path)
 
 -- Back after the old workers are gone: they are started again.
 abbrev pub back_late : ℕ → ℕ → Crew → List ℕ → ℕ → Option FilePath → Tree
 back_late by heir crew ready retries path =
-    does by (TermMaster heir) (then_edge (starts_any by crew ready (back_alone by crew ready retries path)))
+    tells by (TermMaster heir ∷ []) (starts_any by crew ready (back_alone by crew ready retries path))
 
 -- Back once the old workers are gone: they are started again while the new master still serves, and only then is it
 -- ended.
@@ -341,24 +317,21 @@ back_serving by heir crew ready retries path = starts_any by crew ready (back_fr
 
 -- An attended upgrade asks the operator whether to go on or back; any other goes on.
 abbrev pub asks : Bool → ℕ → ℕ → Tree → Tree → Tree
-asks true by question on_go on_back =
-    does by (Ask question) (on (reply.Go ∷ []) on_go (on (reply.Back ∷ []) on_back Nothing))
+asks true by question on_go on_back = either by (Ask question) [] on_go on_back
 asks false by question on_go on_back = on_go
 
 -- The old master leaves; the new one removes the old file and settles.
 abbrev pub hand_over : ℕ → Crew → ℕ → Option FilePath → ℕ → Tree
 hand_over by new retries path n =
-    does by Leave
-    (then_edge (remove_oldbin new.generation.image path
-    (settle new.generation.image new (numbers_below n) side.Target retries)))
+    tells by (Leave ∷ [])
+    (remove_oldbin new.generation.image path
+    (settle new.generation.image new (numbers_below n) side.Target retries))
 
 -- If the new master still lives, the old one leaves.
 abbrev pub retire : ℕ → Crew → Crew → List ℕ → ℕ → Option FilePath → ℕ → Tree
 retire by old new ready retries path n =
     let heir = new.generation.image in
-    does by (Alive heir)
-    (on (reply.IsAlive ∷ []) (hand_over by new retries path n)
-    (on (reply.Gone ∷ []) (back_late by heir old ready retries path) Nothing))
+    either by (Alive heir) [] (hand_over by new retries path n) (back_late by heir old ready retries path)
 
 -- The old workers quit and are waited for; then the old master retires. An attended upgrade asks before they quit and
 -- once they are gone.
@@ -366,12 +339,9 @@ abbrev pub relieve : Bool → ℕ → Crew → Crew → List ℕ → ℕ → Opt
 relieve attended by old new ready retries path n =
     let heir = new.generation.image in
     asks attended by 1
-    (quits by old.generation (reverse ready) (awaits_gone by old.generation (reverse ready)
+    (tells by (map (Quit old.generation) (reverse ready)) (awaits_gone by old.generation (reverse ready)
     (asks attended by 2 (retire by old new ready retries path n) (back_serving by heir old ready retries path))))
     (back_from by heir old ready retries path)
-
-abbrev pub spawn_edges : Tree → Tree → Branches
-spawn_edges ok bad = on (reply.Spawned ∷ []) ok (on (reply.Again ∷ reply.NoMemory ∷ reply.NoImage ∷ []) bad Nothing)
 
 -- Both parts have ended and the new master is ready: it writes its pid, and is counted.
 abbrev pub taken_over : Bool → ℕ → Crew → Crew → List ℕ → ℕ → Option FilePath → ℕ → Tree → Tree
@@ -386,10 +356,10 @@ upgrade_tree attended by old new ready retries path note held wanted n turns =
     let heir = new.generation.image in
     let back = back_from by heir old ready retries path in
     move_aside by path note
-    (does by (SpawnMaster heir) (spawn_edges
+    (either by (SpawnMaster heir) []
     (weave (joined (taken_over attended by old new ready retries path n back) back)
     (new_part new held wanted n) turns (old_part by old ready retries))
-    (back_alone by old ready retries path)))
+    (back_alone by old ready retries path))
     (settle by old ready side.Old retries)
 
 ---- The plan of a target
@@ -410,7 +380,10 @@ plan_tree r (Attended s) turns =
     (addresses_of r) s.listeners s.workers turns
 plan_tree r (Stop quick) turns = stop_tree r.generation.image r.generation r.ready r.pid_path r.note quick
 
----- An example: nobody quits, so what follows is the whole tree
+---- An example: one worker is told to reopen its logs, and then counted
 
-example : (by : ℕ) (g : Generation) (rest : Tree) → quits by g [] rest ≡ rest
-example by g rest = refl
+example :
+    (by : ℕ) (crew : Crew) → reopen_tree by crew (7 ∷ []) 0
+    ≡ does by (Usr1 crew.generation 7) (on (reply.Fine ∷ [])
+    (either by (Census crew.generation) (7 ∷ []) (Ends Done) (Ends ShortTarget)) Nothing)
+example by crew = refl

@@ -4,10 +4,10 @@
 
 use Rattle.std.specs.Prelude.{◌≡◌, ◌≤◌, ◌<◌, ◌++◌}
 use Rattle.vocabulary.specs.Words.{refl, ℕ, true, List, Option, Some, None, map, length, count_by, is_some, codes}
-use Rattle.vocabulary.specs.Words.{⊤, list_any, AllByRecursion, is_in, HasSuffixRoom, AreGroups}
+use Rattle.vocabulary.specs.Words.{⊤, list_any, AllByRecursion, is_in, has, HasSuffixRoom, AreGroups}
 use Rattle.definitions.specs.Table.{Address, FilePath, Generation, Hold, Starting, Ready, Process, Worker, File, Table}
 use Rattle.definitions.specs.Table.{is_master, is_ready, is_worker, live_master, owner_at}
-use Rattle.definitions.specs.Crew.{Posts, Crew, share, Layout, layout_at}
+use Rattle.definitions.specs.Crew.{Posts, Crew, share, Layout, listeners_under, fds_in}
 pub use Rattle.vocabulary.specs.declared.plans.PidNote.{PidNote}
 pub use Rattle.vocabulary.specs.declared.plans.PidNote.TheVariants.{InPlace, AtOldbin, OldbinLeft, Left, NoFile}
 pub use Rattle.definitions.specs.Table.{Listener}
@@ -45,8 +45,12 @@ addresses_of r = map (λ (l : Listener). l.address) r.listeners
 abbrev pub crew_of : Record → Crew
 crew_of r = record { generation = r.generation; posts = r.posts }
 
+-- as a master's descriptors lay it out
 abbrev pub layout_of : Record → Layout
-layout_of r = layout_at r.posts r.listeners
+layout_of r = record {
+  groups = r.posts.groups;
+  listens = λ place a. has (map (λ (l : Listener). l.address) (listeners_under (fds_in r.posts place) r.listeners)) a;
+}
 
 ---- When a record agrees with a table
 

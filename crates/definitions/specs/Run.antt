@@ -3,7 +3,8 @@
 -- Our own. One moment is: some children exit, and then one call by one master takes effect.
 
 use Rattle.std.specs.Prelude.{◌≡◌, ◌+◌, ◌-◌, ◌==◌, ◌∷◌, if◌then◌else◌}
-use Rattle.vocabulary.specs.Words.{refl, ℕ, not, Bool, true, false, List, [], Option, Some, None, lacks, shortfalls_of}
+use Rattle.vocabulary.specs.Words.{refl, ℕ, not, Bool, true, false, List, [], Option, None, lacks, shortfalls_of}
+use Rattle.vocabulary.specs.Words.{then_some, option_or, unwrap_or}
 use Rattle.vocabulary.specs.declared.calls.Answer.TheVariants as answer
 use Rattle.vocabulary.specs.declared.reports.Outcome.TheVariants as outcome
 use Rattle.definitions.specs.Table.{Table}
@@ -36,14 +37,15 @@ abbrev pub ready_after : Answer → List ℕ → List ℕ
 ready_after (answer.Counted ns) ready = ns
 ready_after _ ready = ready
 
-abbrev pub lacking_after : List ℕ → Answer → List ℕ → List ℕ
-lacking_after set (answer.Counted ns) lacking = lacks set ns
-lacking_after set _ lacking = lacking
-
 -- what the last count of a master lacked
 abbrev pub lacked_by : ℕ → List Lack → List ℕ
 lacked_by by [] = []
 lacked_by by (lack ∷ lacked) = if lack.by == by then lack.numbers else lacked_by by lacked
+
+-- what the last count of all lacked
+abbrev pub lacked_last : List Lack → List ℕ
+lacked_last [] = []
+lacked_last (lack ∷ lacked) = lack.numbers
 
 -- the newest of another master
 abbrev pub beside : ℕ → List Lack → List Lack
@@ -59,11 +61,6 @@ lacked_after by set _ lacked = lacked
 -- a call that is not answered plainly, or a census that lacks a number of its set
 abbrev pub went_wrong : Call → Reply → Bool
 went_wrong call r = not (same_reply r (plain_reply call))
-
-abbrev pub first_cause : Option ℕ → Bool → ℕ → Option ℕ
-first_cause (Some k) wrong n = Some k
-first_cause None true n = Some n
-first_cause None false n = None
 
 -- Whether an answer counts as a fault: each one that is not plain, except a count and that the operator goes back.
 abbrev pub is_fault : Call → Answer → Bool
@@ -87,13 +84,12 @@ faults_since question [] faults = 0
 faults_since question (b ∷ returns) faults =
     if b.question == question then faults - b.faults else faults_since question returns faults
 
--- How far a run has come: its table, the number of calls made, the last count and what it lacked of its set, the
+-- How far a run has come: its table, the number of calls made, the last count, what the last counts lacked, the
 -- faults and losses so far, where the operator went back, the first call that went wrong, and the note.
 pub record Progress : Type 0 where
   pub table : Table
   pub calls : ℕ
   pub ready : List ℕ
-  pub lacking : List ℕ
   pub lacked : List Lack
   pub faults : ℕ
   pub losses : ℕ
@@ -102,39 +98,29 @@ pub record Progress : Type 0 where
   pub note : PidNote
 
 abbrev pub start_at : Table → PidNote → Progress
-start_at t note = record {
-  table = t;
-  calls = 0;
-  ready = [];
-  lacking = [];
-  lacked = [];
-  faults = 0;
-  losses = 0;
-  returns = [];
-  cause = None;
-  note = note;
-}
+start_at t note =
+    record
+    { table = t; calls = 0; ready = []; lacked = []; faults = 0; losses = 0; returns = []; cause = None; note = note }
 
 -- the middle of a moment, after its exits
 abbrev pub after_moment : List Name → Progress → Progress
 after_moment es p = record p { table = after_exits es p.table; losses = p.losses + losses_of es p.table }
 
 abbrev pub after_call : ℕ → Order → List ℕ → Stepped → Progress → Progress
-after_call by order set s p = record p {
-  table = s.table;
-  calls = p.calls + 1;
-  ready = ready_after s.answer p.ready;
-  lacking = lacking_after set s.answer p.lacking;
-  lacked = lacked_after by set s.answer p.lacked;
-  faults = if is_fault (call_of order (lacked_by by p.lacked)) s.answer then p.faults + 1 else p.faults;
-  returns = returns_after (call_of order (lacked_by by p.lacked)) s.answer p.faults p.returns;
-  cause =
-      first_cause p.cause (went_wrong (call_of order (lacked_by by p.lacked)) (reply_of set s.answer)) (p.calls + 1);
-}
+after_call by order set s p =
+    let call = call_of order (lacked_by by p.lacked) in
+    record p {
+      table = s.table;
+      calls = p.calls + 1;
+      ready = ready_after s.answer p.ready;
+      lacked = lacked_after by set s.answer p.lacked;
+      faults = if is_fault call s.answer then p.faults + 1 else p.faults;
+      returns = returns_after call s.answer p.faults p.returns;
+      cause = option_or p.cause (then_some (went_wrong call (reply_of set s.answer)) (p.calls + 1));
+    }
 
 abbrev pub noted : Option PidNote → Progress → Progress
-noted None p = p
-noted (Some n) p = record p { note = n }
+noted said p = record p { note = unwrap_or said p.note }
 
 -- what a step's call, which is handed that, is answered after the exits of its moment
 abbrev pub answered : Handed → ℕ → Order → Option Fate → Progress → Stepped
@@ -199,7 +185,7 @@ outcome_of sides Lost lacking = outcome.Lost
 -- What the report of a run says, by the groups of both sides.
 abbrev pub report_of : Sides → Ran → Report
 report_of sides ran = record {
-  outcome = outcome_of sides ran.ending ran.last.lacking;
+  outcome = outcome_of sides ran.ending (lacked_last ran.last.lacked);
   cause = ran.last.cause;
   note = ran.last.note;
   ready = ran.last.ready;

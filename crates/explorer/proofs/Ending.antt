@@ -3,7 +3,7 @@ use Rattle.std.proofs.Common.{◌≡◌, ℕ, List, Option, Some, None, refl, sy
 use Rattle.vocabulary.specs.declared.reports.Report.{Report}
 use Rattle.vocabulary.specs.declared.reports.Outcome.{Outcome}
 use Rattle.definitions.specs.Tree.{Tree, Ends, Does}
-use Rattle.definitions.specs.Run.{Sides, Pattern, Progress, Ran, outcome_of, report_of}
+use Rattle.definitions.specs.Run.{Sides, Pattern, Progress, Ran, outcome_of, report_of, lacked_last}
 use Rattle.plan_walk.specs.Path.{Trail, IsOver, IsOutcome, Reports}
 use Rattle.definitions.specs.Calls.{Handed}
 use Rattle.plan_executor.specs.Lawful.{trail_at, ending_of}
@@ -29,8 +29,8 @@ pub reported : (handed : Handed) (sides : Sides) (t : Trail) (q : Pattern) (p : 
 reported handed sides t q p ran report over trail alike is =
     let ending = sym (ending-of handed t.rest q p over) ∙ sym alike.ending in
     let last : p ≡ ran.last = sym (last-of handed t.rest q p over) ∙ sym alike.last in
-    let lacking : t.lacking ≡ ran.last.lacking = ap (λ (x : Trail). x.lacking) (sym trail) ∙ ap (λ (x : Progress). x.lacking) last in
-    let outcome = outcome-of sides t.rest t.lacking report.outcome is.outcome ∙ ap (λ e. outcome_of sides e t.lacking) ending ∙ ap (outcome_of sides ran.ending) lacking in
+    let lacking : (lacked_last t.lacked) ≡ (lacked_last ran.last.lacked) = ap (λ (x : Trail). lacked_last x.lacked) (sym trail) ∙ ap (λ (x : Progress). lacked_last x.lacked) last in
+    let outcome = outcome-of sides t.rest (lacked_last t.lacked) report.outcome is.outcome ∙ ap (λ e. outcome_of sides e (lacked_last t.lacked)) ending ∙ ap (outcome_of sides ran.ending) lacking in
     let cause = is.cause ∙ ap (λ (x : Trail). x.cause) (sym trail) ∙ ap (λ (x : Progress). x.cause) last in
     let note = is.note ∙ ap (λ (x : Trail). x.note) (sym trail) ∙ ap (λ (x : Progress). x.note) last in
     let ready = is.ready ∙ ap (λ (x : Trail). x.ready) (sym trail) ∙ ap (λ (x : Progress). x.ready) last in

@@ -14,7 +14,7 @@ use Rattle.definitions.specs.Calls.{Call, Stepped, step_with, Handed}
 use Rattle.vocabulary.specs.declared.calls.Answer.TheVariants as answer
 use Rattle.definitions.specs.Tree.{Tree, Branches, Ends, Does, Nothing, Branch, Reply, among, branch, reply_of, call_of}
 use Rattle.definitions.specs.Plans.{Turn}
-use Rattle.definitions.specs.Run.{Sides, Lack, lacked_by}
+use Rattle.definitions.specs.Run.{Sides, Lack, lacked_by, lacked_last}
 use Rattle.plan_walk.specs.Path.{Trail, Asks, rest_after}
 use Rattle.definitions.specs.Run.{Moment, quiet, Pattern, Progress, Ran, run_with, goes_with, with_entry, answered, noted, after_moment, after_call, outcome_of, report_of}
 use Rattle.definitions.specs.Target.{sides_of, handover_for}
@@ -88,7 +88,7 @@ behind-entry : (x : Entry) (before middle : Progress) (a b : Ran) → a ≡ with
 behind-entry x before middle a b e = record { ending = ap (λ (ran : Ran). ran.ending) e; last = ap (λ (ran : Ran). ran.last) e }
 
 reports : (sides : Sides) (a b : Ran) → EndsAlike a b → report_of sides a ≡ report_of sides b
-reports sides a b e = λ i. record { outcome = outcome_of sides (e.ending i) (e.last i).lacking; cause = (e.last i).cause; note = (e.last i).note; ready = (e.last i).ready }
+reports sides a b e = λ i. record { outcome = outcome_of sides (e.ending i) (lacked_last (e.last i).lacked); cause = (e.last i).cause; note = (e.last i).note; ready = (e.last i).ready }
 
 ---- One exit
 

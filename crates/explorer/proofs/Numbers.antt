@@ -10,7 +10,8 @@ use Rattle.vocabulary.specs.declared.calls.Call.TheVariants.{OpenAt, CloseAt, Fo
 use Rattle.definitions.specs.Table.{FilePath, Hold, Starting, Process, Master, Worker, Foreign, Table, number_of, is_active, is_starting, is_exited, is_any, is_draining, is_named, is_worker, is_held, is_live_master, Caller, live_master, owner_at}
 use Rattle.definitions.specs.Exits.{change, made_exited, without_exited, caller_exits, exited, all_exited, after_exits}
 use Rattle.std.specs.Bool.{then_some}
-use Rattle.definitions.specs.Calls.{Fate, Stepped, with_holds, made_ready, made_draining, drop_where, without_master, with_new_row, lacks_address, put_hold, lowest_free, shared, suits, has_process_room, is_row, is_of, is_exited_of, is_image, is_of_image, moved_if, asked_alive, own_step, fault_at, fault_or_own, step_by, step_with}
+use Rattle.definitions.specs.Calls.{Fate, Stepped, with_holds, made_ready, made_draining, drop_where, with_new_row, lacks_address, put_hold, lowest_free, shared, suits, has_process_room, is_row, is_of, is_exited_of, is_image, is_of_image, moved_if, asked_alive, own_step, fault_or_own, step_by, step_with}
+use Rattle.call_laws.specs.Pieces.{without_master, fault_at}
 use Rattle.definitions.specs.Table.{IsAscending}
 use Rattle.definitions.specs.Calls.{Handed}
 use Rattle.kernel_table.proofs.Keeping.{Becomes, Becomes-filter_map, Becomes-first_changed, says-change, says-dropped}
@@ -65,7 +66,11 @@ kept true p p' same = same
 kept false p p' same = tt
 
 same-without : (gone : ℕ) (lives : ℕ → Bool) (p : Process) → IfSome (without_exited gone lives p) (IsSame p)
-same-without gone lives (Worker n q g k s hs) = kept (not (q == gone)) (Worker n q g k s hs) (Worker n q g k s hs) refl
+same-without gone lives (Worker n q g k s hs) = at (q == gone)
+  where
+    at : (b : Bool) → IfSome (cond b None (Some (Worker n q g k s hs))) (IsSame (Worker n q g k s hs))
+    at true = tt
+    at false = refl
 same-without gone lives (Foreign n hs) = refl
 same-without gone lives (Master n q i live hs) = at (n == gone)
   where
@@ -74,17 +79,7 @@ same-without gone lives (Master n q i live hs) = at (n == gone)
     at false = refl
 
 same-left : (m : ℕ) (p : Process) → IfSome (without_master m p) (IsSame p)
-same-left m (Worker n q g k s hs) = at (q == m)
-  where
-    at : (b : Bool) → IfSome (cond b None (Some (Worker n q g k s hs))) (IsSame (Worker n q g k s hs))
-    at true = tt
-    at false = refl
-same-left m (Foreign n hs) = refl
-same-left m (Master n q i live hs) = at (n == m)
-  where
-    at : (b : Bool) → IfSome (cond b None (Some (Master n (cond (q == m) 1 q) i live hs))) (IsSame (Master n q i live hs))
-    at true = tt
-    at false = refl
+same-left m p = same-without m (λ parent. false) p
 
 ---- Exits
 

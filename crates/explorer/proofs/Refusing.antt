@@ -9,7 +9,8 @@ use Rattle.definitions.specs.Record.{Record, Agrees}
 use Rattle.definitions.specs.Run.{Entry, Pattern, quiet}
 use Rattle.definitions.specs.Plans.{Turn}
 use Rattle.call_laws.specs.Lengths.{plan_length}
-use Rattle.definitions.specs.Claims.{executing_after, refused_among, heirs_of, run_of}
+use Rattle.definitions.specs.Claims.{refused_among, heirs_of, run_of}
+use Rattle.call_laws.specs.Pieces.{executing_after}
 use Rattle.kernel_model.specs.Room.{LacksNumbers}
 use Rattle.plan_executor.specs.declared.enactment.EnactRefusal.{EnactRefusal}
 use Rattle.plan_executor.specs.declared.enactment.EnactRefusal.TheVariants.{Memory, RecordDisagrees, Plan, MasterNamed, NoNumbers}

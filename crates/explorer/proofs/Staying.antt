@@ -1,12 +1,12 @@
 -- Ready workers that stay where a process exits.
-use Rattle.std.proofs.Common.{◌≡◌, ◌≤◌, ℕ, ◌+◌, ◌-◌, ◌^◌, Bool, true, false, cond, ◌||◌, count_by, List, [], ◌∷◌, Option, Some, None, refl, sym, ap, subst, ◌∙◌, arith}
+use Rattle.std.proofs.Common.{filter_map, ◌≡◌, ◌≤◌, ℕ, ◌+◌, ◌-◌, ◌^◌, Bool, true, false, cond, ◌||◌, count_by, List, [], ◌∷◌, Option, Some, None, refl, sym, ap, subst, ◌∙◌, arith}
 use Rattle.std.specs.Prelude.{min, if◌then◌else◌}
 use Rattle.std.specs.List.{list_any}
 use Rattle.std.proofs.lemmas.Bool.{false≢true}
 use Rattle.std.proofs.lemmas.List.Sums.{sum_by-cons}
 use Rattle.definitions.specs.Table.{Address, Generation, Starting, Ready, Draining, Exited, Hold, Process, Master, Worker, Foreign, Table, has_address, is_active, is_draining, is_named}
 use Rattle.vocabulary.specs.declared.names.Name.TheVariants as name
-use Rattle.definitions.specs.Exits.{Name, made_exited, worker_exits, draining_exits, after_exits}
+use Rattle.definitions.specs.Exits.{Name, change, made_exited, first_changed, after_exits}
 use Rattle.definitions.specs.Service.{is_live_with}
 use Rattle.explorer.specs.Least.{exits_between}
 use Rattle.explorer.specs.Readiness.{is_ready_at, ready_at, HaveAtLeast, AreNamedOnce, low_without, low_after_exits}
@@ -44,7 +44,7 @@ module _ (g : Generation) (k : ℕ) where
   abbrev exits : Process → Bool
   exits = is_named is_active g k
 
-  live-worker : (holds : List Hold → Bool) (ps : List Process) → list_any (is_live_with holds) (worker_exits g k ps) ≡ list_any (is_live_with holds) ps
+  live-worker : (holds : List Hold → Bool) (ps : List Process) → list_any (is_live_with holds) (filter_map (change (is_named is_active g k) made_exited) ps) ≡ list_any (is_live_with holds) ps
   live-worker holds [] = refl
   live-worker holds (p ∷ ps) = λ i. here (exits p) i || live-worker holds ps i
     where
@@ -52,21 +52,21 @@ module _ (g : Generation) (k : ℕ) where
       here true = live-exited holds p
       here false = refl
 
-  named-worker : (h : Generation) (j : ℕ) (ps : List Process) → count_by (is_named is_active h j) (worker_exits g k ps) ≤ count_by (is_named is_active h j) ps
+  named-worker : (h : Generation) (j : ℕ) (ps : List Process) → count_by (is_named is_active h j) (filter_map (change (is_named is_active g k) made_exited) ps) ≤ count_by (is_named is_active h j) ps
   named-worker h j [] = omega arith
   named-worker h j (p ∷ ps) =
       let q = if exits p then made_exited p else p in
-      omega (arith, counts (is_named is_active h j) q (worker_exits g k ps), counts (is_named is_active h j) p ps, here (exits p), named-worker h j ps)
+      omega (arith, counts (is_named is_active h j) q (filter_map (change (is_named is_active g k) made_exited) ps), counts (is_named is_active h j) p ps, here (exits p), named-worker h j ps)
     where
       here : (b : Bool) → cond (is_named is_active h j (if b then made_exited p else p)) 1 0 ≤ cond (is_named is_active h j p) 1 0
       here true = named-exited h j p
       here false = omega arith
 
-  ready-worker : (a : Address) (ps : List Process) → count_by (is_ready_at a) ps ≤ count_by (is_ready_at a) (worker_exits g k ps) + count_by exits ps
+  ready-worker : (a : Address) (ps : List Process) → count_by (is_ready_at a) ps ≤ count_by (is_ready_at a) (filter_map (change (is_named is_active g k) made_exited) ps) + count_by exits ps
   ready-worker a [] = omega arith
   ready-worker a (p ∷ ps) =
       let q = if exits p then made_exited p else p in
-      omega (arith, counts (is_ready_at a) p ps, counts (is_ready_at a) q (worker_exits g k ps), counts exits p ps, here (exits p), ready-worker a ps)
+      omega (arith, counts (is_ready_at a) p ps, counts (is_ready_at a) q (filter_map (change (is_named is_active g k) made_exited) ps), counts exits p ps, here (exits p), ready-worker a ps)
     where
       here : (b : Bool) → cond (is_ready_at a p) 1 0 ≤ cond (is_ready_at a (if b then made_exited p else p)) 1 0 + cond b 1 0
       here true = omega (arith, at-most-one (is_ready_at a p))
@@ -75,32 +75,32 @@ module _ (g : Generation) (k : ℕ) where
   abbrev drains : Process → Bool
   drains = is_named is_draining g k
 
-  live-draining : (holds : List Hold → Bool) (ps : List Process) → list_any (is_live_with holds) (draining_exits g k ps) ≡ list_any (is_live_with holds) ps
+  live-draining : (holds : List Hold → Bool) (ps : List Process) → list_any (is_live_with holds) (first_changed (is_named is_draining g k) made_exited ps) ≡ list_any (is_live_with holds) ps
   live-draining holds [] = refl
   live-draining holds (p ∷ ps) = here (drains p) (live-draining holds ps)
     where
-      here : (b : Bool) → list_any (is_live_with holds) (draining_exits g k ps) ≡ list_any (is_live_with holds) ps →
-          list_any (is_live_with holds) (if b then made_exited p ∷ ps else p ∷ draining_exits g k ps) ≡ list_any (is_live_with holds) (p ∷ ps)
+      here : (b : Bool) → list_any (is_live_with holds) (first_changed (is_named is_draining g k) made_exited ps) ≡ list_any (is_live_with holds) ps →
+          list_any (is_live_with holds) (if b then made_exited p ∷ ps else p ∷ first_changed (is_named is_draining g k) made_exited ps) ≡ list_any (is_live_with holds) (p ∷ ps)
       here true rest = ap (λ b. b || list_any (is_live_with holds) ps) (live-exited holds p)
       here false rest = ap (λ b. is_live_with holds p || b) rest
 
-  named-draining : (h : Generation) (j : ℕ) (ps : List Process) → count_by (is_named is_active h j) (draining_exits g k ps) ≤ count_by (is_named is_active h j) ps
+  named-draining : (h : Generation) (j : ℕ) (ps : List Process) → count_by (is_named is_active h j) (first_changed (is_named is_draining g k) made_exited ps) ≤ count_by (is_named is_active h j) ps
   named-draining h j [] = omega arith
   named-draining h j (p ∷ ps) = here (drains p) (named-draining h j ps)
     where
-      here : (b : Bool) → count_by (is_named is_active h j) (draining_exits g k ps) ≤ count_by (is_named is_active h j) ps →
-          count_by (is_named is_active h j) (if b then made_exited p ∷ ps else p ∷ draining_exits g k ps) ≤ count_by (is_named is_active h j) (p ∷ ps)
+      here : (b : Bool) → count_by (is_named is_active h j) (first_changed (is_named is_draining g k) made_exited ps) ≤ count_by (is_named is_active h j) ps →
+          count_by (is_named is_active h j) (if b then made_exited p ∷ ps else p ∷ first_changed (is_named is_draining g k) made_exited ps) ≤ count_by (is_named is_active h j) (p ∷ ps)
       here true rest = omega (arith, counts (is_named is_active h j) (made_exited p) ps, counts (is_named is_active h j) p ps, named-exited h j p)
-      here false rest = omega (arith, counts (is_named is_active h j) p (draining_exits g k ps), counts (is_named is_active h j) p ps, rest)
+      here false rest = omega (arith, counts (is_named is_active h j) p (first_changed (is_named is_draining g k) made_exited ps), counts (is_named is_active h j) p ps, rest)
 
-  ready-draining : (a : Address) (ps : List Process) → count_by (is_ready_at a) (draining_exits g k ps) ≡ count_by (is_ready_at a) ps
+  ready-draining : (a : Address) (ps : List Process) → count_by (is_ready_at a) (first_changed (is_named is_draining g k) made_exited ps) ≡ count_by (is_ready_at a) ps
   ready-draining a [] = refl
   ready-draining a (p ∷ ps) = here (drains p) refl (ready-draining a ps)
     where
-      here : (b : Bool) → drains p ≡ b → count_by (is_ready_at a) (draining_exits g k ps) ≡ count_by (is_ready_at a) ps →
-          count_by (is_ready_at a) (if b then made_exited p ∷ ps else p ∷ draining_exits g k ps) ≡ count_by (is_ready_at a) (p ∷ ps)
+      here : (b : Bool) → drains p ≡ b → count_by (is_ready_at a) (first_changed (is_named is_draining g k) made_exited ps) ≡ count_by (is_ready_at a) ps →
+          count_by (is_ready_at a) (if b then made_exited p ∷ ps else p ∷ first_changed (is_named is_draining g k) made_exited ps) ≡ count_by (is_ready_at a) (p ∷ ps)
       here true is rest = counts (is_ready_at a) (made_exited p) ps ∙ ap (λ b. cond b 1 0 + count_by (is_ready_at a) ps) (sym (unready a g k p is)) ∙ sym (counts (is_ready_at a) p ps)
-      here false is rest = counts (is_ready_at a) p (draining_exits g k ps) ∙ ap (λ n. cond (is_ready_at a p) 1 0 + n) rest ∙ sym (counts (is_ready_at a) p ps)
+      here false is rest = counts (is_ready_at a) p (first_changed (is_named is_draining g k) made_exited ps) ∙ ap (λ n. cond (is_ready_at a p) 1 0 + n) rest ∙ sym (counts (is_ready_at a) p ps)
 
 ---- Addresses
 
@@ -114,10 +114,10 @@ one-less false n m low le is = omega (arith, is)
 -- What an address has at least after an exit.
 stays : (e : Name) (t : Table) (low : ℕ) → AreNamedOnce t → (a : Address) → low ≤ ready_at t a → low_without e low ≤ ready_at (after_exits (e ∷ []) t) a
 stays (name.Worker g k) t low once a is =
-    subst (λ b. low - 1 ≤ offers b (count_by (is_ready_at a) (worker_exits g k t.rows))) (sym (live-worker g k (has_address a) t.rows))
-    (one-less (list_any (is_live_with (has_address a)) t.rows) (count_by (is_ready_at a) t.rows) (count_by (is_ready_at a) (worker_exits g k t.rows)) low (omega (arith, ready-worker g k a t.rows, once g k)) is)
+    subst (λ b. low - 1 ≤ offers b (count_by (is_ready_at a) (filter_map (change (is_named is_active g k) made_exited) t.rows))) (sym (live-worker g k (has_address a) t.rows))
+    (one-less (list_any (is_live_with (has_address a)) t.rows) (count_by (is_ready_at a) t.rows) (count_by (is_ready_at a) (filter_map (change (is_named is_active g k) made_exited) t.rows)) low (omega (arith, ready-worker g k a t.rows, once g k)) is)
 stays (name.Draining g k) t low once a is =
-    subst (λ b. low ≤ offers b (count_by (is_ready_at a) (draining_exits g k t.rows))) (sym (live-draining g k (has_address a) t.rows))
+    subst (λ b. low ≤ offers b (count_by (is_ready_at a) (first_changed (is_named is_draining g k) made_exited t.rows))) (sym (live-draining g k (has_address a) t.rows))
     (subst (λ n. low ≤ offers (list_any (is_live_with (has_address a)) t.rows) n) (sym (ready-draining g k a t.rows)) is)
 stays (name.Master i) t low once a is = omega arith
 

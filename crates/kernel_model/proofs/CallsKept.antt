@@ -9,7 +9,8 @@ use Rattle.vocabulary.specs.declared.calls.Fate.{Fate}
 use Rattle.vocabulary.specs.declared.names.Name.{Name}
 use Rattle.definitions.specs.Table.{Address, FilePath, File, owner_at, Generation, Hold, Process, Master, Worker, Table, with_rows, is_active, is_starting, is_exited, is_any, is_worker, is_held, Caller, live_master}
 use Rattle.definitions.specs.Exits.{after_exits}
-use Rattle.definitions.specs.Calls.{is_image, opened, forked, spawned, awaited, killed, moved_if, asked_alive, suits, with_files, Stepped, made_ready, made_draining, with_holds, lacks_address, lowest_free, is_of, is_exited_of, has_process_room, with_new_row, shared, with_new_socket, own_step, fault_at, fault_or_own, step_by, step_with}
+use Rattle.definitions.specs.Calls.{is_image, opened, forked, spawned, awaited, moved_if, asked_alive, suits, with_files, Stepped, made_ready, made_draining, with_holds, lacks_address, lowest_free, is_of, is_exited_of, has_process_room, with_new_row, shared, with_new_socket, own_step, fault_or_own, step_by, step_with}
+use Rattle.call_laws.specs.Pieces.{killed, fault_at}
 use Rattle.definitions.specs.Calls.{Handed}
 use Rattle.kernel_table.specs.Room.{IsKept}
 use Rattle.kernel_table.proofs.Keeping.{AreKept}

@@ -8,7 +8,8 @@ use Rattle.std.proofs.lemmas.List.Folds.{list_any-append}
 use Rattle.definitions.specs.Table.{Hold, Process, Master, Worker, Foreign, is_active, is_worker, is_live_master, live_master, caller_if}
 use Rattle.definitions.specs.Exits.{without_exited}
 use Rattle.std.specs.Bool.{then_some}
-use Rattle.definitions.specs.Calls.{drop_where, is_image, is_image_row, is_of_image, without_master}
+use Rattle.definitions.specs.Calls.{drop_where, is_image, is_image_row, is_of_image}
+use Rattle.call_laws.specs.Pieces.{without_master}
 use Rattle.definitions.specs.Table.{IsQuiet, HasParent}
 use Rattle.kernel_table.specs.Room.{HasSockets}
 use Rattle.kernel_table.proofs.Keeping.{AreKept, Follows, AreKept-becomes, Becomes-filter_map}
@@ -67,23 +68,9 @@ module _ (image : ℕ) where
   kept-reaped next socket rows h none = kept-without next socket rows h (is_image image) (λ q e. live-reaped q rows none e)
 
 -- ---- a master leaves
-leaves-alike : (m : ℕ) (p : Process) → without_exited m (λ q. false) p ≡ without_master m p
-leaves-alike m (Master n q i live hs) = refl
-leaves-alike m (Worker n q g k s hs) = at (nat_eq q m)
-  where
-    at : (b : Bool) → then_some (not b) (Worker n q g k s hs) ≡ cond b None (Some (Worker n q g k s hs))
-    at true = refl
-    at false = refl
-leaves-alike m (Foreign n hs) = refl
-
--- It leaves as one that exits and whose parent does not live.
-pub left-alike : (m : ℕ) (rows : List Process) → filter_map (without_exited m (λ q. false)) rows ≡ filter_map (without_master m) rows
-left-alike m rows = λ i. filter_map (λ p. leaves-alike m p i) rows
-
 pub kept-left : (next socket : ℕ) (rows : List Process) → AreKept rows next socket → (m : ℕ) → AreKept (filter_map (without_master m) rows) next socket
 kept-left next socket rows h m =
-    subst (λ rows'. AreKept rows' next socket) (left-alike m rows)
-    (AreKept-becomes rows _ next socket socket (Becomes-filter_map _ (without_exited m (λ q. false)) (exit_says m (λ q. false) rows socket) rows) h)
+    AreKept-becomes rows _ next socket socket (Becomes-filter_map _ (without_exited m (λ q. false)) (exit_says m (λ q. false) rows socket) rows) h
 
 -- ---- a master is ended
 module _ (image : ℕ) (all : List Process) where

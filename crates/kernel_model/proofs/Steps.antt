@@ -9,7 +9,7 @@ use Rattle.vocabulary.specs.declared.table.Stance.TheVariants.{Starting, Ready, 
 use Rattle.vocabulary.specs.declared.names.Name.{Name}
 use Rattle.vocabulary.specs.declared.names.Name.TheVariants as name
 use Rattle.definitions.specs.Table.{Address, Generation, Hold, Process, Master, Worker, Foreign, is_active, is_starting, is_draining, is_named, is_worker, is_live_master, is_at, Caller, live_master}
-use Rattle.definitions.specs.Exits.{change, made_exited, worker_exits, draining_exits, without_exited, caller_exits, exited, all_exited, first_changed}
+use Rattle.definitions.specs.Exits.{change, made_exited, without_exited, caller_exits, exited, all_exited, first_changed}
 use Rattle.std.specs.Bool.{then_some}
 use Rattle.definitions.specs.Calls.{drop_where, made_ready, made_draining, with_holds, lacks_address, is_exited_of}
 use Rattle.definitions.specs.Table.{HasParent}
@@ -139,11 +139,11 @@ module _ (next socket : ℕ) (rows : List Process) (h : AreKept rows next socket
   pub kept-dropped : (test : Process → Bool) → ((q : ℕ) (p : Process) → test p ≡ true → is_live_master q p ≡ false) → AreKept (filter_map (drop_where test) rows) next socket
   kept-dropped test worker = kept-without test (λ q e. live-dropped test worker rows q ∙ e)
 
-  kept-worker_exits : (g : Generation) (k : ℕ) → AreKept (worker_exits g k rows) next socket
-  kept-worker_exits g k = kept-change (is_named is_active g k) made_exited same-exited (λ rows' up p t. exits_so rows rows' socket up p)
+  kept-worker : (g : Generation) (k : ℕ) → AreKept (filter_map (change (is_named is_active g k) made_exited) rows) next socket
+  kept-worker g k = kept-change (is_named is_active g k) made_exited same-exited (λ rows' up p t. exits_so rows rows' socket up p)
 
-  kept-draining_exits : (g : Generation) (k : ℕ) → AreKept (draining_exits g k rows) next socket
-  kept-draining_exits g k =
+  kept-draining : (g : Generation) (k : ℕ) → AreKept (first_changed (is_named is_draining g k) made_exited rows) next socket
+  kept-draining g k =
       let test = is_named is_draining g k in
       let rows' = first_changed test made_exited rows in
       let up : KeepsMasters rows rows' = λ q e. live-first test made_exited same-exited rows q ∙ e in
@@ -153,9 +153,9 @@ module _ (next socket : ℕ) (rows : List Process) (h : AreKept rows next socket
 module _ (gone : ℕ) (lives : ℕ → Bool) where
   live-exit : (q : ℕ) → nat_eq q gone ≡ false → (rows : List Process) → list_any (is_live_master q) rows ≡ true → list_any (is_live_master q) (filter_map (without_exited gone lives) rows) ≡ true
   live-exit q other [] e = e
-  live-exit q other (Worker n q' g k s hs ∷ rows) e = at (not (nat_eq q' gone)) (live-exit q other rows e)
+  live-exit q other (Worker n q' g k s hs ∷ rows) e = at (nat_eq q' gone) (live-exit q other rows e)
     where
-      at : (b : Bool) → list_any (is_live_master q) (filter_map (without_exited gone lives) rows) ≡ true → list_any (is_live_master q) (cons_option (then_some b (Worker n q' g k s hs)) (filter_map (without_exited gone lives) rows)) ≡ true
+      at : (b : Bool) → list_any (is_live_master q) (filter_map (without_exited gone lives) rows) ≡ true → list_any (is_live_master q) (cons_option (cond b None (Some (Worker n q' g k s hs))) (filter_map (without_exited gone lives) rows)) ≡ true
       at true ih = ih
       at false ih = ih
   live-exit q other (Foreign n hs ∷ rows) e = live-exit q other rows e
@@ -180,7 +180,7 @@ module _ (gone : ℕ) (lives : ℕ → Bool) where
   pub exit_says : (rows : List Process) (socket : ℕ) (p : Process) → IfSome (without_exited gone lives p) (Follows rows (filter_map (without_exited gone lives) rows) socket socket p)
   exit_says rows socket (Worker n q g k s hs) = at (nat_eq q gone) refl
     where
-      at : (b : Bool) → nat_eq q gone ≡ b → IfSome (then_some (not b) (Worker n q g k s hs)) (Follows rows (filter_map (without_exited gone lives) rows) socket socket (Worker n q g k s hs))
+      at : (b : Bool) → nat_eq q gone ≡ b → IfSome (cond b None (Some (Worker n q g k s hs))) (Follows rows (filter_map (without_exited gone lives) rows) socket socket (Worker n q g k s hs))
       at true e = tt
       at false e = record { number = refl; quiet = λ h. h; active = λ q' g' k' t. t; image = λ i e. e; parent = λ h. live-exit q e rows h; sockets = λ h. h }
   exit_says rows socket (Foreign n hs) = record { number = refl; quiet = λ h. h; active = λ q' g' k' t. t; image = λ i e. e; parent = λ h. h; sockets = λ h. h }
@@ -199,8 +199,8 @@ kept-caller_exits next socket (Some c) rows h =
 
 -- ---- exits
 pub kept-exited : (next socket : ℕ) (e : Name) (rows : List Process) → AreKept rows next socket → AreKept (exited e rows) next socket
-kept-exited next socket (name.Worker g k) rows h = kept-worker_exits next socket rows h g k
-kept-exited next socket (name.Draining g k) rows h = kept-draining_exits next socket rows h g k
+kept-exited next socket (name.Worker g k) rows h = kept-worker next socket rows h g k
+kept-exited next socket (name.Draining g k) rows h = kept-draining next socket rows h g k
 kept-exited next socket (name.Master image) rows h = kept-caller_exits next socket (live_master image rows) rows h
 
 pub kept-all_exited : (next socket : ℕ) (es : List Name) (rows : List Process) → AreKept rows next socket → AreKept (all_exited es rows) next socket

@@ -1,7 +1,7 @@
 //! Exits: processes that end before a call.
 ghost use Rattle.std.specs.Prelude.{◌≡◌};
-ghost use Rattle.definitions.specs.Table.{with_rows};
-ghost use Rattle.definitions.specs.Exits.{exited, after_exits, master_exits};
+ghost use Rattle.definitions.specs.Table.{live_master, with_rows};
+ghost use Rattle.definitions.specs.Exits.{exited, after_exits, caller_exits};
 ghost use Rattle.kernel_table.specs.Seen.{seen};
 ghost use Rattle.kernel_table.specs.Room.{EditsRows, IsKept};
 
@@ -12,7 +12,7 @@ use vocabulary::Name;
 /// The live master of the image exits, with its workers. Its row stays, exited, where its parent is a live master.
 fn exit_master(store: &mut Store, image: u32)
     requires { IsKept (seen store.old) }
-    ensures table { seen store.new ≡ with_rows (seen store.old) (master_exits image (seen store.old).rows) }
+    ensures table { seen store.new ≡ with_rows (seen store.old) (caller_exits (live_master image (seen store.old).rows) (seen store.old).rows) }
     ensures room { EditsRows store.old store.new }
 {
     if let Some(master) = store.live_master(image) {

@@ -2,8 +2,8 @@
 ghost use Rattle.std.specs.Prelude.{◌≡◌, ◌<◌, ◌≤◌, ◌+◌, ◌++◌, ℕ, List, [], ◌∷◌, length, count_by, get_or, vec_len, vec_capacity, OnOk, IfOk};
 ghost use Rattle.std.specs.List.{filter_map, remove, slice_get};
 ghost use Rattle.std.specs.Option.{option_map};
-ghost use Rattle.definitions.specs.Table.{is_active, is_worker};
-ghost use Rattle.definitions.specs.Exits.{draining_exits};
+ghost use Rattle.definitions.specs.Table.{is_active, is_draining, is_named, is_worker};
+ghost use Rattle.definitions.specs.Exits.{first_changed, made_exited};
 ghost use Rattle.std.specs.Bool.{then_some};
 ghost use Rattle.kernel_rows.specs.Gaps.{outside, IsGap};
 ghost use Rattle.kernel_rows.specs.Seen.{seen_holder, seen_rows};
@@ -95,7 +95,7 @@ fn change_at(
 }
 
 fn exit_first_draining(slots: &mut [Holder], generation: Generation, nr: u32)
-    ensures { (addresses : List (List ℕ)) → seen_rows addresses slots.new ≡ draining_exits generation nr (seen_rows addresses slots.old) }
+    ensures { (addresses : List (List ℕ)) → seen_rows addresses slots.new ≡ first_changed (is_named is_draining generation nr) made_exited (seen_rows addresses slots.old) }
 {
     let first = slots.iter().position(|holder| holder
         .row
@@ -212,7 +212,7 @@ impl Holders {
 
     /// The first Draining worker of the name exits.
     pub fn exit_draining(&mut self, generation: Generation, nr: u32)
-        ensures rows { (addresses : List (List ℕ)) → seen_rows addresses self.new.items ≡ draining_exits generation nr (seen_rows addresses self.old.items) }
+        ensures rows { (addresses : List (List ℕ)) → seen_rows addresses self.new.items ≡ first_changed (is_named is_draining generation nr) made_exited (seen_rows addresses self.old.items) }
         ensures len { length self.new.items ≤ length self.old.items }
         ensures capacity { self.new.capacity ≡ self.old.capacity }
     {

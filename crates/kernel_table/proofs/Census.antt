@@ -8,7 +8,7 @@ use Rattle.listener_set.specs.Numbers.{numbers_below, is_in, with_number, RisesF
 use Rattle.listener_set.specs.NumberWordsLemmas.{is_in-filter_below}
 use Rattle.listener_set.proofs.Rising.{same_rising, is_in-with_number, RisesFrom-push}
 use Rattle.definitions.specs.Table.{Address, Generation, Process, is_ready, is_worker}
-use Rattle.definitions.specs.Calls.{census_below, census_of}
+use Rattle.definitions.specs.Calls.{census_of}
 use Rattle.kernel_rows.specs.declared.process.Holder.{Holder}
 use Rattle.kernel_rows.specs.Seen.{is_number, seen_holder, seen_rows}
 use Rattle.kernel_rows.proofs.Passing.{any-more}
@@ -74,7 +74,11 @@ RisesFrom-filter p (x ∷ xs) b h = at (p x) (RisesFrom-filter p xs (x + 1) h.1)
     at true ih = (h.0, ih)
     at false ih = rising-lower (filter p xs) b (x + 1) (omega (arith, h.0)) ih
 
-pub rising-census : (n q : ℕ) (g : Generation) (rows : List Process) → RisesFrom 0 (census_below n q g rows)
+-- the numbers below n that a Ready worker of the caller bears in the generation
+abbrev census_below : ℕ → ℕ → Generation → List Process → List ℕ
+census_below n caller g rows = filter (λ k. list_any (is_worker is_ready caller g k) rows) (numbers_below n)
+
+rising-census : (n q : ℕ) (g : Generation) (rows : List Process) → RisesFrom 0 (census_below n q g rows)
 rising-census n q g rows = RisesFrom-filter (λ k. list_any (is_worker is_ready q g k) rows) (numbers_below n) 0 (rising-below n)
 
 below-is : (n q : ℕ) (g : Generation) (rows : List Process) (numbers : List ℕ) → IsRising numbers → ((k : ℕ) → is_in numbers k ≡ (list_any (is_worker is_ready q g k) rows && nat_lt k n)) → numbers ≡ census_below n q g rows

@@ -7,7 +7,7 @@ use Rattle.std.proofs.lemmas.Bool.Decides.{nat_tests}
 use Rattle.std.proofs.lemmas.List.Folds.{list_any-append}
 use Rattle.vocabulary.specs.declared.table.Stance.TheVariants.{Starting, Ready, Draining, Exited}
 use Rattle.definitions.specs.Table.{Address, Generation, Hold, Process, Master, Worker, Foreign, is_active, is_starting, is_exited, is_any, is_named, is_draining, is_worker, same_generation}
-use Rattle.definitions.specs.Exits.{made_exited, without_exited, draining_exits}
+use Rattle.definitions.specs.Exits.{made_exited, without_exited, first_changed}
 use Rattle.std.specs.Bool.{then_some}
 use Rattle.definitions.specs.Calls.{is_row, is_image, is_of, is_exited_of, lacks_address, made_ready, made_draining, with_holds}
 use Rattle.kernel_rows.specs.declared.edits.Edit.{Edit}
@@ -62,7 +62,7 @@ module _ (q : ℕ) (g : Generation) (k : ℕ) where
   master-exits : (gone : ℕ) (stays : Bool) (p : Process) → IfSome (without_exited gone (λ a. stays) p) (Stays p)
   master-exits gone stays (Worker n q' g' k' s hs) = at (nat_eq q' gone)
     where
-      at : (b : Bool) → IfSome (then_some (not b) (Worker n q' g' k' s hs)) (Stays (Worker n q' g' k' s hs))
+      at : (b : Bool) → IfSome (cond b None (Some (Worker n q' g' k' s hs))) (Stays (Worker n q' g' k' s hs))
       at true = tt
       at false = λ e. e
   master-exits gone stays (Master n q' i live hs) = at (nat_eq n gone) stays
@@ -107,7 +107,7 @@ module _ (free : FreeNames) (rows : List Process) (known : AreFree free rows) wh
       let stays = Stays free.parent free.generation k in
       still-free free.parent free.generation k (Becomes-filter_map stays (edited addresses edit) (edits free.parent free.generation k addresses edit) rows) (known k le)
 
-  pub AreFree-draining : (g : Generation) (nr : ℕ) → AreFree free (draining_exits g nr rows)
+  pub AreFree-draining : (g : Generation) (nr : ℕ) → AreFree free (first_changed (is_named is_draining g nr) made_exited rows)
   AreFree-draining g nr k le =
       let stays = Stays free.parent free.generation k in
       still-free free.parent free.generation k (Becomes-first_changed stays (same free.parent free.generation k) (is_named is_draining g nr) made_exited (λ p t. exits free.parent free.generation k p) rows) (known k le)

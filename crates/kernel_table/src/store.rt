@@ -2,9 +2,9 @@
 ghost use Rattle.std.specs.Prelude.{true, false, not, if◌then◌else◌, ◌≡◌, ◌<◌, ◌≤◌, ◌+◌, ◌^◌, ◌↔◌, ℕ, List, length, count_by, Contains, IsTrue, IsFalse, IfOk, IfSome, Some, None, OnOk, vec_len, vec_capacity};
 ghost use Rattle.std.specs.List.{list_any, filter_map, slice_get};
 ghost use Rattle.std.specs.Option.{option_map};
-ghost use Rattle.definitions.specs.Table.{Master, Worker, is_active, is_any, is_worker, is_own, is_live_master, is_held, live_master, with_rows};
+ghost use Rattle.definitions.specs.Table.{Master, Worker, is_active, is_draining, is_named, is_any, is_worker, is_own, is_live_master, is_held, live_master, with_rows};
 ghost use Rattle.definitions.specs.Calls.{is_image, has_process_room, lowest_free, with_new_row, with_new_socket, each_row, drop_where, census_of};
-ghost use Rattle.definitions.specs.Exits.{draining_exits};
+ghost use Rattle.definitions.specs.Exits.{first_changed, made_exited};
 ghost use Rattle.kernel_rows.specs.Seen.{seen_rows, has_stance};
 ghost use Rattle.kernel_rows.specs.Edits.{edited, ChangesActive};
 ghost use Rattle.kernel_rows.specs.Places.{bears, IsActiveAt, IsLiveAt, IsWorkerAt};
@@ -368,7 +368,7 @@ impl Store {
 
     /// The Draining worker of the name with the lowest process number exits.
     pub fn exit_draining(&mut self, generation: Generation, nr: u32)
-        ensures table { seen self.new ≡ with_rows (seen self.old) (draining_exits generation nr (seen self.old).rows) }
+        ensures table { seen self.new ≡ with_rows (seen self.old) (first_changed (is_named is_draining generation nr) made_exited (seen self.old).rows) }
         ensures last { self.new.last ≡ self.old.last }
         ensures room { EditsRows self.old self.new }
     {

@@ -14,10 +14,11 @@ use Rattle.definitions.specs.Record.{Record, PidNote, InPlace, AtOldbin, OldbinL
 use Rattle.definitions.specs.Target.{sides_of, handover_for}
 use Rattle.definitions.specs.Tree.{Tree, Ends, Does, Branches, Nothing, Branch, End, Done, Split, JoinReady, JoinBack, Reply, among, branch, reply_of}
 use Rattle.vocabulary.specs.declared.calls.Reply.TheVariants as reply
-use Rattle.definitions.specs.Run.{Sides, Lack, lacked_after}
+use Rattle.definitions.specs.Run.{Sides, Lack, lacked_after, lacked_last}
 use Rattle.definitions.specs.Plans.{Turn, weave, joined}
 use Rattle.definitions.specs.After.{crew_wanted}
-use Rattle.definitions.specs.Plans.{does, on, spawn_edges, move_aside, new_part, new_calls, old_part, tries_all, taken_over, back_from, back_alone, settle, upgrade_tree, plan_tree}
+use Rattle.definitions.specs.Plans.{does, on, move_aside, new_part, new_calls, old_part, tries_all, taken_over, back_from, back_alone, settle, upgrade_tree, plan_tree}
+use Rattle.call_laws.specs.Pieces.{spawn_edges}
 use Rattle.definitions.specs.Run.{Pattern, Progress, Ending, At, Lost, Ran, run_with, goes_with, noted, start_at, outcome_of}
 use Rattle.theorems.specs.Apart.{IsOf, WalksAll, WalksApart}
 use Rattle.definitions.specs.Claims.{run_of, Says, EndsAsReported}
@@ -199,7 +200,7 @@ run-walk : (t : Table) (r : Record) (target : Target) (turns : List Turn) (patte
     (end : End) × WalksAll (plan_tree r target turns) [] (run_of r target turns pattern t).entries (Ends end)
 run-walk t r target turns pattern ends =
     let ran = run_of r target turns pattern t in
-    let at = at-end t r target ran.last.table (sides_of r target) ran.ending ran.last.lacking ends.says in
+    let at = at-end t r target ran.last.table (sides_of r target) ran.ending (lacked_last ran.last.lacked) ends.says in
     (at.0, whole-walk (handover_for r target) (plan_tree r target turns) pattern (start_at t r.note) at.0 at.1)
 
 -- the next image is another

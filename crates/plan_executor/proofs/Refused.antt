@@ -10,7 +10,8 @@ use Rattle.listener_set.specs.Numbers.{is_in}
 use Rattle.definitions.specs.Run.{Moment, Pattern}
 use Rattle.kernel_model.specs.Pattern.{moment_at, is_masters, names_master}
 use mathlib.Core.Bool.{true≢false}
-use Rattle.definitions.specs.Claims.{names_any, executing_at, executing_after, refused_among}
+use Rattle.definitions.specs.Claims.{names_any, refused_among}
+use Rattle.call_laws.specs.Pieces.{executing_at, executing_after}
 use Rattle.plan_executor.specs.Naming.{is_exit_of}
 
 or_false : (b : Bool) {one other : Bool} → one ≡ other → (b || one) ≡ ((b || false) || other)

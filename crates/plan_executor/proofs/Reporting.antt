@@ -6,7 +6,7 @@ use Rattle.vocabulary.specs.declared.reports.Outcome.{Outcome}
 use Rattle.definitions.specs.Table.{Table}
 use Rattle.definitions.specs.Tree.{Tree, Ends, Does}
 use Rattle.definitions.specs.Plans.{Turn, plan_tree}
-use Rattle.definitions.specs.Run.{Sides, Pattern, Ran, start_at, outcome_of, report_of}
+use Rattle.definitions.specs.Run.{Sides, Pattern, Ran, start_at, outcome_of, report_of, lacked_last}
 use Rattle.plan_walk.specs.Path.{Trail, begin, trail_after, IsOver, IsOutcome, Reports, KeepsPathLaw}
 use Rattle.plan_executor.specs.Replays.{Replays}
 use Rattle.definitions.specs.Record.{Record}
@@ -28,8 +28,8 @@ outcome-is sides (Some (Does by order set branches)) lacking o h = absurd h
 
 reported : (sides : Sides) (t : Trail) (entries : List Entry) (last : Table) (ran : Ran) (report : Report) → IsRun entries last t ran → Reports sides t report → report ≡ report_of sides ran
 reported sides t entries last ran report is h =
-    let lacking : t.lacking ≡ ran.last.lacking = ap (λ (x : Trail). x.lacking) (sym is.trail) in
-    let outcome = outcome-is sides t.rest t.lacking report.outcome h.outcome ∙ (ap (λ e. outcome_of sides e t.lacking) (sym is.ending) ∙ ap (outcome_of sides ran.ending) lacking) in
+    let lacking : (lacked_last t.lacked) ≡ (lacked_last ran.last.lacked) = ap (λ (x : Trail). lacked_last x.lacked) (sym is.trail) in
+    let outcome = outcome-is sides t.rest (lacked_last t.lacked) report.outcome h.outcome ∙ (ap (λ e. outcome_of sides e (lacked_last t.lacked)) (sym is.ending) ∙ ap (outcome_of sides ran.ending) lacking) in
     let cause = h.cause ∙ ap (λ (x : Trail). x.cause) (sym is.trail) in
     let note = h.note ∙ ap (λ (x : Trail). x.note) (sym is.trail) in
     let ready = h.ready ∙ ap (λ (x : Trail). x.ready) (sym is.trail) in
@@ -39,5 +39,5 @@ reported sides t entries last ran report is h =
 pub whole-run : (r : Record) (target : Target) (turns : List Turn) (pattern : Pattern) (first last : Table) (entries : List Entry) (report : Report) → KeepsPathLaw (plan_tree r target turns) r.note (sides_of r target) entries report → Replays (handover_for r target) pattern 0 first entries last → IsWholeRun r target turns pattern first entries last report
 whole-run r target turns pattern first last entries report law replays =
     let t = trail_after (begin (plan_tree r target turns) r.note) entries in
-    let is = runs-as (handover_for r target) entries (plan_tree r target turns) pattern (start_at first r.note) last law.path (over (sides_of r target) t.rest t.lacking report.outcome law.report_is.outcome) replays in
+    let is = runs-as (handover_for r target) entries (plan_tree r target turns) pattern (start_at first r.note) last law.path (over (sides_of r target) t.rest (lacked_last t.lacked) report.outcome law.report_is.outcome) replays in
     record { entries_are = is.entries_are; table = is.table; report_is = reported (sides_of r target) t entries last (run_of r target turns pattern first) report is law.report_is }

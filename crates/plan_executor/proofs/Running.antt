@@ -41,7 +41,7 @@ RunsAll handed entries =
 
 -- the trail behind an edge, or where there is none
 abbrev pub behind : Option (Option PidNote × Tree) → Progress → Trail
-behind found q = record { rest = rest_after found; ready = q.ready; lacking = q.lacking; lacked = q.lacked; note = note_after found q.note; cause = q.cause; made = q.calls }
+behind found q = record { rest = rest_after found; ready = q.ready; lacked = q.lacked; note = note_after found q.note; cause = q.cause; made = q.calls }
 
 runs-behind : (handed : Handed) (found : Option (Option PidNote × Tree)) (entries : List Entry) (pattern : Pattern) (q : Progress) (last : Table) → RunsAll handed entries → Follows (behind found q) entries → IsOver (trail_after (behind found q) entries).rest → Replays handed pattern q.calls q.table entries last → IsRun entries last (trail_after (behind found q) entries) (run_on handed found pattern q)
 runs-behind handed None [] pattern q last all follows over replays = record { entries_are = refl; table = replays; ending = refl; trail = refl }

@@ -47,14 +47,14 @@ declined-is sections first place r target NoNumbers exact = record { why = NoNum
 agreed : (target : Target) (r : Record) (state : Option Record) (report : Report) (t : Table) → state ≡ next_record r target report t → AgreesAfter r target report t → IsTrueOf t state
 agreed target r state report t is after = subst (IsTrueOf t) (sym (is ∙ after.is)) after.agrees
 
-left-true : (target : Target) (r : Record) (state : Option Record) (ran : TheRun) → state ≡ next_record r target (report_of (sides_of r target) ran) ran.last.table → IsSucceeded r target ran → IsTrueOf ran.last.table state
-left-true (Workers n) r state ran is after = agreed (Workers n) r state (report_of (sides_of r (Workers n)) ran) ran.last.table is after
-left-true (Mend overdue) r state ran is after = agreed (Mend overdue) r state (report_of (sides_of r (Mend overdue)) ran) ran.last.table is after
-left-true Reopen r state ran is after = agreed Reopen r state (report_of (sides_of r Reopen) ran) ran.last.table is after
-left-true (Reload s) r state ran is after = agreed (Reload s) r state (report_of (sides_of r (Reload s)) ran) ran.last.table is after
-left-true (Upgrade s) r state ran is after = agreed (Upgrade s) r state (report_of (sides_of r (Upgrade s)) ran) ran.last.table is after
-left-true (Attended s) r state ran is after = agreed (Attended s) r state (report_of (sides_of r (Attended s)) ran) ran.last.table is after
-left-true (Stop quick) r state ran is after = subst (IsTrueOf ran.last.table) (sym (is ∙ after.0)) tt
+left-true : (target : Target) (r : Record) (state : Option Record) (first : Table) (ran : TheRun) → state ≡ next_record r target (report_of (sides_of r target) ran) ran.last.table → IsSucceeded r target first ran → IsTrueOf ran.last.table state
+left-true (Workers n) r state first ran is after = agreed (Workers n) r state (report_of (sides_of r (Workers n)) ran) ran.last.table is after
+left-true (Mend overdue) r state first ran is after = agreed (Mend overdue) r state (report_of (sides_of r (Mend overdue)) ran) ran.last.table is after
+left-true Reopen r state first ran is after = agreed Reopen r state (report_of (sides_of r Reopen) ran) ran.last.table is after
+left-true (Reload s) r state first ran is after = agreed (Reload s) r state (report_of (sides_of r (Reload s)) ran) ran.last.table is after
+left-true (Upgrade s) r state first ran is after = agreed (Upgrade s) r state (report_of (sides_of r (Upgrade s)) ran) ran.last.table is after
+left-true (Attended s) r state first ran is after = agreed (Attended s) r state (report_of (sides_of r (Attended s)) ran) ran.last.table is after
+left-true (Stop quick) r state first ran is after = subst (IsTrueOf ran.last.table) (sym (is ∙ after.0)) tt
 
 -- a run leaves a record that is true of the kernel
 ran-true : (sections : List Section) (place : ℕ) (old : Standing State) (r : Record) (target : Target) (log : Told) (report : Report) (new : Standing State) → HasRun (EnactsAt sections) place old r target log report new → IsTrueOf new.world.table new.record
@@ -62,7 +62,7 @@ ran-true sections place old r target log report new h =
     let is = h.enacted in
     let ran = run_of r target (section_at sections place).turns (moment_at (section_at sections place).pattern) old.world.table in
     let left : new.record ≡ next_record r target (report_of (sides_of r target) ran) ran.last.table = is.after ∙ (λ i. next_record r target (is.is_run.report_is i) (sym is.is_run.table i)) in
-    subst (λ (t : Table). IsTrueOf t new.record) is.is_run.table (left-true target r new.record ran left is.headline.ends.after)
+    subst (λ (t : Table). IsTrueOf t new.record) is.is_run.table (left-true target r new.record old.world.table ran left is.headline.ends.after)
 
 pub done-true : (sections : List Section) (settings : Option Settings) (words : List Word) (first : Standing State) (blocks : List Block) (last : Standing State) → AreDone (EnactsAt sections) (DeclinesAt sections) settings words 0 first blocks last → IsTrueOf first.world.table first.record → IsTrueOf last.world.table last.record
 done-true sections settings words first blocks last done true_of =

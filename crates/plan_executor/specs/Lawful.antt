@@ -14,7 +14,7 @@ use Rattle.definitions.specs.Claims.{run_of}
 
 -- the trail of a run that has come so far
 abbrev pub trail_at : Option Tree → Progress → Trail
-trail_at rest p = record { rest = rest; ready = p.ready; lacking = p.lacking; lacked = p.lacked; note = p.note; cause = p.cause; made = p.calls }
+trail_at rest p = record { rest = rest; ready = p.ready; lacked = p.lacked; note = p.note; cause = p.cause; made = p.calls }
 
 -- how the run of a trail that is over ends
 abbrev pub ending_of : Option Tree → Ending

@@ -10,7 +10,8 @@ use Rattle.definitions.specs.Record.{Record, addresses_of, crew_of}
 use Rattle.definitions.specs.Tree.{Tree, Ends, End, Done, Split}
 use Rattle.definitions.specs.After.{crew_wanted}
 use Rattle.definitions.specs.Plans.{Turn, joined}
-use Rattle.definitions.specs.Plans.{does, spawn_edges, move_aside, new_part, old_part, taken_over, back_from}
+use Rattle.definitions.specs.Plans.{does, move_aside, new_part, old_part, taken_over, back_from}
+use Rattle.call_laws.specs.Pieces.{spawn_edges}
 use Rattle.theorems.specs.Apart.{WalksAll, IsWalkedApart}
 
 -- The steps of an upgrade before the parts of its masters, up to where these begin.

@@ -6,7 +6,7 @@ use Rattle.definitions.specs.Exits.{after_exits}
 use Rattle.definitions.specs.Calls.{step_with, Handed}
 use Rattle.definitions.specs.Run.{Pattern}
 
--- From one table to another by these calls, each of which is handed the text, the first being number n + 1 of the
+-- From one table to another by these calls, each of which is handed the same, the first being number n + 1 of the
 -- pattern: before each the exits of its moment, and each with the one answer that it can have there.
 abbrev pub Replays : Handed → Pattern → ℕ → Table → List Entry → Table → Type 0
 Replays handed pattern n t [] last = t ≡ last

@@ -3,7 +3,8 @@ ghost use Rattle.std.specs.Prelude.{◌≡◌, ◌∷◌, []};
 ghost use Rattle.std.specs.List.{list_any};
 ghost use Rattle.definitions.specs.Manner.{is_leave_call};
 ghost use Rattle.kernel_model.specs.Pattern.{moment_at};
-ghost use Rattle.definitions.specs.Claims.{names_any, executing_at, executing_after, refused_among};
+ghost use Rattle.definitions.specs.Claims.{names_any, refused_among};
+ghost use Rattle.call_laws.specs.Pieces.{executing_at, executing_after};
 ghost use Rattle.plan_executor.specs.Naming.{is_exit_of, listed};
 
 use kernel_model::Pattern;

@@ -6,19 +6,19 @@ use Rattle.definitions.specs.Table.{Address}
 use Rattle.definitions.specs.Calls.{Call, OpenAt}
 use Rattle.definitions.specs.Crew.{Crew, fork_of}
 use Rattle.definitions.specs.Tree.{Tree}
-use Rattle.definitions.specs.Plans.{forks, opens}
+use Rattle.definitions.specs.Plans.{either, forks, opens}
 use Rattle.rollback_plan.proofs.Lists.{take_at, drop_at}
-use Rattle.plan_pieces.specs.Pieces.{attempt, IsAttempted}
+use Rattle.plan_pieces.specs.Pieces.{IsAttempted}
 
-module _ {X : Type 0} (by : ℕ) (call : X → Call) (tree : List X → List X → Tree) (bad : List X → Tree) (more : (x : X) (xs done : List X) → attempt by (call x) (tree xs (x ∷ done)) (bad done) ≡ tree (x ∷ xs) done) (xs : List X) where
+module _ {X : Type 0} (by : ℕ) (call : X → Call) (tree : List X → List X → Tree) (bad : List X → Tree) (more : (x : X) (xs done : List X) → either by (call x) [] (tree xs (x ∷ done)) (bad done) ≡ tree (x ∷ xs) done) (xs : List X) where
   -- one call more
-  one : (i : ℕ) (c : Call) (o : Option X) → slice_get xs i ≡ o → option_map call o ≡ Some c → attempt by c (tree (drop (i + 1) xs) (reverse (take (i + 1) xs))) (bad (reverse (take i xs))) ≡ tree (drop i xs) (reverse (take i xs))
+  one : (i : ℕ) (c : Call) (o : Option X) → slice_get xs i ≡ o → option_map call o ≡ Some c → either by c [] (tree (drop (i + 1) xs) (reverse (take (i + 1) xs))) (bad (reverse (take i xs))) ≡ tree (drop i xs) (reverse (take i xs))
   one i c None at is = cc
   one i c (Some x) at is =
       let same : call x ≡ c = cc in
       let done : reverse (take (i + 1) xs) ≡ x ∷ reverse (take i xs) = ap reverse (take_at xs i x at) ∙ reverse-append (take i xs) (x ∷ []) in
-      ap (λ d. attempt by d (tree (drop (i + 1) xs) (reverse (take (i + 1) xs))) (bad (reverse (take i xs)))) (sym same)
-      ∙ (ap (λ ys. attempt by (call x) (tree (drop (i + 1) xs) ys) (bad (reverse (take i xs)))) done
+      ap (λ d. either by d [] (tree (drop (i + 1) xs) (reverse (take (i + 1) xs))) (bad (reverse (take i xs)))) (sym same)
+      ∙ (ap (λ ys. either by (call x) [] (tree (drop (i + 1) xs) ys) (bad (reverse (take i xs)))) done
       ∙ (more x (drop (i + 1) xs) (reverse (take i xs)) ∙ ap (λ ys. tree ys (reverse (take i xs))) (sym (drop_at xs i x at))))
 
   attempted : (rest : Tree) → tree [] (reverse xs) ≡ rest → IsAttempted by (map call xs) rest (λ i. bad (reverse (take i xs))) (λ i. tree (drop i xs) (reverse (take i xs)))

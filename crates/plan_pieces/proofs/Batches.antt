@@ -4,7 +4,8 @@ use Rattle.std.proofs.lemmas.List.{reverse-append, take-append-drop}
 use Rattle.definitions.specs.Calls.{Call, OpenAt, CloseAt, AwaitReady, Quit, Kill, AwaitGone, Usr1}
 use Rattle.definitions.specs.Crew.{fork_of}
 use Rattle.definitions.specs.Tree.{Tree}
-use Rattle.definitions.specs.Plans.{quits, forks_any, awaits_any, kills, usr1s, awaits_gone, closes}
+use Rattle.definitions.specs.Plans.{forks_any, awaits_any, awaits_gone}
+use Rattle.call_laws.specs.Pieces.{quits, kills, usr1s, closes}
 use Rattle.plan_steps.specs.declared.batch.Errand.TheVariants as asked
 use Rattle.plan_steps.specs.declared.batch.Batch.{Batch}
 use Rattle.plan_steps.specs.declared.batch.Batch.TheVariants.{Workers, Forks, Opens, Closes}

@@ -9,7 +9,8 @@ use Rattle.vocabulary.specs.declared.plans.Side.{Side}
 use Rattle.vocabulary.specs.declared.calls.Call.TheVariants.{RemovePid}
 use Rattle.definitions.specs.Tree.{Tree}
 use Rattle.plan_steps.specs.Fit.{is_fit}
-use Rattle.definitions.specs.Plans.{does, note_edges, settle, quits, awaits, forks, awaits_any, forks_any, starts_any, kills, usr1s, awaits_gone, opens, closes}
+use Rattle.definitions.specs.Plans.{does, note_edges, settle, awaits, forks, awaits_any, forks_any, starts_any, awaits_gone, opens}
+use Rattle.call_laws.specs.Pieces.{quits, kills, usr1s, closes}
 
 pub settle_fit : (by : ℕ) (crew : Crew) (set : List ℕ) (side : Side) (rounds : ℕ) (short : Bool) → is_fit short (settle by crew set side rounds) ≡ true
 settle_fit by crew set side zero true = refl

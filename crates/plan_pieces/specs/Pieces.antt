@@ -1,9 +1,10 @@
 -- What plans do for each of a list of calls.
-use Rattle.std.specs.Prelude.{◌≡◌, ℕ, ◌+◌, ◌*◌, Bool, true, false, List, [], ◌∷◌, Some, length, map, reverse, slice_get, if◌then◌else◌, drop}
+use Rattle.std.specs.Prelude.{◌≡◌, ℕ, ◌+◌, ◌*◌, Bool, true, false, List, [], ◌∷◌, Some, length, map, reverse, slice_get, if◌then◌else◌}
 use Rattle.listener_set.specs.declared.generation.Generation.{Generation}
 use Rattle.definitions.specs.Calls.{Call, OpenAt, AwaitReady, Kill, AwaitGone}
-use Rattle.definitions.specs.Tree.{Tree, Nothing, plain_reply, replies_to}
-use Rattle.definitions.specs.Plans.{on, does, then_edge, await_any_edges, gone_edges, quits, forks_any, awaits_any, kills, usr1s, awaits_gone, closes}
+use Rattle.definitions.specs.Tree.{Tree, Nothing, replies_to}
+use Rattle.definitions.specs.Plans.{on, does, either, then_edge, await_any_edges, forks_any, awaits_any, awaits_gone}
+use Rattle.call_laws.specs.Pieces.{gone_edges, quits, kills, usr1s, closes}
 use Rattle.plan_steps.specs.declared.batch.Errand.{Errand}
 use Rattle.plan_steps.specs.declared.batch.Errand.TheVariants as asked
 use Rattle.plan_steps.specs.declared.batch.Batch.{Batch}
@@ -64,11 +65,7 @@ steps_in (Closes addresses) = length addresses.now
 
 ---- Until one fails
 
--- the plain reply to a call goes on; any other goes back
-abbrev pub attempt : ℕ → Call → Tree → Tree → Tree
-attempt by call rest back = does by call (on (plain_reply call ∷ []) rest (on (drop 1 (replies_to call)) back Nothing))
-
 -- the i-th of these trees tries the calls from the i-th on; where one fails it takes the way back of those before it
 pub record IsAttempted (by : ℕ) (calls : List Call) (rest : Tree) (back tree : ℕ → Tree) : Type 0 where
   pub last : tree (length calls) ≡ rest
-  pub each : (i : ℕ) (call : Call) → slice_get calls i ≡ Some call → attempt by call (tree (i + 1)) (back i) ≡ tree i
+  pub each : (i : ℕ) (call : Call) → slice_get calls i ≡ Some call → either by call [] (tree (i + 1)) (back i) ≡ tree i

@@ -4,7 +4,8 @@ ghost use Rattle.definitions.specs.Tree.{Tree};
 ghost use Rattle.plan_steps.specs.Batches.{calls_of, size_of};
 ghost use Rattle.rollback_plan.specs.Drafts.{trees_of, tree_at, are_places, IsMade, Grows};
 ghost use Rattle.rollback_plan.specs.Back.{AreMade};
-ghost use Rattle.plan_pieces.specs.Pieces.{attempt, IsAttempted};
+ghost use Rattle.definitions.specs.Plans.{either};
+ghost use Rattle.plan_pieces.specs.Pieces.{IsAttempted};
 
 use call_replies::{failed_replies, plain_replies};
 use listener_set::Numbers;
@@ -44,7 +45,7 @@ fn add_attempt(
 ) -> Result<Place, DraftRefusal>
     requires rest { rest.0 < length (trees_of draft.old) }
     requires back { back.0 < length (trees_of draft.old) }
-    ensures made { IfOk result (λ place. IsMade draft.new place (attempt by call (tree_at draft.old rest) (tree_at draft.old back))) }
+    ensures made { IfOk result (λ place. IsMade draft.new place (either by call [] (tree_at draft.old rest) (tree_at draft.old back))) }
     ensures grows { Grows draft.old draft.new result 1 }
 {
     let edges = [

@@ -5,6 +5,7 @@ ghost use Rattle.rollback_plan.specs.declared.draft.TheConstants.{MOST_STEPS};
 ghost use Rattle.vocabulary.specs.declared.calls.Call.TheVariants as call;
 ghost use Rattle.definitions.specs.Tree.{Tree};
 ghost use Rattle.definitions.specs.Plans as plans;
+ghost use Rattle.call_laws.specs.Pieces as pieces;
 ghost use Rattle.rollback_plan.specs.Drafts.{trees_of, tree_at, are_places, IsMade, Keeps, Grows};
 ghost use Rattle.rollback_plan.specs.Back.{AreMade};
 
@@ -73,7 +74,7 @@ fn add_await(
     requires rest { rest.0 < length (trees_of draft.old) }
     requires failed { failed.0 < length (trees_of draft.old) }
     ensures made { IfOk result (λ place. IsMade draft.new place (plans.does by (call.AwaitReady generation number)
-        (plans.await_edges (tree_at draft.old rest) (tree_at draft.old failed) (plans.does by (call.Kill generation number) (plans.then_edge (tree_at draft.old failed)))))) }
+        (pieces.await_edges (tree_at draft.old rest) (tree_at draft.old failed) (plans.does by (call.Kill generation number) (plans.then_edge (tree_at draft.old failed)))))) }
     ensures grows { Grows draft.old draft.new result 2 }
 {
     let killed = draft.call(by, Call::Kill(generation, number), failed)?;

@@ -21,7 +21,8 @@ use Rattle.definitions.specs.Tree.{Tree, Ends, Does, Branches, Nothing, Branch, 
 use Rattle.definitions.specs.Tree.{among, same_reply, reply_of, full_or_short, replies_to, call_of}
 use Rattle.call_laws.specs.Lengths.{height, highest}
 use Rattle.call_replies.specs.Replies.{is_listed, order_replies}
-use Rattle.definitions.specs.Run.{ready_after, lacking_after, Lack, lacked_by, lacked_after, first_cause, went_wrong}
+use Rattle.definitions.specs.Run.{ready_after, Lack, lacked_by, lacked_after, went_wrong}
+use Rattle.call_laws.specs.Pieces.{first_cause}
 use Rattle.plan_walk.specs.Path.{Trail, advance, Asks}
 use Rattle.rollback_plan.specs.Following.{follow}
 use Rattle.plan_steps.specs.declared.step.Step.{Step}
@@ -169,20 +170,20 @@ lost_after (Does own order set branches) lacked by c a h on listed e =
           absurd (true≢false (sym has ∙ ap is_some e))
     ]
 
-abbrev pub trail_at : Option Tree → List ℕ → List ℕ → List Lack → PidNote → Option ℕ → ℕ → Trail
-trail_at rest ready lacking lacked note cause made = record { rest = rest; ready = ready; lacking = lacking; lacked = lacked; note = note; cause = cause; made = made }
+abbrev pub trail_at : Option Tree → List ℕ → List Lack → PidNote → Option ℕ → ℕ → Trail
+trail_at rest ready lacked note cause made = record { rest = rest; ready = ready; lacked = lacked; note = note; cause = cause; made = made }
 
 -- what an entry makes of a trail, where no edge takes its answer
-pub advanced_lost : (rest : Option Tree) (t : Tree) (set ready lacking ready' lacking' : List ℕ) (lacked lacked' : List Lack) (note : PidNote) (cause first : Option ℕ) (made : ℕ) (e : Entry) → rest ≡ Some t → SetIs t set → ready' ≡ ready_after e.answer ready → lacking' ≡ lacking_after set e.answer lacking → lacked' ≡ lacked_after e.by set e.answer lacked → first ≡ first_cause cause (went_wrong e.call (reply_of set e.answer)) (made + 1) → follow (Some t) e.answer ≡ None → trail_at None ready' lacking' lacked' note first (made + 1) ≡ advance (trail_at rest ready lacking lacked note cause made) e
-advanced_lost rest (Ends end) set ready lacking ready' lacking' lacked lacked' note cause first made e is s readies lacks all causes none = absurd s
-advanced_lost rest (Does by order own branches) set ready lacking ready' lacking' lacked lacked' note cause first made e is s readies lacks all causes none =
-    rw (is, readies, lacks, all, causes, s, none) refl
+pub advanced_lost : (rest : Option Tree) (t : Tree) (set ready ready' : List ℕ) (lacked lacked' : List Lack) (note : PidNote) (cause first : Option ℕ) (made : ℕ) (e : Entry) → rest ≡ Some t → SetIs t set → ready' ≡ ready_after e.answer ready → lacked' ≡ lacked_after e.by set e.answer lacked → first ≡ first_cause cause (went_wrong e.call (reply_of set e.answer)) (made + 1) → follow (Some t) e.answer ≡ None → trail_at None ready' lacked' note first (made + 1) ≡ advance (trail_at rest ready lacked note cause made) e
+advanced_lost rest (Ends end) set ready ready' lacked lacked' note cause first made e is s readies all causes none = absurd s
+advanced_lost rest (Does by order own branches) set ready ready' lacked lacked' note cause first made e is s readies all causes none =
+    rw (is, readies, all, causes, s, none) refl
 
 -- and where one does
-pub advanced_on : (rest : Option Tree) (t : Tree) (set ready lacking ready' lacking' : List ℕ) (lacked lacked' : List Lack) (note said : PidNote) (cause first : Option ℕ) (made : ℕ) (e : Entry) (found : Option PidNote × Tree) → rest ≡ Some t → SetIs t set → ready' ≡ ready_after e.answer ready → lacking' ≡ lacking_after set e.answer lacking → lacked' ≡ lacked_after e.by set e.answer lacked → first ≡ first_cause cause (went_wrong e.call (reply_of set e.answer)) (made + 1) → follow (Some t) e.answer ≡ Some found → said ≡ unwrap_or found.0 note → trail_at (Some found.1) ready' lacking' lacked' said first (made + 1) ≡ advance (trail_at rest ready lacking lacked note cause made) e
-advanced_on rest (Ends end) set ready lacking ready' lacking' lacked lacked' note said cause first made e found is s readies lacks all causes on notes = absurd s
-advanced_on rest (Does by order own branches) set ready lacking ready' lacking' lacked lacked' note said cause first made e found is s readies lacks all causes on notes =
-    rw (is, readies, lacks, all, causes, s, on, notes) refl
+pub advanced_on : (rest : Option Tree) (t : Tree) (set ready ready' : List ℕ) (lacked lacked' : List Lack) (note said : PidNote) (cause first : Option ℕ) (made : ℕ) (e : Entry) (found : Option PidNote × Tree) → rest ≡ Some t → SetIs t set → ready' ≡ ready_after e.answer ready → lacked' ≡ lacked_after e.by set e.answer lacked → first ≡ first_cause cause (went_wrong e.call (reply_of set e.answer)) (made + 1) → follow (Some t) e.answer ≡ Some found → said ≡ unwrap_or found.0 note → trail_at (Some found.1) ready' lacked' said first (made + 1) ≡ advance (trail_at rest ready lacked note cause made) e
+advanced_on rest (Ends end) set ready ready' lacked lacked' note said cause first made e found is s readies all causes on notes = absurd s
+advanced_on rest (Does by order own branches) set ready ready' lacked lacked' note said cause first made e found is s readies all causes on notes =
+    rw (is, readies, all, causes, s, on, notes) refl
 
 -- the entry that is asked for is the next step's master's
 pub asked_by : (rest : Option Tree) (t : Tree) (lacked : List Lack) (e : Entry) → rest ≡ Some t → Asks rest lacked e → ByIs t e.by

@@ -4,24 +4,22 @@ use Rattle.vocabulary.specs.declared.calls.Answer.TheVariants as answer
 use Rattle.vocabulary.specs.declared.reports.Outcome.TheVariants as outcome
 use Rattle.definitions.specs.Tree.{reply_of, Done, PidNote, call_of, Tree, Ends, Does}
 use Rattle.definitions.specs.Run.{Entry, Report, Outcome, Sides, Lack, ready_after}
-use Rattle.definitions.specs.Run.{lacking_after, lacked_by, lacked_after, went_wrong, first_cause, outcome_at}
+use Rattle.definitions.specs.Run.{lacked_by, lacked_last, lacked_after, went_wrong, outcome_at}
+use Rattle.call_laws.specs.Pieces.{first_cause}
 use Rattle.rollback_plan.specs.Following.{follow}
 
--- How far a path has come: the rest of the tree, or nothing where the last answer had no edge; the last count and
--- what it lacked of its set; the note; the first call that went wrong, counted from 1; and how many calls were made.
+-- How far a path has come: the rest of the tree, or nothing where the last answer had no edge; the last count, and
+-- what the last counts lacked; the note; the first call that went wrong, counted from 1; and how many calls were made.
 pub record Trail : Type 0 where
   pub rest : Option Tree
   pub ready : List ℕ
-  pub lacking : List ℕ
-  -- what the last count of each master lacked
   pub lacked : List Lack
   pub note : PidNote
   pub cause : Option ℕ
   pub made : ℕ
 
 abbrev pub begin : Tree → PidNote → Trail
-begin tree note =
-    record { rest = Some tree; ready = []; lacking = []; lacked = []; note = note; cause = None; made = 0 }
+begin tree note = record { rest = Some tree; ready = []; lacked = []; note = note; cause = None; made = 0 }
 
 ---- One entry
 
@@ -41,7 +39,6 @@ abbrev pub advance : Trail → Entry → Trail
 advance t e = record {
   rest = rest_after (follow t.rest e.answer);
   ready = ready_after e.answer t.ready;
-  lacking = lacking_after (set_of t.rest) e.answer t.lacking;
   lacked = lacked_after e.by (set_of t.rest) e.answer t.lacked;
   note = note_after (follow t.rest e.answer) t.note;
   cause = first_cause t.cause (went_wrong e.call (reply_of (set_of t.rest) e.answer)) (t.made + 1);
@@ -78,7 +75,7 @@ IsOutcome sides (Some (Ends end)) lacking o = o ≡ outcome_at sides end lacking
 IsOutcome sides (Some (Does by order set branches)) lacking o = ⊥
 
 pub record Reports (sides : Sides) (t : Trail) (report : Report) : Type 0 where
-  pub outcome : IsOutcome sides t.rest t.lacking report.outcome
+  pub outcome : IsOutcome sides t.rest (lacked_last t.lacked) report.outcome
   pub cause : report.cause ≡ t.cause
   pub note : report.note ≡ t.note
   pub ready : report.ready ≡ t.ready

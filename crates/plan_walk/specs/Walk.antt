@@ -5,13 +5,13 @@ use Rattle.vocabulary.specs.declared.calls.Answer.{Answer}
 use Rattle.definitions.specs.Plans.{Turn}
 use Rattle.definitions.specs.Run.{Sides, Entry}
 use Rattle.plan_walk.specs.Path.{Trail, Asks, IsOver}
-use Rattle.rollback_plan.specs.Bounds.{lacking_in, lacked_in}
+use Rattle.rollback_plan.specs.Bounds.{lacked_in}
 use Rattle.plan_walk.specs.declared.walk.Walk.{Walk}
 use Rattle.plan_walk.specs.Rests.{rest_in, left_in, IsTurnIn}
 
 -- its trail, where the two masters take these turns
 abbrev pub trail_under : Walk → List Turn → Trail
-trail_under w turns = record { rest = rest_in w.rest turns; ready = w.bound.ready; lacking = lacking_in w.bound; lacked = lacked_in w.bound; note = w.note; cause = w.cause; made = w.made }
+trail_under w turns = record { rest = rest_in w.rest turns; ready = w.bound.ready; lacked = lacked_in w.bound; note = w.note; cause = w.cause; made = w.made }
 
 -- its trail, where the new master goes on until its part has ended
 abbrev pub trail_of : Walk → Trail

@@ -4,7 +4,8 @@ ghost use Rattle.definitions.specs.Plans.{Turn};
 ghost use Rattle.vocabulary.specs.declared.calls.Answer.TheVariants.{MasterGone};
 ghost use Rattle.definitions.specs.Crew.{shortfalls_of};
 ghost use Rattle.call_laws.specs.Lengths.{height};
-ghost use Rattle.definitions.specs.Run.{first_cause};
+ghost use Rattle.definitions.specs.Run.{lacked_last};
+ghost use Rattle.call_laws.specs.Pieces.{first_cause};
 ghost use Rattle.rollback_plan.specs.Plans.{tree_under, length_of, note_of, sides_told};
 ghost use Rattle.plan_walk.specs.Fit.{answers_next, height_next};
 ghost use Rattle.plan_walk.specs.Rests.{rest_in};
@@ -183,7 +184,7 @@ impl<'a> Walk<'a> {
 
     fn outcome(&self) -> Outcome
         requires { IsAtEnd self.now }
-        ensures { (turns : List Turn) → IsOutcome (sides_in self.now) (trail_under self.now turns).rest (trail_under self.now turns).lacking result }
+        ensures { (turns : List Turn) → IsOutcome (sides_in self.now) (trail_under self.now turns).rest (lacked_last (trail_under self.now turns).lacked) result }
     {
         let Some(cursor) = self.rest else {
             return Outcome::Lost;
@@ -201,7 +202,7 @@ impl<'a> Walk<'a> {
 
     /// A side of these groups that lacks what the last census lacked.
     fn degraded(&self, side: Side, groups: &Groups) -> Outcome
-        ensures { result ≡ Outcome.Degraded side (shortfalls_of groups.now (trail_of self.now).lacking) }
+        ensures { result ≡ Outcome.Degraded side (shortfalls_of groups.now (lacked_last (trail_of self.now).lacked)) }
     {
         Outcome::Degraded {
             side,

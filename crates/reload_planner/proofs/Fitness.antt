@@ -9,7 +9,8 @@ use Rattle.vocabulary.specs.declared.plans.PidNote.TheVariants.{Left, NoFile}
 use Rattle.definitions.specs.Record.{oldbin}
 use Rattle.definitions.specs.Tree.{Tree}
 use Rattle.plan_steps.specs.Fit.{is_fit}
-use Rattle.definitions.specs.Plans.{settle, starts, census, census_edges, usr1s, removes, stopped, stop_tree, remove_oldbin_too, has_oldbin}
+use Rattle.definitions.specs.Plans.{settle, starts, removes, stopped, stop_tree, remove_oldbin_too, has_oldbin}
+use Rattle.call_laws.specs.Pieces.{census, census_edges, usr1s}
 use Rattle.reload_planner.specs.Changes.{change_tree, repair_tree, on_tree, back_tree, renewal_tree}
 use Rattle.plan_pieces.proofs.Fitness.{settle_fit, quits_fit, kills_fit, usr1s_fit, closes_fit, awaits_gone_fit, remove_fit, awaits_fit, forks_fit, starts_any_fit, opens_fit}
 

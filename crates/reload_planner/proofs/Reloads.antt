@@ -1,12 +1,13 @@
 -- A reload is the one of its definition.
 use Rattle.std.proofs.Common.{◌≡◌, ℕ, ◌+◌, Bool, true, false, List, [], Some, None, Result, Ok, Err, nat_lt, refl, sym, ◌∙◌, ap}
-use Rattle.std.specs.Prelude.{if◌then◌else◌, IfOk}
+use Rattle.std.specs.Prelude.{IfOk}
+use Rattle.std.specs.Bool.{then_some}
 use Rattle.listener_set.specs.Numbers.{numbers_below}
 use Rattle.listener_set.specs.declared.generation.Generation.{Generation}
 use Rattle.definitions.specs.Table.{Address}
 use Rattle.definitions.specs.Crew.{Posts, Crew}
 use Rattle.definitions.specs.Target.{only_in, reload_generation}
-use Rattle.definitions.specs.After.{next_config, numbered, posts_wanted}
+use Rattle.definitions.specs.After.{next_config, has_next, posts_wanted}
 use Rattle.definitions.specs.Record.{Record, addresses_of, crew_of}
 use Rattle.vocabulary.specs.Settings.{Settings}
 use Rattle.vocabulary.specs.declared.targets.Target.TheVariants.{Reload}
@@ -19,9 +20,9 @@ use Rattle.reload_planner.specs.declared.refusal.PlanRefusal.{PlanRefusal}
 use Rattle.reload_planner.specs.Changes.{renewal_tree, next_crew}
 
 pub next_is : (g new : Generation) → next_config g ≡ Some new → new ≡ reload_generation g
-next_is g new h = one (nat_lt g.config 4294967295) h
+next_is g new h = one (has_next g.config) h
   where
-    one : (b : Bool) → numbered (Some g.image) (if b then Some (g.config + 1) else None) ≡ Some new → new ≡ reload_generation g
+    one : (b : Bool) → then_some b (reload_generation g) ≡ Some new → new ≡ reload_generation g
     one true e = let is : reload_generation g ≡ new = cc in sym is
     one false e = cc
 

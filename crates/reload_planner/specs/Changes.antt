@@ -6,7 +6,8 @@ use Rattle.definitions.specs.Crew.{Posts, Crew}
 use Rattle.definitions.specs.Target.{reload_generation}
 use Rattle.vocabulary.specs.declared.plans.Side.TheVariants.{Old, Target}
 use Rattle.definitions.specs.Tree.{Tree}
-use Rattle.definitions.specs.Plans.{starts, starts_any, quits, kills, awaits_gone, opens, closes, census, census_edges, settle}
+use Rattle.definitions.specs.Plans.{starts, starts_any, awaits_gone, opens, settle}
+use Rattle.call_laws.specs.Pieces.{quits, kills, closes, census, census_edges}
 
 -- Some numbers are started and then others quit, and the target settles. A failed start quits what was forked, and the old
 -- side settles.

@@ -3,7 +3,8 @@ ghost use Rattle.std.specs.Prelude.{◌≡◌, ◌≤◌, ◌<◌, ◌+◌, ◌*
 ghost use Rattle.definitions.specs.After as after;
 ghost use Rattle.definitions.specs.Tree.{Tree};
 ghost use Rattle.call_laws.specs.Lengths.{height};
-ghost use Rattle.definitions.specs.Plans.{Turn, census, census_edges, reload_tree};
+ghost use Rattle.definitions.specs.Plans.{Turn, reload_tree};
+ghost use Rattle.call_laws.specs.Pieces.{census, census_edges};
 ghost use Rattle.rollback_plan.specs.declared.draft.DraftRefusal.TheVariants.{TooLarge};
 ghost use Rattle.rollback_plan.specs.declared.draft.TheConstants.{MOST_STEPS};
 ghost use Rattle.rollback_plan.specs.Drafts.{trees_of, tree_at, are_places, IsMade, Grows};

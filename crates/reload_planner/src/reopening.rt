@@ -1,6 +1,7 @@
 //! The plan that has each worker open its logs anew.
 ghost use Rattle.std.specs.Prelude.{◌≡◌, ◌≤◌, ◌<◌, ◌+◌, ◌*◌, List, [], None, length, IfOk, IsErrOf, IsOkUnless, OnOk};
-ghost use Rattle.definitions.specs.Plans.{Turn, reopen_tree, settle, usr1s};
+ghost use Rattle.definitions.specs.Plans.{Turn, reopen_tree, settle};
+ghost use Rattle.call_laws.specs.Pieces.{usr1s};
 ghost use Rattle.vocabulary.specs.declared.plans.Side.TheVariants as side;
 ghost use Rattle.rollback_plan.specs.declared.draft.DraftRefusal.TheVariants.{TooLarge};
 ghost use Rattle.rollback_plan.specs.declared.draft.TheConstants.{MOST_STEPS};

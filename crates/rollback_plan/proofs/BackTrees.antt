@@ -8,7 +8,8 @@ use Rattle.definitions.specs.Table.{Address}
 use Rattle.vocabulary.specs.declared.calls.Call.TheVariants.{Quit, CloseAt}
 use Rattle.definitions.specs.Calls.{Call}
 use Rattle.definitions.specs.Tree.{Tree}
-use Rattle.definitions.specs.Plans.{does, then_edge, quits, closes}
+use Rattle.definitions.specs.Plans.{does, then_edge}
+use Rattle.call_laws.specs.Pieces.{quits, closes}
 use Rattle.rollback_plan.specs.declared.draft.Draft.{Draft}
 use Rattle.plan_steps.specs.declared.step.Place.{Place}
 use Rattle.rollback_plan.specs.Drafts.{IsMade, Keeps}

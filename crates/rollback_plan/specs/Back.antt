@@ -4,7 +4,8 @@ use Rattle.listener_set.specs.declared.generation.Generation.{Generation}
 use Rattle.definitions.specs.Table.{Address}
 use Rattle.definitions.specs.Calls.{Call}
 use Rattle.definitions.specs.Tree.{Tree}
-use Rattle.definitions.specs.Plans.{does, then_edge, quits, closes}
+use Rattle.definitions.specs.Plans.{does, then_edge}
+use Rattle.call_laws.specs.Pieces.{quits, closes}
 use Rattle.plan_steps.specs.declared.step.Place.{Place}
 use Rattle.rollback_plan.specs.declared.draft.Draft.{Draft}
 use Rattle.rollback_plan.specs.Drafts.{IsMade}

@@ -16,11 +16,3 @@ newest_of (Some lack) lacked = lack ∷ lacked
 -- what the last census of each master lacked, the newest first
 abbrev pub lacked_in : Bound → List Lack
 lacked_in b = newest_of b.newest (newest_of b.older [])
-
-abbrev pub numbers_of : Option Lack → List ℕ
-numbers_of None = []
-numbers_of (Some lack) = lack.numbers
-
--- what the last census of all lacked
-abbrev pub lacking_in : Bound → List ℕ
-lacking_in b = numbers_of b.newest

@@ -2,9 +2,9 @@
 ghost use Rattle.std.specs.Prelude.{◌≡◌, []};
 ghost use Rattle.definitions.specs.Tree.{call_of};
 ghost use Rattle.definitions.specs.Tree as tree;
-ghost use Rattle.definitions.specs.Run.{ready_after, lacking_after, lacked_by, lacked_after};
+ghost use Rattle.definitions.specs.Run.{ready_after, lacked_by, lacked_last, lacked_after};
 ghost use Rattle.definitions.specs.Run as run;
-ghost use Rattle.rollback_plan.specs.Bounds.{newest_of, lacking_in, lacked_in};
+ghost use Rattle.rollback_plan.specs.Bounds.{newest_of, lacked_in};
 
 use listener_set::Numbers;
 use plan_steps::{Step, fork_of};
@@ -23,7 +23,6 @@ impl Bound {
     /// Before any census.
     pub fn new() -> Bound
         ensures ready { result.ready ≡ [] }
-        ensures lacking { lacking_in result ≡ [] }
         ensures lacked { lacked_in result ≡ [] }
     {
         Bound {
@@ -36,7 +35,6 @@ impl Bound {
     /// Keeps the answer to a step, if it is a census.
     pub fn take(&mut self, step: &Step, answer: &Answer)
         ensures ready { self.new.ready ≡ ready_after answer.now self.old.ready }
-        ensures lacking { lacking_in self.new ≡ lacking_after step.now.set answer.now (lacking_in self.old) }
         ensures lacked { lacked_in self.new ≡ lacked_after step.now.by step.now.set answer.now (lacked_in self.old) }
     {
         if let Answer::Counted(counted) = answer {
@@ -96,9 +94,9 @@ impl Bound {
 
     /// The numbers that the last census lacked, whichever master's it was.
     pub fn lacking(&self) -> Numbers
-        ensures { result ≡ lacking_in self.now }
+        ensures { result ≡ lacked_last (lacked_in self.now) }
     {
-        match self.newest {
+        match self.newest.or(self.older) {
             Some(lack) => lack.numbers,
             None => Numbers::none(),
         }

@@ -3,6 +3,7 @@ ghost use Rattle.std.specs.Prelude.{◌≡◌, ◌+◌, ◌*◌, ◌<◌, length
 ghost use Rattle.vocabulary.specs.declared.plans.Side.TheVariants.{Old};
 ghost use Rattle.definitions.specs.Tree.{Ends};
 ghost use Rattle.definitions.specs.Plans as plans;
+ghost use Rattle.call_laws.specs.Pieces as pieces;
 ghost use Rattle.rollback_plan.specs.declared.draft.TheConstants.{MOST_STEPS};
 ghost use Rattle.plan_steps.specs.Steps.{tree_among};
 ghost use Rattle.rollback_plan.specs.Drafts.{is_plain};
@@ -130,7 +131,7 @@ impl Draft {
         short: Next,
     ) -> Result<Place, DraftRefusal>
         requires { IsTrue (is_plain (length (trees_of self.old)) short) }
-        ensures made { IfOk result (λ place. IsMade self.new place (plans.census by generation set.now (plans.census_edges (Ends full) (tree_among 0 (trees_of self.old) short)))) }
+        ensures made { IfOk result (λ place. IsMade self.new place (pieces.census by generation set.now (pieces.census_edges (Ends full) (tree_among 0 (trees_of self.old) short)))) }
         ensures grows { Grows self.old self.new result 1 }
     {
         self.add(

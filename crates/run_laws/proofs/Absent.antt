@@ -17,9 +17,10 @@ use Rattle.definitions.specs.Table.{is_live_master, is_held, is_worker, is_activ
 use Rattle.definitions.specs.Table.{is_draining, is_named}
 use Rattle.definitions.specs.Exits.{change, made_exited, first_changed, caller_exits, without_exited, exited, all_exited, after_exits}
 use Rattle.definitions.specs.Calls.{Stepped, gives, each_row, drop_where, suits, moved_if, asked_alive, is_image}
-use Rattle.definitions.specs.Calls.{is_of_image, without_master, with_holds, put_hold, lacks_address, lowest_free}
+use Rattle.definitions.specs.Calls.{is_of_image, with_holds, put_hold, lacks_address, lowest_free}
+use Rattle.call_laws.specs.Pieces.{without_master, fault_at}
 use Rattle.definitions.specs.Calls.{with_new_socket, with_new_row, shared, is_row, is_of, is_exited_of, made_ready}
-use Rattle.definitions.specs.Calls.{made_draining, has_process_room, own_step, fault_at, fault_or_own, step_by}
+use Rattle.definitions.specs.Calls.{made_draining, has_process_room, own_step, fault_or_own, step_by}
 use Rattle.definitions.specs.Calls.{step_with, Handed}
 use Rattle.table_laws.proofs.Rows.{FitsIn, every-filter_map, every-append}
 use Rattle.call_laws.proofs.Choices.{pick}

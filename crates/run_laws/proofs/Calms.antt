@@ -9,8 +9,9 @@ use Rattle.vocabulary.specs.declared.calls.Reply.{Reply}
 use Rattle.vocabulary.specs.declared.plans.End.{End}
 use Rattle.vocabulary.specs.declared.plans.Side.{Side}
 use Rattle.definitions.specs.Tree.{Tree, Branches, Ends, Does, Nothing, Branch, among}
-use Rattle.definitions.specs.Plans.{settle, forks, awaits, starts, quits, kills, forks_any, awaits_any, starts_any}
-use Rattle.definitions.specs.Plans.{usr1s, opens, closes, census, census_edges, full_end, short_end}
+use Rattle.definitions.specs.Plans.{settle, forks, awaits, starts, forks_any, awaits_any, starts_any}
+use Rattle.call_laws.specs.Pieces.{quits, kills, usr1s, closes, census, census_edges}
+use Rattle.definitions.specs.Plans.{opens, full_end, short_end}
 use Rattle.definitions.specs.Crew.{Crew, fds_of}
 use Rattle.definitions.specs.Run.{Progress, Ending, At, Lost, noted}
 use Rattle.table_laws.proofs.Sets.{in-here, in-there, in-cases}

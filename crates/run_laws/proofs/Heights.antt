@@ -1,5 +1,5 @@
 -- A run makes no more calls than the longest path of its plan has steps.
-use Rattle.std.proofs.Common.{◌+◌, ◌≤◌, true, false, length, arith, ℕ}
+use Rattle.std.proofs.Common.{◌+◌, ◌≤◌, true, false, length, arith}
 use Rattle.std.specs.Prelude.{max}
 use Rattle.definitions.specs.Tree.{Tree, Branches, Ends, Does, Nothing, Branch, among, reply_of}
 use Rattle.call_laws.specs.Lengths.{height, highest}

@@ -17,9 +17,10 @@ use Rattle.definitions.specs.Table.{Table, Caller, live_master}
 use Rattle.definitions.specs.Exits.{after_exits}
 use Rattle.definitions.specs.Calls.{gives, each_row, drop_where, is_exited_of, census_of, step_by, step_with, Handed}
 use Rattle.table_laws.proofs.Views.{eqb-refl}
-use Rattle.definitions.specs.Run.{Lack, lacked_by, lacked_after, went_wrong, first_cause}
+use Rattle.definitions.specs.Run.{Lack, lacked_by, lacked_after, went_wrong}
 use Rattle.definitions.specs.Tree.{Tree, Branches, Ends, Does, Nothing, Branch, among, reply_of, full_or_short, call_of, lowest}
-use Rattle.definitions.specs.Plans.{settle, round, full_end, short_end, fork_edges, await_any_edges, then_edge, census_edges, census}
+use Rattle.definitions.specs.Plans.{settle, round, full_end, short_end, await_any_edges, then_edge}
+use Rattle.call_laws.specs.Pieces.{fork_edges, census_edges, census, first_cause}
 use Rattle.definitions.specs.Manner.{is_leave_call}
 use Rattle.definitions.specs.Crew.{Crew, fds_of, fork_of}
 use Rattle.definitions.specs.Run.{Progress, Ending, At, Lost, noted, after_call, after_moment, answered}
@@ -238,7 +239,7 @@ module _ (image : ℕ) (mild : Exiting) (due : Asked) (light : Light image mild 
       let h' : light.Holds t' = subst (λ s. light.Holds s.table) is (light.steps co.handed (Census g) fate q.table (light.censuses g) h) in
       let after : List ℕ → Progress =
       λ l. record
-      { table = t'; calls = q.calls + 1; ready = cs; lacking = lacks S cs; lacked = lacked_after image S (answer.Counted cs) q.lacked; faults = q.faults; losses = q.losses; returns = q.returns; cause = first_cause q.cause (went_wrong (Census g) (full_or_short l)) (q.calls + 1); note = q.note }
+      { table = t'; calls = q.calls + 1; ready = cs; lacked = lacked_after image S (answer.Counted cs) q.lacked; faults = q.faults; losses = q.losses; returns = q.returns; cause = first_cause q.cause (went_wrong (Census g) (full_or_short l)) (q.calls + 1); note = q.note }
       in
       subst (λ s. Edges (census_edges ok short) (reply_of S s.answer) (after_call image (Make (Census g)) S s q)) (sym is)
       (elim (lacks S cs) as (λ l. lacks S cs ≡ l → Edges (census_edges ok short) (full_or_short l) (after l)) [

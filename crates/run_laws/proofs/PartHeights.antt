@@ -16,7 +16,8 @@ use Rattle.definitions.specs.Plans.{graft, graft_all, joined, beside, beside_all
 use Rattle.definitions.specs.Calls.{SpawnMaster}
 use Rattle.definitions.specs.Record.{addresses_of, crew_of}
 use Rattle.definitions.specs.After.{crew_wanted}
-use Rattle.definitions.specs.Plans.{does, taken_over, new_part, old_part, spawn_edges, move_aside, move_back}
+use Rattle.definitions.specs.Plans.{does, taken_over, new_part, old_part, move_aside, move_back}
+use Rattle.call_laws.specs.Pieces.{spawn_edges}
 use Rattle.definitions.specs.Plans.{back_alone, back_from, settle, upgrade_tree}
 use Rattle.call_laws.specs.Lengths.{upgrade_length}
 use Rattle.run_laws.specs.Lengths.{PlansFit}

@@ -1,6 +1,6 @@
 -- Facts on each row of a table with one master: what exits and calls do to them.
 use Rattle.std.proofs.Common.{◌≡◌, ◌≢◌, ℕ, ◌+◌, ◌<◌, ◌≤◌, Bool, true, false, List, [], ◌∷◌, Option, Some, None, refl}
-use Rattle.std.proofs.Common.{sym, ap, ◌∙◌, subst, arith, not, ◌⊎◌, inr, ⊎_elim}
+use Rattle.std.proofs.Common.{sym, ap, ◌∙◌, subst, arith, ◌⊎◌, inr, ⊎_elim}
 use Rattle.std.specs.Prelude.{filter_map, ⊤, ◌&&◌, ◌==◌, nat_lt, length, if◌then◌else◌}
 use Rattle.std.specs.List.{AllByRecursion, list_any}
 use Rattle.listener_set.specs.declared.generation.Generation.{Generation}
@@ -22,7 +22,8 @@ use Rattle.std.specs.Bool.{then_some}
 use Rattle.definitions.specs.Calls.{suits, moved_if, is_image, is_image_row, is_of_image, census_of, Stepped, gives}
 use Rattle.definitions.specs.Calls.{each_row, drop_where, with_holds, put_hold, lacks_address, is_row, is_of}
 use Rattle.definitions.specs.Calls.{is_exited_of, made_ready, made_draining, with_new_row, shared, with_new_socket}
-use Rattle.definitions.specs.Calls.{lowest_free, has_process_room, own_step, fault_at, fault_or_own, step_by, step_with}
+use Rattle.definitions.specs.Calls.{lowest_free, has_process_room, own_step, fault_or_own, step_by, step_with}
+use Rattle.call_laws.specs.Pieces.{fault_at}
 use Rattle.definitions.specs.Calls.{Handed}
 use Rattle.table_laws.proofs.Rows.{weigh-append, one, weigh, worth, FitsIn, change-same, every-filter_map, every-append, every-any}
 use Rattle.call_laws.proofs.Choices.{pick}
@@ -182,11 +183,7 @@ of-lasts m image = (of-exited, of-holds, of-ready, of-draining, of-left)
         kept : (b : Bool) → (n ≢ m) × (i ≢ image) → FitsIn (IsOf m image) (then_some b (Master n q i false []))
         kept true o = inr o
         kept false o = tt
-    of-left gone lives (Worker n q g k s hs) ne h = go (not (q == gone))
-      where
-        go : (b : Bool) → FitsIn (IsOf m image) (then_some b (Worker n q g k s hs))
-        go true = tt
-        go false = tt
+    of-left gone lives (Worker n q g k s hs) ne h = pick (FitsIn (IsOf m image)) (q == gone) None (Some (Worker n q g k s hs)) (λ e. tt) (λ e. tt)
     of-left gone lives (Foreign n hs) ne h = tt
 
 -- Masters are counted as before where no change makes or takes one.

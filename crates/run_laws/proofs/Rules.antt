@@ -21,9 +21,10 @@ use Rattle.vocabulary.specs.declared.calls.Call.TheVariants.{AwaitGone, Fork, Aw
 use Rattle.vocabulary.specs.declared.calls.Answer.TheVariants.{IsReady, Gone, Opened, Counted as Told}
 use Rattle.definitions.specs.Tree.{Tree, Branches, Ends, Does, Nothing, full_or_short, lowest, call_of, reply_of}
 use Rattle.listener_set.specs.Numbers.{is_in, lacks}
-use Rattle.definitions.specs.Plans.{awaits_gone, gone_edges, usr1s, on, kills, forks_any}
-use Rattle.definitions.specs.Plans.{awaits_any, fork_edges, await_edges, then_edge, census_edges, does, census, forks}
-use Rattle.definitions.specs.Plans.{awaits, starts, quits, settle, round, full_end, short_end, await_any_edges}
+use Rattle.definitions.specs.Plans.{awaits_gone, on, forks_any}
+use Rattle.call_laws.specs.Pieces.{gone_edges, usr1s, kills, fork_edges, await_edges, census_edges, census, quits, first_cause}
+use Rattle.definitions.specs.Plans.{awaits_any, then_edge, does, forks}
+use Rattle.definitions.specs.Plans.{awaits, starts, settle, round, full_end, short_end, await_any_edges}
 use Rattle.vocabulary.specs.declared.plans.Side.{Side}
 use Rattle.vocabulary.specs.declared.plans.Order.{Order}
 use Rattle.vocabulary.specs.declared.plans.Order.TheVariants.{Make, ForkLacking, AwaitLacking, KillLacking}
@@ -34,8 +35,8 @@ use Rattle.definitions.specs.Claims.{names_any, is_ready_with}
 use Rattle.definitions.specs.Crew.{Crew, fds_of, fork_of}
 use Rattle.run_laws.proofs.Refusals.{is_leave}
 use Rattle.vocabulary.specs.declared.calls.Reply.TheVariants as reply
-use Rattle.definitions.specs.Run.{Progress, Return, after_moment, after_call, Ending, At, answered}
-use Rattle.definitions.specs.Run.{went_wrong, first_cause, Lack, lacked_by, beside, lacked_after}
+use Rattle.definitions.specs.Run.{Progress, Return, after_moment, after_call, Ending, At, answered, lacked_last}
+use Rattle.definitions.specs.Run.{went_wrong, Lack, lacked_by, beside, lacked_after}
 use Rattle.table_laws.proofs.Rows.{one, weigh, weigh-le-all, count-weigh, both-true, or-left, or-right}
 use Rattle.call_laws.proofs.Choices.{and-left, and-right}
 use Rattle.table_laws.proofs.Views.{HoldsShare, Names, named, View, Once, Looks, live_any, ready_in, finds, eqb-is, eqb-refl, eqb-off}
@@ -677,7 +678,7 @@ module _ (u : View) (sc : Scene u.number u.image) (gr : Ground u sc) where
 
   -- what a count of a set saw
   abbrev pub Saw : Generation → List ℕ → Progress → Type 0
-  Saw g T q = Counted u.number g T q.lacking q.table.rows
+  Saw g T q = Counted u.number g T (lacked_last q.lacked) q.table.rows
 
   -- the count is exactly what is Ready
   abbrev pub Exact : Generation → Progress → Type 0
@@ -691,9 +692,9 @@ module _ (u : View) (sc : Scene u.number u.image) (gr : Ground u sc) where
       (bs : Branches) (g : Generation) (T : List ℕ) (r t : Names) (n c : ℕ) (w : Bool) (ls : List ℕ) (p : Progress) →
       Distinct T → ((k : ℕ) → is_in T k ≡ true → k < 1024) → ((k : ℕ) → r g k ≡ true → k < 1024) → Part (view u none r)
       t n g T →
-      ((cs : List ℕ) (q : Progress) → lacks T cs ≡ [] → Band u sc none (seen r g cs) t n c w [] q → q.lacking ≡ [] → Saw g T q → Exact g q → Edge bs reply.Full q)
+      ((cs : List ℕ) (q : Progress) → lacks T cs ≡ [] → Band u sc none (seen r g cs) t n c w [] q → (lacked_last q.lacked) ≡ [] → Saw g T q → Exact g q → Edge bs reply.Full q)
       →
-      ((cs : List ℕ) (x : ℕ) (xs : List ℕ) (q : Progress) → lacks T cs ≡ x ∷ xs → Band u sc none (seen r g cs) t n c true (x ∷ xs) q → q.lacking ≡ x ∷ xs → Saw g T q → Exact g q → Edge bs reply.Short q)
+      ((cs : List ℕ) (x : ℕ) (xs : List ℕ) (q : Progress) → lacks T cs ≡ x ∷ xs → Band u sc none (seen r g cs) t n c true (x ∷ xs) q → (lacked_last q.lacked) ≡ x ∷ xs → Saw g T q → Exact g q → Edge bs reply.Short q)
       → Band u sc none r t n c w ls p → Runs (census u.image g T bs) p
   rule-count-on bs g T r t n c w ls p dT below_T below_r part on_full on_short b =
       let order = Make (Census g) in
@@ -716,7 +717,7 @@ module _ (u : View) (sc : Scene u.number u.image) (gr : Ground u sc) where
       (arith, lost, b'.budget, counted-all u.number g T (lacks T cs) q.table.rows seen_now, ap length e) in
       let after : List ℕ → Progress =
       λ l. record
-      { table = with_rows q.table rows'; calls = q.calls + 1; ready = cs; lacking = lacks T cs; lacked = lacked_after u.image T (Told cs) q.lacked; faults = q.faults; losses = q.losses; returns = q.returns; cause = first_cause q.cause (went_wrong (Census g) (full_or_short l)) (q.calls + 1); note = q.note }
+      { table = with_rows q.table rows'; calls = q.calls + 1; ready = cs; lacked = lacked_after u.image T (Told cs) q.lacked; faults = q.faults; losses = q.losses; returns = q.returns; cause = first_cause q.cause (went_wrong (Census g) (full_or_short l)) (q.calls + 1); note = q.note }
       in
       subst (λ st. Answers order T bs q st) (sym (unfailing co.handed u.image me (Census g) fate q.table tt))
       (elim (lacks T cs) as (λ l. lacks T cs ≡ l → Edge bs (full_or_short l) (after l)) [
@@ -750,9 +751,9 @@ module _ (u : View) (sc : Scene u.number u.image) (gr : Ground u sc) where
       (ok short : Tree) (g : Generation) (T : List ℕ) (r t : Names) (n c : ℕ) (w : Bool) (ls : List ℕ) (p : Progress) →
       Distinct T → ((k : ℕ) → is_in T k ≡ true → k < 1024) → ((k : ℕ) → r g k ≡ true → k < 1024) → Part (view u none r)
       t n g T →
-      ((cs : List ℕ) (q : Progress) → lacks T cs ≡ [] → Band u sc none (seen r g cs) t n c w [] q → q.lacking ≡ [] → Saw g T q → Exact g q → Runs ok q)
+      ((cs : List ℕ) (q : Progress) → lacks T cs ≡ [] → Band u sc none (seen r g cs) t n c w [] q → (lacked_last q.lacked) ≡ [] → Saw g T q → Exact g q → Runs ok q)
       →
-      ((cs : List ℕ) (x : ℕ) (xs : List ℕ) (q : Progress) → lacks T cs ≡ x ∷ xs → Band u sc none (seen r g cs) t n c true (x ∷ xs) q → q.lacking ≡ x ∷ xs → Saw g T q → Exact g q → Runs short q)
+      ((cs : List ℕ) (x : ℕ) (xs : List ℕ) (q : Progress) → lacks T cs ≡ x ∷ xs → Band u sc none (seen r g cs) t n c true (x ∷ xs) q → (lacked_last q.lacked) ≡ x ∷ xs → Saw g T q → Exact g q → Runs short q)
       → Band u sc none r t n c w ls p → Runs (census u.image g T (census_edges ok short)) p
   rule-count ok short g T r t n c w ls p dT below_T below_r part on_full on_short b =
       rule-count-on (census_edges ok short) g T r t n c w ls p dT below_T below_r part on_full on_short b
@@ -843,9 +844,9 @@ module _ (u : View) (sc : Scene u.number u.image) (gr : Ground u sc) where
   pub rule-settle :
       (side : Side) (crew : Crew) (S : List ℕ) → HoldsShare u crew → Distinct S →
       ((k : ℕ) → is_in S k ≡ true → k < 1024) → (d : ℕ) (w : Bool) →
-      ((r : Names) (q : Progress) (c : ℕ) (w' : Bool) → (w ≡ true → w' ≡ true) → Only crew.generation S r → Band u sc none r (named crew.generation (is_in S)) (length S) c w' [] q → q.lacking ≡ [] → Saw crew.generation S q → Exact crew.generation q → post (At (full_end side)) q)
+      ((r : Names) (q : Progress) (c : ℕ) (w' : Bool) → (w ≡ true → w' ≡ true) → Only crew.generation S r → Band u sc none r (named crew.generation (is_in S)) (length S) c w' [] q → (lacked_last q.lacked) ≡ [] → Saw crew.generation S q → Exact crew.generation q → post (At (full_end side)) q)
       →
-      ((r : Names) (q : Progress) (x : ℕ) (xs : List ℕ) → Only crew.generation S r → Band u sc none r (named crew.generation (is_in S)) (length S) d true (x ∷ xs) q → q.lacking ≡ x ∷ xs → Saw crew.generation S q → Exact crew.generation q → post (At (short_end side)) q)
+      ((r : Names) (q : Progress) (x : ℕ) (xs : List ℕ) → Only crew.generation S r → Band u sc none r (named crew.generation (is_in S)) (length S) d true (x ∷ xs) q → (lacked_last q.lacked) ≡ x ∷ xs → Saw crew.generation S q → Exact crew.generation q → post (At (short_end side)) q)
       → (rounds c : ℕ) → c + rounds ≡ d → (w' : Bool) → (w ≡ true → w' ≡ true) → (r : Names) (ls : List ℕ)
       (p : Progress) → Only crew.generation S r → Band u sc none r (named crew.generation (is_in S)) (length S) c w' ls
       p → Runs (settle u.image crew S side rounds) p

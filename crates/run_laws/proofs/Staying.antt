@@ -1,5 +1,5 @@
 -- A process that is Ready at first stays so, unless it is lost or told to quit.
-use Rattle.std.proofs.Common.{◌≡◌, ◌≢◌, not, ℕ, ◌<◌, Bool, true, false, List, [], ◌∷◌, ◌++◌, Option, Some, None, refl, sym, ◌∙◌, subst, arith, ⊎_elim}
+use Rattle.std.proofs.Common.{◌≡◌, ◌≢◌, ℕ, ◌<◌, Bool, true, false, List, [], ◌∷◌, ◌++◌, Option, Some, None, refl, sym, ◌∙◌, subst, arith, ⊎_elim}
 use Rattle.std.specs.Prelude.{filter_map, ⊤, ◌&&◌, ◌||◌, ◌==◌, nat_lt, length, if◌then◌else◌}
 use Rattle.std.specs.List.{AllByRecursion, list_any, cons_option}
 use Rattle.listener_set.specs.Numbers.{is_in}
@@ -21,7 +21,8 @@ use Rattle.std.specs.Bool.{then_some}
 use Rattle.definitions.specs.Calls.{suits, moved_if, is_image, is_image_row, is_of_image, Stepped, gives, with_holds}
 use Rattle.definitions.specs.Calls.{put_hold, lacks_address, is_row, is_of, made_ready, made_draining, is_exited_of}
 use Rattle.definitions.specs.Calls.{drop_where, census_of, with_new_row, shared, with_new_socket, lowest_free}
-use Rattle.definitions.specs.Calls.{has_process_room, own_step, fault_at, fault_or_own, step_by, step_with, Handed}
+use Rattle.definitions.specs.Calls.{has_process_room, own_step, fault_or_own, step_by, step_with, Handed}
+use Rattle.call_laws.specs.Pieces.{fault_at}
 use Rattle.definitions.specs.Manner.{is_active_process}
 use Rattle.table_laws.proofs.Rows.{FitsIn, or-right}
 use Rattle.call_laws.proofs.Choices.{pick, and-left, and-right}
@@ -89,11 +90,7 @@ module _ (m image n : ℕ) (g0 : Generation) (k0 : ℕ) (low : k0 < 1024) where
           kept : (b : Bool) → FitsIn IsIt (then_some b (Master k q i false []))
           kept true = λ e. absurd (cc e)
           kept false = tt
-      leaves gone lives (Worker k q g j s hs) ne h = kept (not (q == gone))
-        where
-          kept : (b : Bool) → FitsIn IsIt (then_some b (Worker k q g j s hs))
-          kept true = h
-          kept false = tt
+      leaves gone lives (Worker k q g j s hs) ne h = pick (FitsIn IsIt) (q == gone) None (Some (Worker k q g j s hs)) (λ e. tt) (λ e. h)
       leaves gone lives (Foreign k hs) ne h = h
 
       starts : (number c : ℕ) (g : Generation) (x : ℕ) (hs : List Hold) → n < number → IsIt (Worker number c g x Starting hs)

@@ -1,6 +1,6 @@
 -- No kill takes a process that was Ready at first: as long as it is untouched, or when only other names are killed.
 use Rattle.table_laws.proofs.Exits.{Spares}
-use Rattle.std.proofs.Common.{◌≡◌, ◌≢◌, not, ℕ, ◌<◌, Bool, true, false, List, [], ◌∷◌, Option, Some, None, refl, sym, ◌∙◌, subst, arith, ◌⊎◌, inl, inr, ⊎_elim}
+use Rattle.std.proofs.Common.{◌≡◌, ◌≢◌, ℕ, ◌<◌, Bool, true, false, List, [], ◌∷◌, Option, Some, None, refl, sym, ◌∙◌, subst, arith, ◌⊎◌, inl, inr, ⊎_elim}
 use Rattle.std.specs.Prelude.{⊤, ◌&&◌, ◌||◌, ◌==◌}
 use Rattle.std.specs.List.{AllByRecursion, list_any}
 use Rattle.listener_set.specs.Numbers.{is_in}
@@ -52,11 +52,7 @@ gone-lasts m n = record {
         kept : (b : Bool) → FitsIn (IsOther n) (then_some b (Master k q i false []))
         kept true = h
         kept false = tt
-    gone-left gone lives (Worker k q g j s hs) h = kept (not (q == gone))
-      where
-        kept : (b : Bool) → FitsIn (IsOther n) (then_some b (Worker k q g j s hs))
-        kept true = h
-        kept false = tt
+    gone-left gone lives (Worker k q g j s hs) h = pick (FitsIn (IsOther n)) (q == gone) None (Some (Worker k q g j s hs)) (λ e. tt) (λ e. h)
     gone-left gone lives (Foreign k hs) h = h
 
     gone-exited : (p : Process) → IsOther n p → IsOther n (made_exited p)
@@ -137,11 +133,7 @@ module _ (m image n : ℕ) (g0 : Generation) (k0 : ℕ) (low : k0 < 1024) where
           kept : (b : Bool) → FitsIn (OnlyOurs S) (then_some b (Master k q i false []))
           kept true = h
           kept false = tt
-      leaves gone lives (Worker k q g j s hs) h = kept (not (q == gone))
-        where
-          kept : (b : Bool) → FitsIn (OnlyOurs S) (then_some b (Worker k q g j s hs))
-          kept true = h
-          kept false = tt
+      leaves gone lives (Worker k q g j s hs) h = pick (FitsIn (OnlyOurs S)) (q == gone) None (Some (Worker k q g j s hs)) (λ e. tt) (λ e. h)
       leaves gone lives (Foreign k hs) h = h
 
       ends : (p : Process) → OnlyOurs S p → OnlyOurs S (made_exited p)

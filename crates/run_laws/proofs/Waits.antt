@@ -18,7 +18,8 @@ use Rattle.definitions.specs.Exits.{after_exits}
 use Rattle.definitions.specs.Calls.{step_with, Handed}
 use Rattle.definitions.specs.Record.{Record}
 use Rattle.definitions.specs.Tree.{Tree, Nothing, among, reply_of, full_or_short}
-use Rattle.definitions.specs.Plans.{on, does, then_edge, gone_edges, quits, awaits_gone}
+use Rattle.definitions.specs.Plans.{on, does, then_edge, awaits_gone}
+use Rattle.call_laws.specs.Pieces.{gone_edges, quits}
 use Rattle.definitions.specs.Run.{Progress, Lost, after_call}
 use Rattle.definitions.specs.Manner.{is_quit_of, is_wait_of, is_late, is_leave_call, was_late, was_waited_for}
 use Rattle.definitions.specs.Manner.{IsKillDue, KillsAreDue, before_leave}

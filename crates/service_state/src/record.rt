@@ -1,9 +1,10 @@
 //! What a running master knows of itself.
 ghost use Rattle.std.specs.Prelude.{◌≡◌, ◌<◌, ◌≤◌, Option, Some, option_map};
 ghost use Rattle.std.specs.List.{AllByRecursion};
-ghost use Rattle.definitions.specs.Table.{FilePath as PathText};
 ghost use Rattle.call_laws.specs.Start.{started};
-ghost use Rattle.definitions.specs.After.{setup_of, renewed, upgraded, next_image, target_setup, old_setup, setup_after, recorded, keeps_rules, record_from, record_after};
+ghost use Rattle.definitions.specs.Record.{Record as Known};
+ghost use Rattle.definitions.specs.After.{renewed, upgraded, next_image, target_record, old_record, named_record, reported, keeps_rules, record_from, record_after};
+ghost use Rattle.service_state.specs.Setups.{basis_of, on_basis};
 
 use crate::setup::{Setup, next_config, next_image};
 use listener_set::{FilePath, Generation, Numbers, WORKER_LIMIT};
@@ -80,7 +81,7 @@ impl Record {
     }
 
     fn setup(&self) -> Setup
-        ensures { result ≡ setup_of self.now }
+        ensures { result ≡ basis_of self.now }
     {
         Setup {
             listeners: self.listeners,
@@ -94,7 +95,7 @@ impl Record {
 
     /// What the target's service stands on; a stop has none.
     fn target_setup(&self, target: &Target) -> Option<Setup>
-        ensures { result ≡ target_setup self.now target.now }
+        ensures { result ≡ option_map basis_of (target_record self.now target.now) }
     {
         match target {
             Target::Workers(wanted) => Some(Setup {
@@ -116,7 +117,7 @@ impl Record {
 
     /// What the service of an upgrade stands on, with these posts.
     fn upgraded_setup(&self, settings: &Settings, posts: Posts) -> Option<Setup>
-        ensures { result ≡ renewed settings.now posts (upgraded settings.now.listeners self.now.listeners) (next_image self.now.generation) }
+        ensures { result ≡ option_map basis_of (renewed self.now settings.now posts (upgraded settings.now.listeners self.now.listeners) (next_image self.now.generation)) }
     {
         Setup::renewed(
             settings,
@@ -128,7 +129,7 @@ impl Record {
 
     /// What the service that ran before stands on; nothing runs after a stop.
     fn old_setup(&self, target: &Target) -> Option<Setup>
-        ensures { result ≡ old_setup self.now target.now }
+        ensures { result ≡ option_map basis_of (old_record self.now target.now) }
     {
         match target {
             Target::Stop { .. } => None,
@@ -138,7 +139,7 @@ impl Record {
 
     /// What the service that an outcome names stands on.
     fn setup_after(&self, outcome: &Outcome, target: &Target) -> Option<Setup>
-        ensures { result ≡ setup_after outcome.now self.now target.now }
+        ensures { result ≡ option_map basis_of (named_record outcome.now self.now target.now) }
     {
         match outcome {
             Outcome::Done => self.target_setup(target),
@@ -153,7 +154,7 @@ impl Record {
 
     /// A record of what a report says of a service, unless it would break the rules of a record.
     fn recorded(&self, setup: &Setup, report: &Report, pid: u32) -> Option<Self>
-        ensures { result ≡ record_from (Some setup.now) self.now.pid_path report.now pid }
+        ensures { result ≡ record_from (Some (on_basis self.now setup.now)) report.now pid }
     {
         // Only a reading of the posts tells that their groups are as groups have to be.
         let _ = setup.posts.groups();
@@ -187,7 +188,7 @@ impl Record {
 
     /// The image that runs the service which an outcome names. None after a stop and where the run was lost.
     pub fn image_after(&self, target: &Target, outcome: &Outcome) -> Option<u32>
-        ensures { result ≡ option_map (λ s. s.generation.image) (setup_after outcome.now self.now target.now) }
+        ensures { result ≡ option_map (λ r. r.generation.image) (named_record outcome.now self.now target.now) }
     {
         self.setup_after(outcome, target)
             .map(|setup| setup.generation.image)
@@ -197,7 +198,7 @@ impl Record {
 /// Whether there is a listener, at most 1024 workers are wanted, each ready number is below the wanted count, and the
 /// process number is at least 1.
 fn keeps_rules(setup: &Setup, report: &Report, pid: u32) -> bool
-    ensures { (path : Option PathText) → result ≡ keeps_rules (recorded setup.now path report.now pid) }
+    ensures { (old : Known) → result ≡ keeps_rules (reported (on_basis old setup.now) report.now pid) }
 {
     !setup.listeners.as_slice().is_empty()
         && setup.wanted <= WORKER_LIMIT

@@ -1,6 +1,9 @@
 //! What a service stands on.
 ghost use Rattle.std.specs.Prelude.{◌≡◌};
-ghost use Rattle.definitions.specs.After.{next_number, next_config, next_image, renewed};
+ghost use Rattle.definitions.specs.Record.{Record as Known};
+ghost use Rattle.definitions.specs.After.{has_next, next_config, next_image, renewed};
+ghost use Rattle.service_state.specs.Setups.{basis_of};
+ghost use Rattle.std.specs.Prelude.{option_map};
 
 use listener_set::Generation;
 use master_listeners::Listeners;
@@ -20,8 +23,7 @@ pub(crate) struct Setup {
 }
 
 impl Model for Setup {
-    ghost use Rattle.definitions.specs.After.{Setup as Basis};
-    ghost use Rattle.service_state.specs.Setups.{IsSetup};
+    ghost use Rattle.service_state.specs.Setups.{Basis, IsSetup};
 
     ghost Value = { Basis };
 
@@ -40,7 +42,7 @@ impl Setup {
         listeners: Option<Listeners>,
         generation: Option<Generation>,
     ) -> Option<Self>
-        ensures { result ≡ renewed settings.now posts listeners generation }
+        ensures { (old : Known) → result ≡ option_map basis_of (renewed old settings.now posts listeners generation) }
     {
         Some(Setup {
             listeners: listeners?,
@@ -53,24 +55,23 @@ impl Setup {
     }
 }
 
-/// The next image or config number; they end at 4,294,967,295.
-fn next_number(number: u32) -> Option<u32>
-    ensures { result ≡ next_number number }
+/// Whether an image or config number has a next one; they end at 4,294,967,295.
+fn has_next(number: u32) -> bool
+    ensures { result ≡ has_next number }
 {
-    if number < u32::MAX {
-        Some(number + 1)
-    } else {
-        None
-    }
+    number < u32::MAX
 }
 
 /// The generation of a reload: the next configuration. None where its number would pass 4,294,967,295.
 pub fn next_config(generation: Generation) -> Option<Generation>
     ensures { result ≡ next_config generation }
 {
+    if !has_next(generation.config) {
+        return None;
+    }
     Some(Generation {
         image: generation.image,
-        config: next_number(generation.config)?,
+        config: generation.config + 1,
     })
 }
 
@@ -79,8 +80,11 @@ pub fn next_config(generation: Generation) -> Option<Generation>
 pub fn next_image(generation: Generation) -> Option<Generation>
     ensures { result ≡ next_image generation }
 {
+    if !has_next(generation.image) || !has_next(generation.config) {
+        return None;
+    }
     Some(Generation {
-        image: next_number(generation.image)?,
-        config: next_number(generation.config)?,
+        image: generation.image + 1,
+        config: generation.config + 1,
     })
 }

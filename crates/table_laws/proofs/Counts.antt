@@ -7,7 +7,7 @@ use Rattle.std.proofs.lemmas.Bool.Decides.{nat_tests}
 use Rattle.definitions.specs.Table.{same_generation, Process, Master, Worker, Foreign, is_worker, is_ready}
 use Rattle.vocabulary.specs.declared.table.Stance.TheVariants.{Starting, Ready, Draining, Exited}
 use Rattle.listener_set.specs.declared.generation.Generation.{Generation}
-use Rattle.definitions.specs.Calls.{is_exited_of, drop_where, census_below, census_of}
+use Rattle.definitions.specs.Calls.{is_exited_of, drop_where, census_of}
 use Rattle.listener_set.specs.Numbers.{numbers_below, is_in, lacks}
 use Rattle.table_laws.proofs.Rows.{one, weigh, change-same, weigh-le-all, weigh-same, weigh-add, every-any, every-more}
 use Rattle.table_laws.proofs.Rows.{every-both, any-none, any-some, both-true}
@@ -66,17 +66,17 @@ below-in (suc n) k =
     is_in-append (numbers_below n) (n ∷ []) k ∙ ap (λ b. b || ((n == k) || false)) (below-in n k) ∙ ap
     (λ b. nat_lt k n || b) (or-false (n == k)) ∙ below-step n k
 
-census_below-in :
+counted-in :
     (n m : ℕ) (g : Generation) (rows : List Process) (k : ℕ) →
-    is_in (census_below n m g rows) k ≡ (nat_lt k n && list_any (is_worker is_ready m g k) rows)
-census_below-in n m g rows k =
+    is_in (filter (λ j. list_any (is_worker is_ready m g j) rows) (numbers_below n)) k ≡ (nat_lt k n && list_any (is_worker is_ready m g k) rows)
+counted-in n m g rows k =
     in-filter (λ j. list_any (is_worker is_ready m g j) rows) (numbers_below n) k ∙ ap (λ b. b && list_any (is_worker is_ready m g k) rows) (below-in n k)
 
 pub census-all :
     (m : ℕ) (g : Generation) (rows : List Process) (k : ℕ) →
     is_in (census_of m g rows) k ≡ (nat_lt k 1024 && list_any (is_worker is_ready m g k) rows)
 unfolding census_of
-census-all m g rows k = census_below-in 1024 m g rows k
+census-all m g rows k = counted-in 1024 m g rows k
 
 pub census-in : (m : ℕ) (g : Generation) (rows : List Process) (k : ℕ) → k < 1024 → is_in (census_of m g rows) k ≡ list_any (is_worker is_ready m g k) rows
 census-in m g rows k lt =

@@ -1,5 +1,5 @@
 -- Two masters: what is known of one that may exit at any moment, and what is kept of it beside the calls of the other.
-use Rattle.std.proofs.Common.{◌≡◌, ◌≢◌, ℕ, ◌+◌, ◌≤◌, ◌<◌, Bool, true, false, not, List, [], ◌∷◌, ◌++◌, Option, Some}
+use Rattle.std.proofs.Common.{◌≡◌, ◌≢◌, ℕ, ◌+◌, ◌≤◌, ◌<◌, Bool, true, false, List, [], ◌∷◌, ◌++◌, Option, Some}
 use Rattle.std.proofs.Common.{None, refl, sym, ap, ◌∙◌, subst, arith, ◌⊎◌, inl, inr, ⊎_elim}
 use Rattle.std.specs.Prelude.{◌&&◌, ◌||◌, ◌==◌, ⊤, if◌then◌else◌}
 use Rattle.std.specs.List.{filter_map, AllByRecursion, list_any}
@@ -12,7 +12,8 @@ use Rattle.definitions.specs.Table.{caller_if, is_live_master, is_active, is_rea
 use Rattle.definitions.specs.Crew.{Posts, share}
 use Rattle.definitions.specs.Exits.{change, made_exited, first_changed, caller_exits, without_exited, exited, all_exited}
 use Rattle.std.specs.Bool.{then_some}
-use Rattle.definitions.specs.Calls.{drop_where, is_image, is_image_row, is_of_image, without_master}
+use Rattle.definitions.specs.Calls.{drop_where, is_image, is_image_row, is_of_image}
+use Rattle.call_laws.specs.Pieces.{without_master}
 use Rattle.table_laws.proofs.Rows.{one, weigh, worth, FitsIn, change-same, every-filter_map, every-both, every-more, every-append, weigh-append}
 use Rattle.call_laws.proofs.Choices.{pick}
 use Rattle.table_laws.proofs.Views.{Names, View, Fine, Other, Row, Looks, live_named, ready_in, master_of, finds, eqb-refl, eqb-off, eqb-is}
@@ -80,11 +81,7 @@ dead-kept w n q i live hs false h = tt
 
 dead-without : (w : View) (gone : ℕ) (lives : ℕ → Bool) (p : Process) → Dead w p → FitsIn (Dead w) (without_exited gone lives p)
 dead-without w gone lives (Master n q i live hs) h = pick (FitsIn (Dead w)) (n == gone) _ _ (λ e. dead-kept w n q i live hs (lives q) h) (λ e. h)
-dead-without w gone lives (Worker n q g k s hs) h = go (not (q == gone))
-  where
-    go : (b : Bool) → FitsIn (Dead w) (then_some b (Worker n q g k s hs))
-    go true = h
-    go false = tt
+dead-without w gone lives (Worker n q g k s hs) h = pick (FitsIn (Dead w)) (q == gone) None (Some (Worker n q g k s hs)) (λ e. tt) (λ e. h)
 dead-without w gone lives (Foreign n hs) h = tt
 
 dead-first : (w : View) (test : Process → Bool) (ps : List Process) → AllByRecursion (Dead w) ps → AllByRecursion (Dead w) (first_changed test made_exited ps)
@@ -118,7 +115,7 @@ dies w lives (Master n q i live hs) h =
     corpse false e f = tt
 dies w lives (Worker n q g k s hs) h = go (q == w.number) refl
   where
-    go : (b : Bool) → (q == w.number) ≡ b → FitsIn (Dead w) (then_some (not b) (Worker n q g k s hs))
+    go : (b : Bool) → (q == w.number) ≡ b → FitsIn (Dead w) (if b then None else Some (Worker n q g k s hs))
     go true e = tt
     go false e = λ is. off-true _ e (eqb-refl q w.number is)
 dies w lives (Foreign n hs) h = tt

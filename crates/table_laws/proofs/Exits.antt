@@ -1,5 +1,5 @@
 -- Exits keep a view, and take no more Ready workers than they count as losses.
-use Rattle.std.proofs.Common.{not, false, ◌≡◌, ◌≢◌, ℕ, ◌+◌, ◌≤◌, Bool, List, [], ◌∷◌, Option, Some, None, refl, sym, ap}
+use Rattle.std.proofs.Common.{filter_map, false, ◌≡◌, ◌≢◌, ℕ, ◌+◌, ◌≤◌, Bool, List, [], ◌∷◌, Option, Some, None, refl, sym, ap}
 use Rattle.std.proofs.Common.{◌∙◌, arith, inl, inr, ⊎_elim, true, subst}
 use Rattle.listener_set.specs.Numbers.{is_in}
 use Rattle.definitions.specs.Claims.{names_any}
@@ -8,7 +8,7 @@ use Rattle.std.specs.List.{AllByRecursion, list_any}
 use Rattle.vocabulary.specs.declared.table.Stance.TheVariants.{Starting, Ready, Draining, Exited}
 use Rattle.definitions.specs.Table.{Process, Master, Worker, Foreign, Caller, live_master, is_active, is_draining, is_named, is_live_master}
 use Rattle.listener_set.specs.declared.generation.Generation.{Generation}
-use Rattle.definitions.specs.Exits.{change, made_exited, first_changed, worker_exits, draining_exits, without_exited, exited, all_exited, caller_exits}
+use Rattle.definitions.specs.Exits.{change, made_exited, first_changed, without_exited, exited, all_exited, caller_exits}
 use Rattle.std.specs.Bool.{then_some}
 use Rattle.vocabulary.specs.declared.names.Name.{Name}
 use Rattle.table_laws.proofs.Rows.{one, FitsIn, worth, one-le, weigh, change-le, change-same, change-falls, every-filter_map, every-any}
@@ -79,7 +79,7 @@ IsNot image (name.Master i) = i ≢ image
 IsNot image (name.Worker g k) = ⊤
 IsNot image (name.Draining g k) = ⊤
 
-looks-worker : (v : View) (g : Generation) (k : ℕ) (rows : List Process) → Looks v rows → Looks v (worker_exits g k rows)
+looks-worker : (v : View) (g : Generation) (k : ℕ) (rows : List Process) → Looks v rows → Looks v (filter_map (change (is_named is_active g k) made_exited) rows)
 looks-worker v g k rows looks = record {
   fine =
       every-filter_map (Row v) (Row v) (change (is_named is_active g k) made_exited)
@@ -94,7 +94,7 @@ looks-worker v g k rows looks = record {
       (arith, looks.once h j, change-le (λ p. ⊤) (live_named v.number h j) (change (is_named is_active g k) made_exited) (λ p x. pick (λ p'. live_named v.number h j p' ≤ live_named v.number h j p) (is_named is_active g k p) (made_exited p) p (λ e. exited-named v.number h j p) (λ e. omega arith)) rows (every-any rows));
 }
 
-looks-draining : (v : View) (g : Generation) (k : ℕ) (rows : List Process) → Looks v rows → Looks v (draining_exits g k rows)
+looks-draining : (v : View) (g : Generation) (k : ℕ) (rows : List Process) → Looks v rows → Looks v (first_changed (is_named is_draining g k) made_exited rows)
 looks-draining v g k rows looks = record {
   fine = first-every v (is_named is_draining g k) rows looks.fine;
   alone =
@@ -113,9 +113,9 @@ ready-live m t (Worker n q g k Draining hs) = omega arith
 ready-live m t (Worker n q g k Exited hs) = omega arith
 ready-live m t (Foreign n hs) = omega arith
 
-kept-falls : (u : Process → ℕ) (b : Bool) (p : Process) → u p ≤ live_any p → u p + worth live_any (then_some b p) ≤ worth u (then_some b p) + live_any p
-kept-falls u true p h = omega arith
-kept-falls u false p h = omega arith
+left-falls : (u : Process → ℕ) (b : Bool) (p : Process) → u p ≤ live_any p → u p + worth live_any (if b then None else Some p) ≤ worth u (if b then None else Some p) + live_any p
+left-falls u true p h = omega arith
+left-falls u false p h = omega arith
 
 pub master-falls :
     (m : ℕ) (t : Names) (gone : ℕ) (lives : ℕ → Bool) (p : Process) → ready_in m t p + worth live_any
@@ -128,7 +128,7 @@ master-falls m t gone lives (Master n q i live hs) =
     zero-kept : (b : Bool) → 0 + worth live_any (then_some b (Master n q i false [])) ≤ worth (ready_in m t) (then_some b (Master n q i false [])) + 0
     zero-kept true = omega arith
     zero-kept false = omega arith
-master-falls m t gone lives (Worker n q g k s hs) = kept-falls (ready_in m t) (not (q == gone)) (Worker n q g k s hs) (ready-live m t (Worker n q g k s hs))
+master-falls m t gone lives (Worker n q g k s hs) = left-falls (ready_in m t) (q == gone) (Worker n q g k s hs) (ready-live m t (Worker n q g k s hs))
 master-falls m t gone lives (Foreign n hs) = omega arith
 
 pub master-exit-falls :
@@ -146,11 +146,7 @@ kept-master m gone lives ne (Master n q i live hs) =
     both : (b : Bool) → (n == m) ≡ false → worth (master_of m) (then_some b (Master n q i false [])) ≡ one (n == m)
     both true e = refl
     both false e = sym (ap one e)
-kept-master m gone lives ne (Worker n q g k s hs) = go (not (q == gone))
-  where
-    go : (b : Bool) → worth (master_of m) (then_some b (Worker n q g k s hs)) ≡ 0
-    go true = refl
-    go false = refl
+kept-master m gone lives ne (Worker n q g k s hs) = pick (λ o. worth (master_of m) o ≡ 0) (q == gone) None (Some (Worker n q g k s hs)) (λ e. refl) (λ e. refl)
 kept-master m gone lives ne (Foreign n hs) = refl
 
 kept-named :
@@ -161,11 +157,9 @@ kept-named m gone lives g k (Master n q i live hs) = pick (λ o. worth (live_nam
     both : (b : Bool) → worth (live_named m g k) (then_some b (Master n q i false [])) ≤ 0
     both true = omega arith
     both false = omega arith
-kept-named m gone lives g k (Worker n q g' k' s hs) = go (not (q == gone))
-  where
-    go : (b : Bool) → worth (live_named m g k) (then_some b (Worker n q g' k' s hs)) ≤ live_named m g k (Worker n q g' k' s hs)
-    go true = omega arith
-    go false = omega arith
+kept-named m gone lives g k (Worker n q g' k' s hs) =
+    pick (λ o. worth (live_named m g k) o ≤ live_named m g k (Worker n q g' k' s hs)) (q == gone) None
+    (Some (Worker n q g' k' s hs)) (λ e. omega arith) (λ e. omega arith)
 kept-named m gone lives g k (Foreign n hs) = omega arith
 
 -- another master exits
@@ -176,11 +170,7 @@ other-stays v gone lives ne (Master n q i live hs) h =
     kept : (b : Bool) → Other v (Master n q i live hs) → FitsIn (Row v) (then_some b (Master n q i false []))
     kept true o = inr (o.0, o.1, inl refl)
     kept false o = tt
-other-stays v gone lives ne (Worker n q g k s hs) h = go (not (q == gone))
-  where
-    go : (b : Bool) → FitsIn (Row v) (then_some b (Worker n q g k s hs))
-    go true = h
-    go false = tt
+other-stays v gone lives ne (Worker n q g k s hs) h = pick (FitsIn (Row v)) (q == gone) None (Some (Worker n q g k s hs)) (λ e. tt) (λ e. h)
 other-stays v gone lives ne (Foreign n hs) h = h
 
 live-kept : (b : Bool) (p : Process) → worth live_any (then_some b p) ≤ live_any p
@@ -191,7 +181,9 @@ live-without : (gone : ℕ) (lives : ℕ → Bool) (p : Process) → worth live_
 live-without gone lives (Master n q i live hs) =
     pick (λ o. worth live_any o ≤ 0) (n == gone) _ _ (λ e. live-kept (lives q) (Master n q i false []))
     (λ e. omega arith)
-live-without gone lives (Worker n q g k s hs) = live-kept (not (q == gone)) (Worker n q g k s hs)
+live-without gone lives (Worker n q g k s hs) =
+    pick (λ o. worth live_any o ≤ live_any (Worker n q g k s hs)) (q == gone) None (Some (Worker n q g k s hs))
+    (λ e. omega arith) (λ e. omega arith)
 live-without gone lives (Foreign n hs) = omega arith
 
 looks-master :

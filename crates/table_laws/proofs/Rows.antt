@@ -1,7 +1,7 @@
 -- Weights of rows, and what a change of each row does to them.
 use Rattle.std.proofs.Common.{◌≡◌, ℕ, ◌+◌, ◌≤◌, Bool, true, false, cond, List, [], ◌∷◌, ◌++◌, Option, Some, None, refl, ap, ◌∙◌, arith}
 use Rattle.std.specs.List.{filter_map, AllByRecursion, cons_option, list_any}
-use Rattle.std.specs.Prelude.{◌||◌, count_by, ◌&&◌, ⊤, if◌then◌else◌}
+use Rattle.std.specs.Prelude.{◌||◌, count_by, ◌&&◌, ⊤}
 use Rattle.std.proofs.lemmas.List.Sums.{sum_by-cons}
 pub use Rattle.call_laws.proofs.Choices.{pick, and-left, and-right}
 

@@ -15,7 +15,7 @@ use Rattle.worker_groups.specs.Crews.{Posts, fds_of, shortfalls_of}
 use Rattle.definitions.specs.Table.{Address, Hold, is_at, has_address}
 use Rattle.definitions.specs.Calls.{shared, lacks_address}
 use Rattle.definitions.specs.Record.{listener_of}
-use Rattle.definitions.specs.Crew.{share, Layout, layout_at, listeners_under, short_at}
+use Rattle.definitions.specs.Crew.{share, Layout, listeners_under, fds_in, short_at}
 use Rattle.table_laws.proofs.Rows.{one, count-weigh}
 use Rattle.table_laws.proofs.Counts.{filter-all, filter-swap}
 use Rattle.table_laws.proofs.Sets.{below-length}
@@ -49,6 +49,13 @@ held-under (Some fds) holds a = under holds
             a
         go true ih = ap (λ b. bytes_eq h.address a || b) ih
         go false ih = ih
+
+-- where the groups of some posts listen
+abbrev pub layout_at : Posts → List Listener → Layout
+layout_at posts ls = record {
+  groups = posts.groups;
+  listens = λ place a. has (map (λ (l : Listener). l.address) (listeners_under (fds_in posts place) ls)) a;
+}
 
 -- A worker holds an address where its group listens, as the master's holds lay it out.
 pub share-by-holds :

@@ -1,5 +1,5 @@
 -- What the last census says of the service, and of the record that is left.
-use Rattle.std.proofs.Common.{◌≡◌, ℕ, ◌+◌, ◌<◌, ◌≤◌, Bool, true, false, List, [], ◌∷◌, length, Some, None, ⊎_elim, refl, sym, ap, ◌∙◌, subst, arith, nat_lt}
+use Rattle.std.proofs.Common.{◌≡◌, ℕ, ◌+◌, ◌<◌, ◌≤◌, Bool, true, false, List, [], ◌∷◌, length, Some, None, ⊎_elim, refl, sym, ap, ◌∙◌, subst, arith}
 use Rattle.std.specs.Prelude.{nat_le, is_some, option_map, option_and_then, map, filter, ◌&&◌, ◌==◌, if◌then◌else◌, count_by, Option}
 use Rattle.std.specs.List.{AllByRecursion, list_any}
 use Rattle.std.proofs.lemmas.Bool.Decides.{nat_tests}
@@ -13,15 +13,16 @@ use Rattle.definitions.specs.Service.{is_live_with, is_serving, service, serving
 use Rattle.vocabulary.specs.declared.table.Stance.TheVariants.{Starting, Ready, Draining, Exited}
 use Rattle.vocabulary.specs.declared.plans.PidNote.{PidNote}
 use Rattle.vocabulary.specs.declared.table.Listener.{Listener}
-use Rattle.definitions.specs.Crew.{share, Layout, layout_at, served, short_at, shortfalls_of}
+use Rattle.definitions.specs.Crew.{share, Layout, served, short_at, shortfalls_of}
 use Rattle.definitions.specs.Record.{Record, IsRecord, Agrees, FilesAre, addresses_of, layout_of}
 use Rattle.vocabulary.specs.declared.targets.Target.{Target}
 use Rattle.listener_set.specs.AddressList.{has}
 use Rattle.definitions.specs.Target.{reload_generation, upgrade_generation}
-use Rattle.definitions.specs.After.{next_config, next_image, numbered, Setup, setup_after, recorded, record_from}
+use Rattle.definitions.specs.After.{next_config, next_image, has_next, named_record, reported, record_from}
 use Rattle.definitions.specs.After.{record_after, keeps_rules, master_of}
 use Rattle.std.specs.Bool.{then_some}
-use Rattle.definitions.specs.Run.{Ending, Progress, outcome_of, Sides}
+use Rattle.vocabulary.specs.Settings.{HasSuffixRoom}
+use Rattle.definitions.specs.Run.{Ending, Progress, outcome_of, Sides, lacked_last}
 use Rattle.vocabulary.specs.declared.reports.Report.{Report}
 use Rattle.definitions.specs.Claims.{IsStart, FallsShort, AgreesAfter, is_ready_with, ready_with}
 use Rattle.table_laws.proofs.Rows.{one, weigh-le, count-weigh, both-true}
@@ -30,7 +31,7 @@ use Rattle.table_laws.proofs.Views.{Names, named, View, Fine, Looks, ready_in, e
 use Rattle.table_laws.proofs.Effects.{none, same-is, same-refl, bears-is}
 use Rattle.table_laws.proofs.Counts.{Counted, counted}
 use Rattle.table_laws.proofs.Sets.{in-here, in-there, in-filter-on, weigh-set}
-use Rattle.table_laws.proofs.Shares.{held-listeners, share-by-holds, shortfalls-length, shortfalls-sum, shortfalls-at}
+use Rattle.table_laws.proofs.Shares.{held-listeners, layout_at, share-by-holds, shortfalls-length, shortfalls-sum, shortfalls-at}
 use Rattle.table_laws.proofs.Services.{Sole, live-with, sole-fine, holders, held_at, service-by, serving-same, serving-fewer, fewer-same}
 use Rattle.table_laws.proofs.Begins.{first_view, begin, rising-distinct, every-all, none-lack}
 use Rattle.table_laws.proofs.Small.{or-elim}
@@ -207,8 +208,8 @@ all-below wanted (x ∷ ks) h =
     (rw off rest.0, (lt, rest.1))
 
 -- A service with that many workers, and all else as it was.
-abbrev pub resized : Record → ℕ → Setup
-resized r wanted = record { listeners = r.listeners; posts = r.posts; generation = r.generation; wanted = wanted; retries = r.retries; timeout = r.timeout }
+abbrev pub resized : Record → ℕ → Record
+resized r wanted = record r { wanted = wanted }
 
 keeps : (r : Record) → 1 ≤ length r.listeners → r.wanted ≤ 1024 → first_from r.wanted r.ready ≡ None → 1 ≤ r.pid → keeps_rules r ≡ true
 keeps r listens most none_above pid =
@@ -217,63 +218,53 @@ keeps r listens most none_above pid =
     let c : nat_le 1 r.pid ≡ true = grind (arith, nat_tests) in
     rw (a, b, c, none_above)
 
--- A record that moves to another setup, run by the master of a process number.
+-- A record that moves to another service, run by the master of a process number.
 pub moved-after :
-    (r : Record) (target : Target) (report : Report) (t : Table) (setup : Setup) (pid : ℕ) →
-    setup_after report.outcome r target ≡ Some setup → 1 ≤ length setup.listeners → AreGroups setup.posts.groups →
-    setup.wanted ≤ 1024 → setup.retries ≤ 8 → 1 ≤ setup.timeout → setup.timeout ≤ 86400 → IsRecord r → 1 ≤ pid →
-    (setup.generation.image ≡ r.generation.image → pid ≡ r.pid) →
-    ((k : ℕ) → is_in report.ready k ≡ true → k < setup.wanted) → Agrees t (recorded setup r.pid_path report pid) →
+    (r : Record) (target : Target) (report : Report) (t : Table) (named : Record) (pid : ℕ) →
+    named_record report.outcome r target ≡ Some named → 1 ≤ length named.listeners → AreGroups named.posts.groups →
+    named.wanted ≤ 1024 → named.retries ≤ 8 → 1 ≤ named.timeout → named.timeout ≤ 86400 → HasSuffixRoom named.pid_path →
+    1 ≤ pid → (named.generation.image ≡ r.generation.image → pid ≡ r.pid) →
+    ((k : ℕ) → is_in report.ready k ≡ true → k < named.wanted) → Agrees t (reported named report pid) →
     AgreesAfter r target report t
-moved-after r target report t setup pid is listens groups most retries least longest range some same below agrees =
-    let all = all-below setup.wanted report.ready below in
-    let next = recorded setup r.pid_path report pid in
-    let reigns : master_of (setup_after report.outcome r target) t ≡ Some pid = ap (λ o. master_of o t) is ∙ ap (option_map (λ (c : Caller). c.number)) agrees.lives in
+moved-after r target report t named pid is listens groups most retries least longest room some same below agrees =
+    let all = all-below named.wanted report.ready below in
+    let next = reported named report pid in
+    let reigns : master_of (named_record report.outcome r target) t ≡ Some pid = ap (λ o. master_of o t) is ∙ ap (option_map (λ (c : Caller). c.number)) agrees.lives in
     record {
       record_then = next;
       is =
           ap (option_and_then (record_after r target report)) reigns ∙
-          (ap (λ o. record_from o r.pid_path report pid) is ∙ ap (λ b. then_some b next) (keeps next listens most all.0 some));
+          (ap (λ o. record_from o report pid) is ∙ ap (λ b. then_some b next) (keeps next listens most all.0 some));
       agrees = agrees;
       record_in_range =
           record
-          { listens = listens; groups = groups; wanted = most; ready = all.1; retries = retries; timeout_least = least; timeout_most = longest; pid_path = range.pid_path; pid = some };
+          { listens = listens; groups = groups; wanted = most; ready = all.1; retries = retries; timeout_least = least; timeout_most = longest; pid_path = room; pid = some };
       same_master = same;
     }
 
 -- A record that keeps all but its count, its ready numbers and its note.
 pub kept-after :
     (r : Record) (target : Target) (report : Report) (t : Table) (wanted : ℕ) →
-    setup_after report.outcome r target ≡ Some (resized r wanted) → IsRecord r → wanted ≤ 1024 →
+    named_record report.outcome r target ≡ Some (resized r wanted) → IsRecord r → wanted ≤ 1024 →
     ((k : ℕ) → is_in report.ready k ≡ true → k < wanted) →
-    Agrees t (recorded (resized r wanted) r.pid_path report r.pid) → AgreesAfter r target report t
+    Agrees t (reported (resized r wanted) report r.pid) → AgreesAfter r target report t
 kept-after r target report t wanted is range most below agrees =
     moved-after r target report t (resized r wanted) r.pid is range.listens range.groups most range.retries
-    range.timeout_least range.timeout_most range range.pid (λ e. refl) below agrees
+    range.timeout_least range.timeout_most range.pid_path range.pid (λ e. refl) below agrees
+
+-- What is given if a test is passed, where there is something.
+is-given : {A : Type 0} (b : Bool) (x : A) → is_some (then_some b x) ≡ true → then_some b x ≡ Some x
+is-given true x e = refl
+is-given false x e = absurd (cc)
 
 -- The next configuration, where there is one.
 pub next-is : (g : Generation) → is_some (next_config g) ≡ true → next_config g ≡ Some (reload_generation g)
-next-is g e = go (nat_lt g.config 4294967295) e
-  where
-    go :
-        (b : Bool) → is_some (numbered (Some g.image) (if b then Some (g.config + 1) else None)) ≡ true →
-        numbered (Some g.image) (if b then Some (g.config + 1) else None) ≡ Some (reload_generation g)
-    go true e = refl
-    go false e = absurd (cc)
+next-is g e = is-given (has_next g.config) (reload_generation g) e
 
 -- The next image, where there is one.
 pub next-image-is : (g : Generation) → is_some (next_image g) ≡ true → next_image g ≡ Some (upgrade_generation g)
-next-image-is g e = go (nat_lt g.image 4294967295) (nat_lt g.config 4294967295) e
-  where
-    go :
-        (a b : Bool) → is_some
-        (numbered (if a then Some (g.image + 1) else None) (if b then Some (g.config + 1) else None)) ≡ true → numbered
-        (if a then Some (g.image + 1) else None) (if b then Some (g.config + 1) else None) ≡ Some (upgrade_generation g)
-    go true true e = refl
-    go true false e = absurd (cc)
-    go false true e = absurd (cc)
-    go false false e = absurd (cc)
+next-image-is g e = is-given (has_next g.image && has_next g.config) (upgrade_generation g) e
 
 -- What is reported where a run ends so.
 abbrev pub report_at : Sides → Ending → Progress → Report
-report_at sides e q = record { outcome = outcome_of sides e q.lacking; cause = q.cause; note = q.note; ready = q.ready }
+report_at sides e q = record { outcome = outcome_of sides e (lacked_last q.lacked); cause = q.cause; note = q.note; ready = q.ready }

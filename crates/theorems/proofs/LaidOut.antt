@@ -14,22 +14,22 @@ use Rattle.vocabulary.specs.declared.table.Listener.{Listener}
 use Rattle.vocabulary.specs.declared.plans.Side.TheVariants as side
 use Rattle.vocabulary.specs.declared.reports.Outcome.TheVariants as outcome
 use Rattle.worker_groups.specs.Crews.{descriptors_first}
-use Rattle.definitions.specs.Table.{Address, FilePath, Hold, is_at, has_address}
+use Rattle.definitions.specs.Table.{Address, Hold, is_at, has_address}
 use Rattle.definitions.specs.Calls.{lowest_free, put_hold}
-use Rattle.definitions.specs.Crew.{Group, Layout, fds_in, posts_of, layout_in, layout_at, listeners_under, addresses_of_group}
+use Rattle.definitions.specs.Crew.{Group, Layout, fds_in, posts_of, layout_in, listeners_under, addresses_of_group}
 use Rattle.definitions.specs.Record.{Record, layout_of, listener_of}
 use Rattle.definitions.specs.Run.{Report, Outcome}
 use Rattle.definitions.specs.Target.{Target, Workers, Mend, Reopen, Reload, Upgrade, Attended, Stop, layout_wanted}
-use Rattle.definitions.specs.After.{Setup, listens_on, opened_from, all_opened, added, still_wanted, with_added}
-use Rattle.definitions.specs.After.{upgraded, renewed, next_config, next_image, target_setup, old_setup, setup_after}
-use Rattle.definitions.specs.After.{keeps_rules, recorded, record_from}
+use Rattle.definitions.specs.After.{listens_on, opened_from, all_opened, added, still_wanted, with_added}
+use Rattle.definitions.specs.After.{upgraded, renewed, next_config, next_image, target_record, old_record, named_record}
+use Rattle.definitions.specs.After.{keeps_rules, reported, record_from}
 use Rattle.std.specs.Bool.{then_some}
 use Rattle.theorems.specs.Layouts.{IsSameLayout, StartsLaidOut, CanBeLaidOut, RecordsLaidOut, layout_told}
 use Rattle.table_laws.proofs.Rows.{or-right}
 use Rattle.table_laws.proofs.Views.{eqb-is, eqb-off}
 use Rattle.table_laws.proofs.Addresses.{any-put, stands-filter}
 use Rattle.table_laws.proofs.Listeners.{fds, put-from, kept-is, rises-filter}
-use Rattle.table_laws.proofs.Shares.{held-under}
+use Rattle.table_laws.proofs.Shares.{held-under, layout_at}
 use Rattle.table_laws.proofs.Layouts.{Told, told, has-at, sole-whole, group-listens}
 
 -- where there is one group there is one place
@@ -296,57 +296,57 @@ same-layout : (m : Layout) → IsSameLayout m m
 same-layout m = (refl, λ place a lt. refl)
 
 -- A service is laid out so, if there is one.
-abbrev IsLaid : Option Setup → Layout → Type 0
-IsLaid s m = (x : Setup) → s ≡ Some x → IsSameLayout (layout_at x.posts x.listeners) m
+abbrev IsLaid : Option Record → Layout → Type 0
+IsLaid s m = (x : Record) → s ≡ Some x → IsSameLayout (layout_of x) m
 
-some-laid : (x : Setup) (m : Layout) → IsSameLayout (layout_at x.posts x.listeners) m → IsLaid (Some x) m
-some-laid x m laid y e = subst (λ (z : Setup). IsSameLayout (layout_at z.posts z.listeners) m) (same_Some x y e) laid
+some-laid : (x : Record) (m : Layout) → IsSameLayout (layout_of x) m → IsLaid (Some x) m
+some-laid x m laid y e = subst (λ (z : Record). IsSameLayout (layout_of z) m) (same_Some x y e) laid
 
 none-laid : (m : Layout) → IsLaid None m
 none-laid m x e = absurd (none-some x e)
 
 left-laid :
-    (s : Option Setup) (path : Option FilePath) (report : Report) (pid : ℕ) (left : Record) (m : Layout) → IsLaid s m →
-    record_from s path report pid ≡ Some left → IsSameLayout (layout_of left) m
-left-laid None path report pid left m laid e = absurd (none-some left e)
-left-laid (Some x) path report pid left m laid e = go (keeps_rules (recorded x path report pid)) e
+    (s : Option Record) (report : Report) (pid : ℕ) (left : Record) (m : Layout) → IsLaid s m →
+    record_from s report pid ≡ Some left → IsSameLayout (layout_of left) m
+left-laid None report pid left m laid e = absurd (none-some left e)
+left-laid (Some x) report pid left m laid e = go (keeps_rules (reported x report pid)) e
   where
-    go : (b : Bool) → then_some b (recorded x path report pid) ≡ Some left → IsSameLayout (layout_of left) m
-    go true e = subst (λ r. IsSameLayout (layout_of r) m) (same_Some (recorded x path report pid) left e) (laid x refl)
+    go : (b : Bool) → then_some b (reported x report pid) ≡ Some left → IsSameLayout (layout_of left) m
+    go true e = subst (λ r. IsSameLayout (layout_of r) m) (same_Some (reported x report pid) left e) (laid x refl)
     go false e = absurd (none-some left e)
 
 renewed-laid :
-    (s : Settings) (r : List Listener) (close : List Listener → List Listener) (w : Option (List Listener))
+    (old : Record) (s : Settings) (r : List Listener) (close : List Listener → List Listener) (w : Option (List Listener))
     (g : Option Generation) (m : Layout) →
     ((ls : List Listener) → w ≡ Some ls → IsSameLayout (layout_at (posts_of s.groups s.listeners ls) (close ls)) m) →
-    IsLaid (renewed s (posts_of s.groups s.listeners (unwrap_or w r)) (option_map close w) g) m
-renewed-laid s r close None g m laid = none-laid m
-renewed-laid s r close (Some ls) None m laid = none-laid m
-renewed-laid s r close (Some ls) (Some g) m laid = some-laid _ m (laid ls refl)
+    IsLaid (renewed old s (posts_of s.groups s.listeners (unwrap_or w r)) (option_map close w) g) m
+renewed-laid old s r close None g m laid = none-laid m
+renewed-laid old s r close (Some ls) None m laid = none-laid m
+renewed-laid old s r close (Some ls) (Some g) m laid = some-laid _ m (laid ls refl)
 
-upgraded-laid : (r : Record) (s : Settings) → CanBeLaidOut r (Upgrade s) → IsLaid (target_setup r (Upgrade s)) (layout_wanted r (Upgrade s))
+upgraded-laid : (r : Record) (s : Settings) → CanBeLaidOut r (Upgrade s) → IsLaid (target_record r (Upgrade s)) (layout_wanted r (Upgrade s))
 upgraded-laid r s can = go (upgraded s.listeners r.listeners) refl (next_image r.generation)
   where
     go :
         (w : Option (List Listener)) → upgraded s.listeners r.listeners ≡ w → (g : Option Generation) → IsLaid
-        (renewed s (posts_of s.groups s.listeners (unwrap_or w r.listeners)) w g) (layout_in s.groups s.listeners)
+        (renewed r s (posts_of s.groups s.listeners (unwrap_or w r.listeners)) w g) (layout_in s.groups s.listeners)
     go None e g = none-laid (layout_in s.groups s.listeners)
     go (Some ls) e None = none-laid (layout_in s.groups s.listeners)
     go (Some ls) e (Some g) = some-laid _ (layout_in s.groups s.listeners) (upgrade-laid s.groups s.listeners can.0 r.listeners ls can.1 e)
 
-target-laid : (r : Record) (t : Target) → CanBeLaidOut r t → IsLaid (target_setup r t) (layout_wanted r t)
+target-laid : (r : Record) (t : Target) → CanBeLaidOut r t → IsLaid (target_record r t) (layout_wanted r t)
 target-laid r (Workers n) can = some-laid _ (layout_of r) (same-layout (layout_of r))
 target-laid r (Mend overdue) can = some-laid _ (layout_of r) (same-layout (layout_of r))
 target-laid r Reopen can = some-laid _ (layout_of r) (same-layout (layout_of r))
 target-laid r (Reload s) can =
-    renewed-laid s r.listeners (still_wanted s.listeners) (with_added s.listeners r.listeners)
+    renewed-laid r s r.listeners (still_wanted s.listeners) (with_added s.listeners r.listeners)
     (next_config r.generation) (layout_in s.groups s.listeners)
     (λ ls e. reload-laid s.groups s.listeners can.0 r.listeners ls can.1 e)
 target-laid r (Upgrade s) can = upgraded-laid r s can
 target-laid r (Attended s) can = upgraded-laid r s can
 target-laid r (Stop quick) can = none-laid (layout_of r)
 
-old-laid : (r : Record) (t : Target) → IsLaid (old_setup r t) (layout_of r)
+old-laid : (r : Record) (t : Target) → IsLaid (old_record r t) (layout_of r)
 old-laid r (Workers n) = some-laid _ (layout_of r) (same-layout (layout_of r))
 old-laid r (Mend overdue) = some-laid _ (layout_of r) (same-layout (layout_of r))
 old-laid r Reopen = some-laid _ (layout_of r) (same-layout (layout_of r))
@@ -355,7 +355,7 @@ old-laid r (Upgrade s) = some-laid _ (layout_of r) (same-layout (layout_of r))
 old-laid r (Attended s) = some-laid _ (layout_of r) (same-layout (layout_of r))
 old-laid r (Stop quick) = none-laid (layout_of r)
 
-told-laid : (r : Record) (t : Target) → CanBeLaidOut r t → (o : Outcome) → IsLaid (setup_after o r t) (layout_told r t o)
+told-laid : (r : Record) (t : Target) → CanBeLaidOut r t → (o : Outcome) → IsLaid (named_record o r t) (layout_told r t o)
 told-laid r t can outcome.Done = target-laid r t can
 told-laid r t can outcome.RolledBack = old-laid r t
 told-laid r t can (outcome.Degraded side.Old shortfalls) = old-laid r t
@@ -364,5 +364,5 @@ told-laid r t can outcome.Lost = none-laid (layout_of r)
 
 pub records-laid-out : RecordsLaidOut
 records-laid-out r target report pid left can e =
-    left-laid (setup_after report.outcome r target) r.pid_path report pid left (layout_told r target report.outcome)
+    left-laid (named_record report.outcome r target) report pid left (layout_told r target report.outcome)
     (told-laid r target can report.outcome) e

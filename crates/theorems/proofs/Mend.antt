@@ -64,7 +64,7 @@ like_mend rec overdue low = record {
   short = λ m. refl;
   rolled_back = refl;
   short_old = λ m. refl;
-  leaves = λ ran h. h;
+  leaves = λ t ran h. h;
 }
 
 module _ (t : Table) (rec : Record) (overdue : List ℕ) (pattern : Pattern) (s : IsStart t rec) where

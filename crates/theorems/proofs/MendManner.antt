@@ -16,7 +16,8 @@ use Rattle.definitions.specs.Calls.{gives, each_row, drop_where, step_by, step_w
 use Rattle.definitions.specs.Crew.{Crew}
 use Rattle.definitions.specs.Record.{Record, crew_of}
 use Rattle.definitions.specs.Tree.{Tree, reply_of, among, Nothing}
-use Rattle.definitions.specs.Plans.{plan_tree, mend_tree, kills, starts_any, settle, then_edge}
+use Rattle.definitions.specs.Plans.{plan_tree, mend_tree, starts_any, settle, then_edge}
+use Rattle.call_laws.specs.Pieces.{kills}
 use Rattle.definitions.specs.Run.{Pattern, Progress, Ending, At, Lost, noted, after_call, start_at}
 use Rattle.definitions.specs.Manner.{has_ready}
 use Rattle.definitions.specs.Claims.{IsStart, run_of}

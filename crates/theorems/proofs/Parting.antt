@@ -5,7 +5,8 @@ use Rattle.std.proofs.lemmas.Bool.Decides.{nat_tests}
 use Rattle.vocabulary.specs.declared.calls.Answer.{Answer}
 use Rattle.vocabulary.specs.declared.calls.Answer.TheVariants as answer
 use Rattle.definitions.specs.Tree.{Tree, Branches, Ends, Does, Nothing, Branch, End, PidNote, Order, Reply, among, branch, reply_of, call_of}
-use Rattle.definitions.specs.Run.{Entry, Lack, lacking_after, lacked_by, lacked_after}
+use Rattle.definitions.specs.Run.{Entry, Lack, lacked_by, lacked_after}
+use Rattle.call_laws.specs.Pieces.{lacking_after}
 use Rattle.definitions.specs.Run as run
 use Rattle.definitions.specs.Plans.{Turn, New, Old, graft, graft_all, beside, beside_all, weave, weave_all}
 use Rattle.theorems.specs.Apart.{turns_used, rest_of, IsOf, AreOf, Walks, WalksAll, AreCountsOf, of_master, Plays}

@@ -8,13 +8,14 @@ use Rattle.listener_set.specs.declared.generation.Generation.{Generation}
 use Rattle.definitions.specs.Calls.{lacks_address, put_hold}
 use Rattle.definitions.specs.Tree.{Tree}
 use Rattle.listener_set.specs.Numbers.{RisesFrom, is_in, numbers_below}
-use Rattle.definitions.specs.Plans.{plan_tree, reload_on, reload_tree, starts, settle, opens, closes, reload_back, census, census_edges}
+use Rattle.definitions.specs.Plans.{plan_tree, reload_on, reload_tree, starts, settle, opens, reload_back}
+use Rattle.call_laws.specs.Pieces.{closes, census, census_edges}
 use Rattle.listener_set.specs.AddressList.{has}
 use Rattle.definitions.specs.Crew.{Posts, Crew, Layout, share, group_of, posts_of, layout_in, short_at, shortfalls_of}
 use Rattle.definitions.specs.Target.{Sides, only_in, reload_generation, want, wanted_at, sides_of}
 use Rattle.vocabulary.specs.declared.targets.Target.TheVariants.{Reload}
 use Rattle.vocabulary.specs.Settings.{Settings, IsInRange}
-use Rattle.definitions.specs.After.{crew_wanted, posts_wanted, Setup, setup_after, recorded, renewed, reloaded}
+use Rattle.definitions.specs.After.{crew_wanted, posts_wanted, named_record, reported, renewed, reloaded}
 use Rattle.definitions.specs.After.{with_added, all_opened, still_wanted, next_config}
 use Rattle.table_laws.proofs.Listeners.{fds, opens-on, all_closed, closed-kept, added-is, fds-listed, some-held}
 use Rattle.table_laws.proofs.Layouts.{told, share-lacks-none, share-listens}
@@ -25,7 +26,7 @@ use Rattle.theorems.proofs.Ends.{service-short, first-keys, first-service, first
 use Rattle.theorems.proofs.Ends.{files-still, kept-after}
 use Rattle.vocabulary.specs.declared.plans.Side.TheVariants.{Old, Target}
 use Rattle.vocabulary.specs.declared.plans.End.TheVariants.{Done, RolledBack, ShortOld, ShortTarget}
-use Rattle.definitions.specs.Run.{Pattern, Progress, Ending, At, start_at, outcome_of}
+use Rattle.definitions.specs.Run.{Pattern, Progress, Ending, At, start_at, outcome_of, lacked_last}
 use Rattle.definitions.specs.Claims.{AgreesAfter, IsStart, has_socket, Says, IsPaid, Kept, Floor, IsCommon, IsBlamed}
 use Rattle.definitions.specs.Claims.{HasCause, HasDescriptors, ready_with, run_of}
 use Rattle.theorems.proofs.Headlines.{ReloadHeadline}
@@ -235,8 +236,8 @@ module _ (t : Table) (rec : Record) (st : Settings) (pattern : Pattern) (s : IsS
 
   abbrev post : Ending → Progress → Type 0
   post e q =
-      Says rec (Reload st) (outcome_of sides e q.lacking) t q.table
-      × IsPaid rec.retries (outcome_of sides e q.lacking) q × HasCause (outcome_of sides e q.lacking) q.cause
+      Says rec (Reload st) (outcome_of sides e (lacked_last q.lacked)) t q.table
+      × IsPaid rec.retries (outcome_of sides e (lacked_last q.lacked)) q × HasCause (outcome_of sides e (lacked_last q.lacked)) q.cause
       × AgreesAfter rec (Reload st) (report_at sides e q) q.table
 
   abbrev Goes : Tree → Progress → Type 0
@@ -407,7 +408,7 @@ module _ (t : Table) (rec : Record) (st : Settings) (pattern : Pattern) (s : IsS
   agrees-old :
       (r : Names) (q : Progress) → Only g R r → Looks (view (both H0) none r) q.table.rows → Exactly g q →
       Still t.files rec.note t.limits q.table.files q.note q.table.limits → (e : Ending) →
-      Agrees q.table (recorded (resized rec rec.wanted) rec.pid_path (report_at sides e q) rec.pid)
+      Agrees q.table (reported (resized rec rec.wanted) (report_at sides e q) rec.pid)
   agrees-old r q only looks exact still e =
       agrees-after (view (both H0) none r) old_crew q.table _ (λ n. refl) (λ k. held-old H0 g k refl)
       (λ h k on. (only h k on).0) looks exact refl refl refl s.agrees.listeners
@@ -422,11 +423,11 @@ module _ (t : Table) (rec : Record) (st : Settings) (pattern : Pattern) (s : IsS
 
   old-full :
       (r : Names) (q : Progress) (c : ℕ) (w : Bool) → (true ≡ true → w ≡ true) → Only g R r →
-      Band (both H0) sc0 none r (named g (is_in R)) (length R) c w [] q → q.lacking ≡ [] →
-      Counted rec.pid g R q.lacking q.table.rows → Exactly g q → post (At RolledBack) q
+      Band (both H0) sc0 none r (named g (is_in R)) (length R) c w [] q → (lacked_last q.lacked) ≡ [] →
+      Counted rec.pid g R (lacked_last q.lacked) q.table.rows → Exactly g q → post (At RolledBack) q
   old-full r q c w up only b is saw exact = (
     λ a. service-of (both H0) (λ n. refl) g R (addresses_of rec) (layout_of rec) listens-old (first-keys t rec s) r
-        q.table q.lacking only b.looks is saw a ∙ sym (first-service t rec s a),
+        q.table (lacked_last q.lacked) only b.looks is saw a ∙ sym (first-service t rec s a),
     tt,
     b.marks.caused (up refl),
     kept-after rec (Reload st) (report_at sides (At RolledBack) q) q.table rec.wanted refl s.record_in_range
@@ -436,38 +437,38 @@ module _ (t : Table) (rec : Record) (st : Settings) (pattern : Pattern) (s : IsS
 
   old-short :
       (r : Names) (q : Progress) (x : ℕ) (xs : List ℕ) → Only g R r →
-      Band (both H0) sc0 none r (named g (is_in R)) (length R) rec.retries true (x ∷ xs) q → q.lacking ≡ x ∷ xs →
-      Counted rec.pid g R q.lacking q.table.rows → Exactly g q → post (At ShortOld) q
+      Band (both H0) sc0 none r (named g (is_in R)) (length R) rec.retries true (x ∷ xs) q → (lacked_last q.lacked) ≡ x ∷ xs →
+      Counted rec.pid g R (lacked_last q.lacked) q.table.rows → Exactly g q → post (At ShortOld) q
   old-short r q x xs only b is saw exact =
       let some = s.record_in_range.groups.some in
       let less =
       service-short (both H0) (λ n. refl) g R (addresses_of rec) (layout_of rec) listens-old (first-keys t rec s) r
-      q.table q.lacking only b.looks some (omega (arith, ap length is)) saw in (
-        (less.0, less.1, fewer-same (short_at (layout_of rec) (shortfalls_of rec.posts.groups q.lacking)) _ _ _ _ (λ a. sym (first-service t rec s a)) (λ a. refl) less.2),
-        omega (arith, b.budget, counted-all rec.pid g R q.lacking q.table.rows saw, shortfalls-sum rec.posts.groups q.lacking some),
+      q.table (lacked_last q.lacked) only b.looks some (omega (arith, ap length is)) saw in (
+        (less.0, less.1, fewer-same (short_at (layout_of rec) (shortfalls_of rec.posts.groups (lacked_last q.lacked))) _ _ _ _ (λ a. sym (first-service t rec s a)) (λ a. refl) less.2),
+        omega (arith, b.budget, counted-all rec.pid g R (lacked_last q.lacked) q.table.rows saw, shortfalls-sum rec.posts.groups (lacked_last q.lacked) some),
         b.marks.caused refl,
         kept-after rec (Reload st) (report_at sides (At ShortOld) q) q.table rec.wanted refl s.record_in_range
             s.record_in_range.wanted (within-old r q only b.looks exact)
             (agrees-old r q only b.looks exact b.still (At ShortOld)),
       )
 
-  -- the setup of the target, with these holds
-  abbrev moved : List Hold → Setup
-  moved hs = record { listeners = map listener_of hs; posts = posts; generation = new; wanted = n; retries = st.retries; timeout = st.timeout }
+  -- the record with the target's service and these holds
+  abbrev moved : List Hold → Record
+  moved hs = record rec { listeners = map listener_of hs; posts = posts; generation = new; wanted = n; retries = st.retries; timeout = st.timeout }
 
   -- the listeners that the record will have
   abbrev Lists : List Hold → Type 0
   Lists hs = reloaded st.listeners rec.listeners ≡ Some (map listener_of hs)
 
-  moved-is : (hs : List Hold) → Lists hs → renewed st posts (reloaded st.listeners rec.listeners) (next_config rec.generation) ≡ Some (moved hs)
+  moved-is : (hs : List Hold) → Lists hs → renewed rec st posts (reloaded st.listeners rec.listeners) (next_config rec.generation) ≡ Some (moved hs)
   moved-is hs lists =
-      ap (λ ls. renewed st posts ls (next_config rec.generation)) lists ∙ ap
-      (λ o. renewed st posts (Some (map listener_of hs)) o) (next-is rec.generation numbered)
+      ap (λ ls. renewed rec st posts ls (next_config rec.generation)) lists ∙ ap
+      (λ o. renewed rec st posts (Some (map listener_of hs)) o) (next-is rec.generation numbered)
 
   moved-agrees :
       (hs : List Hold) (r : Names) (q : Progress) → Only new S r → Looks (view (same hs) none r) q.table.rows →
       Exactly new q → Still t.files rec.note t.limits q.table.files q.note q.table.limits → (e : Ending) →
-      Agrees q.table (recorded (moved hs) rec.pid_path (report_at sides e q) rec.pid)
+      Agrees q.table (reported (moved hs) (report_at sides e q) rec.pid)
   moved-agrees hs r q only looks exact still e =
       agrees-after (view (same hs) none r) new_crew q.table _ (λ n. refl) (λ k. refl) (λ h k on. (only h k on).0) looks
       exact refl refl refl refl
@@ -480,14 +481,14 @@ module _ (t : Table) (rec : Record) (st : Settings) (pattern : Pattern) (s : IsS
 
   moved-left :
       (hs : List Hold) → ((a : Address) → has_address a hs ≡ has wanted a) → (e : Ending) (q : Progress) →
-      setup_after (outcome_of sides e q.lacking) rec (Reload st) ≡ Some (moved hs) →
+      named_record (outcome_of sides e (lacked_last q.lacked)) rec (Reload st) ≡ Some (moved hs) →
       ((k : ℕ) → is_in q.ready k ≡ true → k < n) →
-      Agrees q.table (recorded (moved hs) rec.pid_path (report_at sides e q) rec.pid) →
+      Agrees q.table (reported (moved hs) (report_at sides e q) rec.pid) →
       AgreesAfter rec (Reload st) (report_at sides e q) q.table
   moved-left hs keys e q is below agrees =
       moved-after rec (Reload st) (report_at sides e q) q.table (moved hs) rec.pid is
       (some-held hs wanted keys range.listens) range.groups low range.retries range.timeout_least range.timeout_most
-      s.record_in_range s.record_in_range.pid (λ e. refl) below agrees
+      s.record_in_range.pid_path s.record_in_range.pid (λ e. refl) below agrees
 
   -- What is left of the holds, when all that is dropped is closed.
   record Left (hs : List Hold) : Type 0 where
@@ -500,10 +501,10 @@ module _ (t : Table) (rec : Record) (st : Settings) (pattern : Pattern) (s : IsS
 
   new-full :
       (hs : List Hold) → Left hs → (r : Names) (q : Progress) (c : ℕ) (w : Bool) → (false ≡ true → w ≡ true) →
-      Only new S r → Band (same hs) sc1 none r (named new (is_in S)) (length S) c w [] q → q.lacking ≡ [] →
-      Counted rec.pid new S q.lacking q.table.rows → Exactly new q → post (At Done) q
+      Only new S r → Band (same hs) sc1 none r (named new (is_in S)) (length S) c w [] q → (lacked_last q.lacked) ≡ [] →
+      Counted rec.pid new S (lacked_last q.lacked) q.table.rows → Exactly new q → post (At Done) q
   new-full hs left r q c w up only b is saw exact = (
-    service-of (same hs) (λ n. refl) new S wanted layout (listens-new hs left) left.keys r q.table q.lacking only b.looks is saw,
+    service-of (same hs) (λ n. refl) new S wanted layout (listens-new hs left) left.keys r q.table (lacked_last q.lacked) only b.looks is saw,
     tt,
     tt,
     moved-left hs left.keys (At Done) q (moved-is hs left.lists) (within-new hs r q only b.looks exact)
@@ -512,12 +513,12 @@ module _ (t : Table) (rec : Record) (st : Settings) (pattern : Pattern) (s : IsS
 
   new-short :
       (hs : List Hold) → Left hs → (r : Names) (q : Progress) (x : ℕ) (xs : List ℕ) → Only new S r →
-      Band (same hs) sc1 none r (named new (is_in S)) (length S) rec.retries true (x ∷ xs) q → q.lacking ≡ x ∷ xs →
-      Counted rec.pid new S q.lacking q.table.rows → Exactly new q → post (At ShortTarget) q
+      Band (same hs) sc1 none r (named new (is_in S)) (length S) rec.retries true (x ∷ xs) q → (lacked_last q.lacked) ≡ x ∷ xs →
+      Counted rec.pid new S (lacked_last q.lacked) q.table.rows → Exactly new q → post (At ShortTarget) q
   new-short hs left r q x xs only b is saw exact = (
-    service-short (same hs) (λ n. refl) new S wanted layout (listens-new hs left) left.keys r q.table q.lacking only
+    service-short (same hs) (λ n. refl) new S wanted layout (listens-new hs left) left.keys r q.table (lacked_last q.lacked) only
         b.looks range.groups.some (omega (arith, ap length is)) saw,
-    omega (arith, b.budget, counted-all rec.pid new S q.lacking q.table.rows saw, shortfalls-sum st.groups q.lacking range.groups.some),
+    omega (arith, b.budget, counted-all rec.pid new S (lacked_last q.lacked) q.table.rows saw, shortfalls-sum st.groups (lacked_last q.lacked) range.groups.some),
     b.marks.caused refl,
     moved-left hs left.keys (At ShortTarget) q (moved-is hs left.lists) (within-new hs r q only b.looks exact)
         (moved-agrees hs r q only b.looks exact b.still (At ShortTarget)),

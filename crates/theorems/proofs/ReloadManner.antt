@@ -12,8 +12,9 @@ use Rattle.definitions.specs.Record.{Record, addresses_of, crew_of}
 use Rattle.definitions.specs.Target.{only_in, reload_generation, sides_of}
 use Rattle.definitions.specs.After.{crew_wanted}
 use Rattle.definitions.specs.Tree.{Tree}
-use Rattle.definitions.specs.Plans.{plan_tree, reload_tree, reload_on, reload_back, closes, settle}
-use Rattle.definitions.specs.Run.{Pattern, Progress, Ending, At, start_at, outcome_of}
+use Rattle.definitions.specs.Plans.{plan_tree, reload_tree, reload_on, reload_back, settle}
+use Rattle.call_laws.specs.Pieces.{closes}
+use Rattle.definitions.specs.Run.{Pattern, Progress, Ending, At, start_at, outcome_of, lacked_last}
 use Rattle.definitions.specs.Manner.{has_ready, is_old_side}
 use Rattle.definitions.specs.Claims.{IsStart}
 use Rattle.theorems.proofs.Headlines.{InManner}
@@ -70,7 +71,7 @@ module _ (t : Table) (r : Record) (st : Settings) (pattern : Pattern) (s : IsSta
   ---- It stays
 
   abbrev post : Ending → Progress → Type 0
-  post e q = is_old_side (outcome_of (sides_of r (Reload st)) e q.lacking) ≡ true → Stands r.pid g.image p g k low q.table
+  post e q = is_old_side (outcome_of (sides_of r (Reload st)) e (lacked_last q.lacked)) ≡ true → Stands r.pid g.image p g k low q.table
 
   abbrev light : Light g.image (Unlost p) Unasked
   light = standing r.pid g.image p g k low
@@ -146,7 +147,7 @@ module _ (t : Table) (r : Record) (st : Settings) (pattern : Pattern) (s : IsSta
 pub reload_manner : (st : Settings) → InManner (Reload st)
 reload_manner st t r turns pattern a = (
   λ back p k on need. stays-from t r a.start p k on (own_course r pattern) (plan_tree r (Reload st) [])
-      (λ e q. is_old_side (outcome_of (sides_of r (Reload st)) e q.lacking) ≡ true)
+      (λ e q. is_old_side (outcome_of (sides_of r (Reload st)) e (lacked_last q.lacked)) ≡ true)
       (stays-along t r st pattern a.start p k on) a.spared back,
   kills-from t r (own_course r pattern) (plan_tree r (Reload st) []) (λ e q. ⊤) a.spared (λ p k on. untaken-along t r st pattern a.start p k on),
 )

@@ -36,7 +36,7 @@ like_reopen t rec s = record {
   short = λ m. refl;
   rolled_back = refl;
   short_old = λ m. refl;
-  leaves = λ ran h. h;
+  leaves = λ t ran h. h;
 }
 
 module _ (t : Table) (rec : Record) (pattern : Pattern) (s : IsStart t rec) where

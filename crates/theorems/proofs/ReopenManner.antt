@@ -14,8 +14,9 @@ use Rattle.definitions.specs.Crew.{Crew}
 use Rattle.definitions.specs.Record.{Record, crew_of}
 use Rattle.definitions.specs.Target.{sides_of}
 use Rattle.definitions.specs.Tree.{Tree, Nothing, reply_of, among}
-use Rattle.definitions.specs.Plans.{plan_tree, reopen_tree, usr1s, settle}
-use Rattle.definitions.specs.Run.{Pattern, Progress, Ending, At, Lost, Ran, run_with, goes_with, noted, after_call}
+use Rattle.definitions.specs.Plans.{plan_tree, reopen_tree, settle}
+use Rattle.call_laws.specs.Pieces.{usr1s}
+use Rattle.definitions.specs.Run.{Pattern, Progress, Ending, At, Lost, Ran, run_with, goes_with, noted, after_call, lacked_last}
 use Rattle.definitions.specs.Run.{after_moment, answered, start_at, outcome_of}
 use Rattle.definitions.specs.Manner.{has_ready, is_usr1_of}
 use Rattle.definitions.specs.Claims.{IsStart, Says, run_of}
@@ -111,7 +112,7 @@ told by g (x ∷ ks) rest pattern p h =
 
 pub not-lost :
     (r : Record) (target : Wanted) (first : Table) (e : Ending) (q : Progress) →
-    Says r target (outcome_of (sides_of r target) e q.lacking) first q.table → e ≡ Lost → ⊥
+    Says r target (outcome_of (sides_of r target) e (lacked_last q.lacked)) first q.table → e ≡ Lost → ⊥
 not-lost r target first (At end) q says same = cc same
 not-lost r target first Lost q says same = says
 

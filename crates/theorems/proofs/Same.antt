@@ -14,8 +14,8 @@ use Rattle.vocabulary.specs.declared.reports.Outcome.TheVariants as outcome
 use Rattle.vocabulary.specs.declared.plans.Side.TheVariants.{Old, Target as New}
 use Rattle.vocabulary.specs.declared.plans.End.TheVariants.{Done, RolledBack, ShortOld, ShortTarget}
 use Rattle.definitions.specs.Tree.{Tree}
-use Rattle.definitions.specs.After.{setup_after, recorded}
-use Rattle.definitions.specs.Run.{Pattern, Progress, Ending, At, Ran, start_at, outcome_of, report_of}
+use Rattle.definitions.specs.After.{named_record, reported}
+use Rattle.definitions.specs.Run.{Pattern, Progress, Ending, At, Ran, start_at, outcome_of, report_of, lacked_last}
 use Rattle.definitions.specs.Claims.{IsStart, FallsShort, Says, Kept, IsBlamed, HasCause, IsPaid, IsCommon, has_socket}
 use Rattle.definitions.specs.Claims.{ready_with, AgreesAfter, IsSucceeded, EndsAsReported}
 use Rattle.table_laws.proofs.Rows.{every-more}
@@ -42,11 +42,11 @@ pub record Like (rec : Record) (target : Target) : Type 0 where
   pub wants : want rec target ≡ serving (addresses_of rec) rec.generation (served (layout_of rec) set)
   pub below : (k : ℕ) → is_in set k ≡ true → k < wanted
   pub most : wanted ≤ 1024
-  pub done : setup_after outcome.Done rec target ≡ Some (resized rec wanted)
-  pub short : (shortfalls : List ℕ) → setup_after (outcome.Degraded New shortfalls) rec target ≡ Some (resized rec wanted)
-  pub rolled_back : setup_after outcome.RolledBack rec target ≡ Some (resized rec rec.wanted)
-  pub short_old : (shortfalls : List ℕ) → setup_after (outcome.Degraded Old shortfalls) rec target ≡ Some (resized rec rec.wanted)
-  pub leaves : (ran : Ran) → AgreesAfter rec target (report_of (sides_of rec target) ran) ran.last.table → IsSucceeded rec target ran
+  pub done : named_record outcome.Done rec target ≡ Some (resized rec wanted)
+  pub short : (shortfalls : List ℕ) → named_record (outcome.Degraded New shortfalls) rec target ≡ Some (resized rec wanted)
+  pub rolled_back : named_record outcome.RolledBack rec target ≡ Some (resized rec rec.wanted)
+  pub short_old : (shortfalls : List ℕ) → named_record (outcome.Degraded Old shortfalls) rec target ≡ Some (resized rec rec.wanted)
+  pub leaves : (t : Table) (ran : Ran) → AgreesAfter rec target (report_of (sides_of rec target) ran) ran.last.table → IsSucceeded rec target t ran
 
 module _ (t : Table) (rec : Record) (target : Target) (pattern : Pattern) (s : IsStart t rec) (like : Like rec target) where
   abbrev g : Generation
@@ -89,8 +89,8 @@ module _ (t : Table) (rec : Record) (target : Target) (pattern : Pattern) (s : I
 
   abbrev pub post : Ending → Progress → Type 0
   post e q =
-      Says rec target (outcome_of sides e q.lacking) t q.table × IsPaid rec.retries (outcome_of sides e q.lacking) q
-      × HasCause (outcome_of sides e q.lacking) q.cause × AgreesAfter rec target (report_at sides e q) q.table
+      Says rec target (outcome_of sides e (lacked_last q.lacked)) t q.table × IsPaid rec.retries (outcome_of sides e (lacked_last q.lacked)) q
+      × HasCause (outcome_of sides e (lacked_last q.lacked)) q.cause × AgreesAfter rec target (report_at sides e q) q.table
 
   abbrev pub Goes : Tree → Progress → Type 0
   Goes tree q = Along inv post Anyhow Unasked course tree q
@@ -127,7 +127,7 @@ module _ (t : Table) (rec : Record) (target : Target) (pattern : Pattern) (s : I
   agrees-then :
       (S : List ℕ) (r : Names) (q : Progress) (wanted : ℕ) → Only g S r → Looks (view first none r) q.table.rows →
       Exactly q → Still t.files rec.note t.limits q.table.files q.note q.table.limits → (e : Ending) →
-      Agrees q.table (recorded (resized rec wanted) rec.pid_path (report_at sides e q) rec.pid)
+      Agrees q.table (reported (resized rec wanted) (report_at sides e q) rec.pid)
   agrees-then S r q wanted only looks exact still e =
       agrees-after (view first none r) crew q.table _ (λ n. refl) (λ k. refl) (λ h k on. (only h k on).0) looks exact
       refl refl refl s.agrees.listeners
@@ -140,10 +140,10 @@ module _ (t : Table) (rec : Record) (target : Target) (pattern : Pattern) (s : I
 
   pub old-full :
       (r : Names) (q : Progress) (c : ℕ) (w : Bool) → (true ≡ true → w ≡ true) → Only g R r →
-      Band first scene none r (named g (is_in R)) (length R) c w [] q → q.lacking ≡ [] →
-      Counted rec.pid g R q.lacking q.table.rows → Exactly q → post (At RolledBack) q
+      Band first scene none r (named g (is_in R)) (length R) c w [] q → (lacked_last q.lacked) ≡ [] →
+      Counted rec.pid g R (lacked_last q.lacked) q.table.rows → Exactly q → post (At RolledBack) q
   old-full r q c w up only b is saw exact = (
-    λ a. service-of first (λ n. refl) g R (addresses_of rec) layout listens (first-keys t rec s) r q.table q.lacking
+    λ a. service-of first (λ n. refl) g R (addresses_of rec) layout listens (first-keys t rec s) r q.table (lacked_last q.lacked)
         only b.looks is saw a ∙ sym (first-service t rec s a),
     tt,
     b.marks.caused (up refl),
@@ -154,15 +154,15 @@ module _ (t : Table) (rec : Record) (target : Target) (pattern : Pattern) (s : I
 
   pub old-short :
       (r : Names) (q : Progress) (x : ℕ) (xs : List ℕ) → Only g R r →
-      Band first scene none r (named g (is_in R)) (length R) rec.retries true (x ∷ xs) q → q.lacking ≡ x ∷ xs →
-      Counted rec.pid g R q.lacking q.table.rows → Exactly q → post (At ShortOld) q
+      Band first scene none r (named g (is_in R)) (length R) rec.retries true (x ∷ xs) q → (lacked_last q.lacked) ≡ x ∷ xs →
+      Counted rec.pid g R (lacked_last q.lacked) q.table.rows → Exactly q → post (At ShortOld) q
   old-short r q x xs only b is saw exact = (
-    falls-same layout (shortfalls_of rec.posts.groups q.lacking) _ _ _ (λ a. sym (first-service t rec s a))
-        (service-short first (λ n. refl) g R (addresses_of rec) layout listens (first-keys t rec s) r q.table q.lacking only b.looks some (omega (arith, ap length is)) saw),
-    omega (arith, b.budget, counted-all rec.pid g R q.lacking q.table.rows saw, shortfalls-sum rec.posts.groups q.lacking some),
+    falls-same layout (shortfalls_of rec.posts.groups (lacked_last q.lacked)) _ _ _ (λ a. sym (first-service t rec s a))
+        (service-short first (λ n. refl) g R (addresses_of rec) layout listens (first-keys t rec s) r q.table (lacked_last q.lacked) only b.looks some (omega (arith, ap length is)) saw),
+    omega (arith, b.budget, counted-all rec.pid g R (lacked_last q.lacked) q.table.rows saw, shortfalls-sum rec.posts.groups (lacked_last q.lacked) some),
     b.marks.caused refl,
     kept-after rec target (report_at sides (At ShortOld) q) q.table rec.wanted
-        (like.short_old (shortfalls_of rec.posts.groups q.lacking)) s.record_in_range s.record_in_range.wanted
+        (like.short_old (shortfalls_of rec.posts.groups (lacked_last q.lacked))) s.record_in_range s.record_in_range.wanted
         (within-old r q only b.looks exact) (agrees-then R r q rec.wanted only b.looks exact b.still (At ShortOld)),
   )
 
@@ -173,11 +173,11 @@ module _ (t : Table) (rec : Record) (target : Target) (pattern : Pattern) (s : I
 
   pub new-full :
       (v : Bool) (r : Names) (q : Progress) (c : ℕ) (w : Bool) → (v ≡ true → w ≡ true) → Only g like.set r →
-      Band first scene none r (named g (is_in like.set)) (length like.set) c w [] q → q.lacking ≡ [] →
-      Counted rec.pid g like.set q.lacking q.table.rows → Exactly q → post (At Done) q
+      Band first scene none r (named g (is_in like.set)) (length like.set) c w [] q → (lacked_last q.lacked) ≡ [] →
+      Counted rec.pid g like.set (lacked_last q.lacked) q.table.rows → Exactly q → post (At Done) q
   new-full v r q c w up only b is saw exact = (
     λ a. service-of first (λ n. refl) g like.set (addresses_of rec) layout listens (first-keys t rec s) r q.table
-        q.lacking only b.looks is saw a ∙ ap (λ (f : Service). f a) (sym like.wants),
+        (lacked_last q.lacked) only b.looks is saw a ∙ ap (λ (f : Service). f a) (sym like.wants),
     tt,
     tt,
     kept-after rec target (report_at sides (At Done) q) q.table like.wanted like.done s.record_in_range like.most
@@ -187,16 +187,16 @@ module _ (t : Table) (rec : Record) (target : Target) (pattern : Pattern) (s : I
   pub new-short :
       (r : Names) (q : Progress) (x : ℕ) (xs : List ℕ) → Only g like.set r →
       Band first scene none r (named g (is_in like.set)) (length like.set) rec.retries true (x ∷ xs) q →
-      q.lacking ≡ x ∷ xs → Counted rec.pid g like.set q.lacking q.table.rows → Exactly q → post (At ShortTarget) q
+      (lacked_last q.lacked) ≡ x ∷ xs → Counted rec.pid g like.set (lacked_last q.lacked) q.table.rows → Exactly q → post (At ShortTarget) q
   new-short r q x xs only b is saw exact = (
-    subst (λ (l : Layout). FallsShort l (shortfalls_of l.groups q.lacking) (want rec target) (service q.table)) (sym like.layout)
-        (falls-same layout (shortfalls_of rec.posts.groups q.lacking) _ _ _ (λ a. ap (λ (f : Service). f a) (sym like.wants))
-        (service-short first (λ n. refl) g like.set (addresses_of rec) layout listens (first-keys t rec s) r q.table q.lacking only b.looks some (omega (arith, ap length is)) saw)),
+    subst (λ (l : Layout). FallsShort l (shortfalls_of l.groups (lacked_last q.lacked)) (want rec target) (service q.table)) (sym like.layout)
+        (falls-same layout (shortfalls_of rec.posts.groups (lacked_last q.lacked)) _ _ _ (λ a. ap (λ (f : Service). f a) (sym like.wants))
+        (service-short first (λ n. refl) g like.set (addresses_of rec) layout listens (first-keys t rec s) r q.table (lacked_last q.lacked) only b.looks some (omega (arith, ap length is)) saw)),
     omega
-        (arith, b.budget, counted-all rec.pid g like.set q.lacking q.table.rows saw, shortfalls-sum rec.posts.groups q.lacking some, ap (λ (l : Layout). sum (shortfalls_of l.groups q.lacking)) like.layout),
+        (arith, b.budget, counted-all rec.pid g like.set (lacked_last q.lacked) q.table.rows saw, shortfalls-sum rec.posts.groups (lacked_last q.lacked) some, ap (λ (l : Layout). sum (shortfalls_of l.groups (lacked_last q.lacked))) like.layout),
     b.marks.caused refl,
     kept-after rec target (report_at sides (At ShortTarget) q) q.table like.wanted
-        (like.short (shortfalls_of sides.target q.lacking)) s.record_in_range like.most (within-new r q only b.looks exact)
+        (like.short (shortfalls_of sides.target (lacked_last q.lacked))) s.record_in_range like.most (within-new r q only b.looks exact)
         (agrees-then like.set r q like.wanted only b.looks exact b.still (At ShortTarget)),
   )
 
@@ -223,7 +223,7 @@ module _ (t : Table) (rec : Record) (target : Target) (pattern : Pattern) (s : I
       let all = from-along inv post Anyhow Unasked course tree (start_at t rec.note) goes spared (are-mild-anyhow course tree (start_at t rec.note)) in (
         record {
           says = all.last.0;
-          after = like.leaves ran all.last.3;
+          after = like.leaves t ran all.last.3;
           kept = every-more inv (λ q. Kept (service t) (want rec target) t q.table) (λ q h. h.0) ran.passed all.always;
           blamed = every-more inv IsBlamed (λ q h. h.2) ran.passed all.always;
           cause = all.last.2;

@@ -23,10 +23,11 @@ use Rattle.vocabulary.specs.declared.plans.Order.TheVariants.{Make, ForkLacking,
 use Rattle.vocabulary.specs.declared.calls.Call.TheVariants.{Census, CloseAt, Quit}
 use Rattle.vocabulary.specs.declared.calls.Answer.{Answer}
 use Rattle.vocabulary.specs.declared.calls.Answer.TheVariants as answer
-use Rattle.definitions.specs.Plans.{settle, round, census, quits, closes, census_edges, fork_edges, await_any_edges, then_edge, full_end, short_end}
-use Rattle.definitions.specs.Run.{Pattern, Progress, Ending, At, Ran, run_with, goes_with, noted, after_call}
+use Rattle.definitions.specs.Plans.{settle, round, await_any_edges, then_edge, full_end, short_end}
+use Rattle.call_laws.specs.Pieces.{census, quits, closes, census_edges, fork_edges, first_cause}
+use Rattle.definitions.specs.Run.{Pattern, Progress, Ending, At, Ran, run_with, goes_with, noted, after_call, lacked_last}
 use Rattle.definitions.specs.Run.{after_moment, answered, Return, is_fault, returns_after}
-use Rattle.definitions.specs.Run.{first_cause, went_wrong, lacked_by}
+use Rattle.definitions.specs.Run.{went_wrong, lacked_by}
 use Rattle.definitions.specs.Claims.{refused_among}
 use Rattle.theorems.specs.Settling.{PlansGoBack, IsOnly, HasSide, missing, Settles, SettlesAlways, IsReturning, back, without, ReturnsAlways}
 use Rattle.table_laws.proofs.Rows.{one, weigh, every-more, every-both, count-weigh, both-true, or-left, or-right}
@@ -131,7 +132,6 @@ recounted p faults returns cause = record {
   table = p.table;
   calls = p.calls;
   ready = p.ready;
-  lacking = p.lacking;
   lacked = p.lacked;
   faults = faults;
   losses = p.losses;
@@ -236,7 +236,7 @@ ready-among m g rows S =
 
 module _ (handed : Handed) (pattern : Pattern) (set : List ℕ) where
   abbrev Named : Ran → Type 0
-  Named ran = (end : End) → ran.ending ≡ At end → ran.last.lacking ≡ lacks set ran.last.ready
+  Named ran = (end : End) → ran.ending ≡ At end → (lacked_last ran.last.lacked) ≡ lacks set ran.last.ready
 
   abbrev AlwaysNamed : Tree → Type 0
   AlwaysNamed tree = (q : Progress) → Named (run_with handed tree pattern q)
@@ -265,7 +265,7 @@ module _ (handed : Handed) (pattern : Pattern) (set : List ℕ) where
 
   -- behind a count
   abbrev NamedThen : Tree → Type 0
-  NamedThen tree = (q : Progress) → q.lacking ≡ lacks set q.ready → Named (run_with handed tree pattern q)
+  NamedThen tree = (q : Progress) → (lacked_last q.lacked) ≡ lacks set q.ready → Named (run_with handed tree pattern q)
 
   end-named : (end : End) → NamedThen (Ends end)
   end-named end q is e on = is
@@ -444,7 +444,7 @@ module _ (image pid : ℕ) (holds : List Hold) (crew : Crew) (S : List ℕ) wher
     abbrev EndsSo : Ending → Progress → Type 0
     EndsSo e q =
         ((e ≡ At (full_end side)) × (missing pid g S q.table ≡ []))
-        ⊎ ((e ≡ At (short_end side)) × (1 ≤ length q.lacking) × (length q.lacking + rounds + (p.faults + p.losses) + 1 ≤ q.faults + q.losses))
+        ⊎ ((e ≡ At (short_end side)) × (1 ≤ length (lacked_last q.lacked)) × (length (lacked_last q.lacked) + rounds + (p.faults + p.losses) + 1 ≤ q.faults + q.losses))
 
     abbrev post : Ending → Progress → Type 0
     post e q = EndsSo e q × Exactly q × HasSide q.table image pid holds crew S × (q.table.files ≡ p.table.files) × (q.note ≡ p.note)
@@ -461,22 +461,22 @@ module _ (image pid : ℕ) (holds : List Hold) (crew : Crew) (S : List ℕ) wher
 
     full :
         (r : Names) (q : Progress) (c : ℕ) (w : Bool) → (false ≡ true → w ≡ true) → Only g S r →
-        Band u sc none r (named g (is_in S)) (length S) c w [] q → q.lacking ≡ [] →
-        Counted pid g S q.lacking q.table.rows → Exactly q → post (At (full_end side)) q
+        Band u sc none r (named g (is_in S)) (length S) c w [] q → (lacked_last q.lacked) ≡ [] →
+        Counted pid g S (lacked_last q.lacked) q.table.rows → Exactly q → post (At (full_end side)) q
     full r q c w up only b is saw exact =
         let none_missing =
         no-length (missing pid g S q.table)
-        (omega (arith, counted-all pid g S q.lacking q.table.rows saw, ap length is, count-of r q b.looks exact)) in
+        (omega (arith, counted-all pid g S (lacked_last q.lacked) q.table.rows saw, ap length is, count-of r q b.looks exact)) in
         (inl (refl, none_missing), exact, side-of r q.table only b.looks, b.still.files_stay, b.still.note_stays)
 
     short :
         (r : Names) (q : Progress) (x : ℕ) (xs : List ℕ) → Only g S r →
-        Band u sc none r (named g (is_in S)) (length S) (owed + rounds) true (x ∷ xs) q → q.lacking ≡ x ∷ xs →
-        Counted pid g S q.lacking q.table.rows → Exactly q → post (At (short_end side)) q
+        Band u sc none r (named g (is_in S)) (length S) (owed + rounds) true (x ∷ xs) q → (lacked_last q.lacked) ≡ x ∷ xs →
+        Counted pid g S (lacked_last q.lacked) q.table.rows → Exactly q → post (At (short_end side)) q
     short r q x xs only b is saw exact =
-        let some : 1 ≤ length q.lacking = omega (arith, ap length is) in
-        let paid : length q.lacking + rounds + (p.faults + p.losses) + 1 ≤ q.faults + q.losses =
-        omega (arith, b.budget, counted-all pid g S q.lacking q.table.rows saw) in
+        let some : 1 ≤ length (lacked_last q.lacked) = omega (arith, ap length is) in
+        let paid : length (lacked_last q.lacked) + rounds + (p.faults + p.losses) + 1 ≤ q.faults + q.losses =
+        omega (arith, b.budget, counted-all pid g S (lacked_last q.lacked) q.table.rows saw) in
         (inr (refl, some, paid), exact, side-of r q.table only b.looks, b.still.files_stay, b.still.note_stays)
 
     abbrev more : ℕ
@@ -534,7 +534,7 @@ module _ (image pid : ℕ) (holds : List Hold) (crew : Crew) (S : List ℕ) wher
         let end : post ran.ending (recounted ran.last twin.1 twin.2 twin.3) =
         subst (λ (q : Progress). post ran.ending q) twin.4
         (subst (λ (e : Ending). post e ran'.last) twin.0 all.last) in
-        let said : (e : End) → ran.ending ≡ At e → ran.last.lacking ≡ missing pid g S ran.last.table = λ e is.
+        let said : (e : End) → ran.ending ≡ At e → (lacked_last ran.last.lacked) ≡ missing pid g S ran.last.table = λ e is.
         always p e is ∙ filter-same (λ k. not (is_in ran.last.ready k))
         (λ k. not (list_any (is_worker is_ready pid g k) ran.last.table.rows)) S
         (every-in (λ k. not (is_in ran.last.ready k) ≡ not (list_any (is_worker is_ready pid g k) ran.last.table.rows)) S (λ k e. ap not (sym (end.1 k))))

@@ -12,14 +12,15 @@ use Rattle.vocabulary.specs.declared.calls.Call.TheVariants.{RemovePid, Leave}
 use Rattle.vocabulary.specs.declared.calls.Answer.TheVariants as answer
 use Rattle.vocabulary.specs.declared.targets.Target.TheVariants.{Stop}
 use Rattle.definitions.specs.Table.{is_own, FilePath, File, Process, Master, Worker, Foreign, Table, Hold, Caller, owner_at, owner_if, has_address}
-use Rattle.definitions.specs.Calls.{Stepped, gives, step_by, each_row, with_files, without_file, without_master}
+use Rattle.definitions.specs.Calls.{Stepped, gives, step_by, each_row, with_files, without_file}
+use Rattle.call_laws.specs.Pieces.{without_master, quits, kills}
 use Rattle.definitions.specs.Service.{is_live_with, service, IsSame}
 use Rattle.definitions.specs.Record.{Record, FilesAre, oldbin}
 use Rattle.definitions.specs.Target.{want, sides_of}
 use Rattle.definitions.specs.Tree.{Tree, Ends, reply_of}
-use Rattle.definitions.specs.Plans.{plan_tree, stop_tree, quits, kills, awaits_gone, then_edge, note_edges, removes}
+use Rattle.definitions.specs.Plans.{plan_tree, stop_tree, awaits_gone, then_edge, note_edges, removes}
 use Rattle.definitions.specs.Plans.{remove_oldbin_too, has_oldbin, stopped, does}
-use Rattle.definitions.specs.Run.{outcome_of, Pattern, Progress, Ending, At, Lost, Ran, start_at, noted, after_call, after_moment, answered}
+use Rattle.definitions.specs.Run.{outcome_of, Pattern, Progress, Ending, At, Lost, Ran, start_at, noted, after_call, after_moment, answered, lacked_last}
 use Rattle.definitions.specs.Claims.{was_failed, IsRemoved, Says, HasCause, IsPaid, IsStart, Kept, IsBlamed, StopNote, run_of}
 use Rattle.theorems.proofs.Headlines.{StopHeadline}
 use Rattle.table_laws.proofs.Rows.{every-more}
@@ -424,26 +425,26 @@ not-left Left None pid files are e = are
 not-left Left (Some path) pid files are e = are
 
 stop-note :
-    (note : PidNote) (path : Option FilePath) (ran : Ran) → FilesThen note path ran.last.table.files →
+    (note : PidNote) (path : Option FilePath) (first : Table) (ran : Ran) → FilesThen note path ran.last.table.files →
     (note ≡ Left → was_failed (paths_of path) ran.entries ≡ true) →
-    ((x : FilePath) → path ≡ Some x → IsRemoved x ran × IsRemoved (oldbin x) ran) → StopNote note path ran
-stop-note NoFile None ran files failed removed = tt
-stop-note NoFile (Some path) ran files failed removed = files
-stop-note Left None ran files failed removed = absurd files
-stop-note Left (Some path) ran files failed removed =
+    ((x : FilePath) → path ≡ Some x → IsRemoved x first ran × IsRemoved (oldbin x) first ran) → StopNote note path first ran
+stop-note NoFile None first ran files failed removed = tt
+stop-note NoFile (Some path) first ran files failed removed = files
+stop-note Left None first ran files failed removed = absurd files
+stop-note Left (Some path) first ran files failed removed =
     let both = removed path refl in
     (failed refl, both.0, both.1)
-stop-note InPlace path ran files failed removed = absurd files
-stop-note AtOldbin path ran files failed removed = absurd files
-stop-note OldbinLeft path ran files failed removed = absurd files
+stop-note InPlace path first ran files failed removed = absurd files
+stop-note AtOldbin path first ran files failed removed = absurd files
+stop-note OldbinLeft path first ran files failed removed = absurd files
 
 -- A stop is done, whatever is answered.
 abbrev AllDone : Table → Record → Bool → Ending → Progress → Type 0
 AllDone t rec quick e q =
     let sides = sides_of rec (Stop quick) in
-    Says rec (Stop quick) (outcome_of sides e q.lacking) t q.table
+    Says rec (Stop quick) (outcome_of sides e (lacked_last q.lacked)) t q.table
     × (next_record rec (Stop quick) (report_at sides e q) q.table ≡ None)
-    × HasCause (outcome_of sides e q.lacking) q.cause × IsPaid rec.retries (outcome_of sides e q.lacking) q
+    × HasCause (outcome_of sides e (lacked_last q.lacked)) q.cause × IsPaid rec.retries (outcome_of sides e (lacked_last q.lacked)) q
 
 all-done :
     (t : Table) (rec : Record) (quick : Bool) (pattern : Pattern) (s : IsStart t rec) (e : Ending) (q : Progress) → post
@@ -479,7 +480,7 @@ stop_headline t rec quick turns pattern a =
     record {
       says = done.0.0;
       after =
-          (done.0.1, done.2, stop-note ran.last.note rec.pid_path ran done.3 failed (λ x is. files-removed x t rec quick pattern is a.start.agrees.files a.spared done.1));
+          (done.0.1, done.2, stop-note ran.last.note rec.pid_path t ran done.3 failed (λ x is. files-removed x t rec quick pattern is a.start.agrees.files a.spared done.1));
       kept = every-more i (λ q. Kept (service t) (want rec (Stop quick)) t q.table) (λ q h. h.0) ran.passed all.always;
       blamed = every-more i IsBlamed (λ q h. h.1) ran.passed all.always;
       cause = done.0.2;

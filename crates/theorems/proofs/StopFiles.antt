@@ -17,14 +17,15 @@ use Rattle.vocabulary.specs.declared.calls.Fate.{Fate}
 use Rattle.vocabulary.specs.declared.reports.Entry.{Entry}
 use Rattle.definitions.specs.Table.{FilePath, File, Table, Caller, owner_at, live_master}
 use Rattle.definitions.specs.Exits.{after_exits}
-use Rattle.definitions.specs.Calls.{Stepped, gives, own_step, step_by, step_with, with_files, without_file, Handed}
+use Rattle.definitions.specs.Calls.{Stepped, gives, own_step, step_by, step_with, with_files, without_file}
 use Rattle.definitions.specs.Record.{Record, FilesAre, oldbin}
-use Rattle.definitions.specs.Tree.{Tree, Branches, Ends, Does, reply_of}
-use Rattle.definitions.specs.Plans.{does, then_edge, gone_edges, note_edges, quits, kills, awaits_gone, removes}
+use Rattle.definitions.specs.Tree.{Tree, Branches, Ends, reply_of}
+use Rattle.definitions.specs.Plans.{does, then_edge, note_edges, awaits_gone, removes}
+use Rattle.call_laws.specs.Pieces.{gone_edges, quits, kills}
 use Rattle.definitions.specs.Plans.{remove_oldbin_too, has_oldbin, stopped, stop_tree, plan_tree}
 use Rattle.vocabulary.specs.declared.targets.Target.TheVariants.{Stop}
-use Rattle.definitions.specs.Run.{Pattern, Progress, Ending, At, Lost, start_at, run_with, after_call, after_moment, answered}
-use Rattle.definitions.specs.Claims.{names_any, is_failed_removal, was_failed, first_owner, IsRemoved, run_of, refusal_of}
+use Rattle.definitions.specs.Run.{Pattern, Progress, Ending, At, Lost, start_at, after_call, after_moment, answered}
+use Rattle.definitions.specs.Claims.{names_any, is_failed_removal, was_failed, IsRemoved, run_of, refusal_of}
 use Rattle.definitions.specs.Manner.{is_leave_call}
 use Rattle.table_laws.proofs.Files.{gone-file, other-removed, oldbin-other, other-oldbin}
 use Rattle.table_laws.proofs.Addresses.{address-refl}
@@ -242,12 +243,6 @@ absent-by OldbinLeft path pid files are e = absurd (cc e)
 absent-by Left path pid files are e = absurd are
 absent-by NoFile path pid files are e = absurd are
 
-owned-first :
-    (path : FilePath) (handed : Handed) (tree : Tree) (pattern : Pattern) (p : Progress) →
-    first_owner path (run_with handed tree pattern p).passed ≡ owner_at path p.table.files
-owned-first path handed (Ends end) pattern p = refl
-owned-first path handed (Does by order set bs) pattern p = refl
-
 abbrev pub Ended : Ending → Type 0
 Ended (At end) = ⊤
 Ended Lost = ⊥
@@ -264,7 +259,7 @@ removed-by :
     refusal_of r (Stop quick) [] pattern t ≡ None → Ended (run_of r (Stop quick) [] pattern t).ending →
     IsGood path (owner_at path t.files) (own_course r pattern) (owner_at path t.files) false
     (removes r.generation.image r.pid_path r.note (stopped r.generation.image)) → IsRemoved path
-    (run_of r (Stop quick) [] pattern t)
+    t (run_of r (Stop quick) [] pattern t)
 removed-by path t r quick pattern spared ends good =
     let o = owner_at path t.files in
     let c = own_course r pattern in
@@ -276,13 +271,13 @@ removed-by path t r quick pattern spared ends good =
     (stop-good path o c r.generation.image r.generation r.ready r.pid_path r.note quick good [] at refl refl) spared
     (are-mild-anyhow c tree at) in
     removed-at path o c ran.entries ran.ending ran.last ends all.last
-    ∙ ap (λ x. if was_failed (path ∷ []) ran.entries then x else None) (sym (owned-first path None tree pattern at))
 
 pub files-removed :
     (path : FilePath) (t : Table) (r : Record) (quick : Bool) (pattern : Pattern) → r.pid_path ≡ Some path →
     FilesAre r.note r.pid_path r.pid t.files → refusal_of r (Stop quick) [] pattern t ≡ None →
     Ended (run_of r (Stop quick) [] pattern t).ending →
-    IsRemoved path (run_of r (Stop quick) [] pattern t) × IsRemoved (oldbin path) (run_of r (Stop quick) [] pattern t)
+    IsRemoved path t (run_of r (Stop quick) [] pattern t)
+    × IsRemoved (oldbin path) t (run_of r (Stop quick) [] pattern t)
 files-removed path t r quick pattern is are spared ends =
     let c = own_course r pattern in
     let by = r.generation.image in

@@ -14,7 +14,8 @@ use Rattle.vocabulary.specs.declared.reports.Entry.{Entry}
 use Rattle.definitions.specs.Table.{FilePath, Table}
 use Rattle.definitions.specs.Record.{Record, oldbin}
 use Rattle.definitions.specs.Tree.{Tree, Branches, Ends, Does, Nothing, Branch, among, reply_of}
-use Rattle.definitions.specs.Plans.{then_edge, note_edges, plan_tree, stop_tree, kills, awaits_gone, removes, remove_oldbin_too, has_oldbin, stopped}
+use Rattle.definitions.specs.Plans.{then_edge, note_edges, plan_tree, stop_tree, awaits_gone, removes, remove_oldbin_too, has_oldbin, stopped}
+use Rattle.call_laws.specs.Pieces.{kills}
 use Rattle.definitions.specs.Run.{Lost, Pattern, Progress, Ran, run_with, goes_with, noted, after_call, after_moment, answered, start_at}
 use Rattle.definitions.specs.Manner.{is_quit_call, is_leave_call, was_late, IsKillDue}
 use Rattle.definitions.specs.Claims.{names_any}

@@ -19,11 +19,12 @@ use Rattle.definitions.specs.Table.{Table, FilePath, File, Master, Caller, same_
 use Rattle.definitions.specs.Calls.{gives, with_files, with_file, without_file, with_new_row}
 use Rattle.definitions.specs.Record.{Record, FilesAre, oldbin}
 use Rattle.definitions.specs.Target.{want, wanted_at, sides_of}
-use Rattle.definitions.specs.After.{next_record, record_from, master_of, setup_after}
+use Rattle.definitions.specs.After.{next_record, record_from, master_of, named_record}
 use Rattle.definitions.specs.Tree.{Tree, Nothing}
 use Rattle.vocabulary.specs.declared.plans.Turn.{Turn}
 use Rattle.definitions.specs.Plans.{weave, joined}
-use Rattle.definitions.specs.Plans.{back_from, plan_tree, on, does, settle, spawn_edges, move_aside, back_alone}
+use Rattle.definitions.specs.Plans.{back_from, plan_tree, on, does, settle, move_aside, back_alone}
+use Rattle.call_laws.specs.Pieces.{spawn_edges}
 use Rattle.definitions.specs.Plans.{new_part, old_part, taken_over, relieve, upgrade_tree}
 use Rattle.definitions.specs.Service.{service}
 use Rattle.definitions.specs.Run.{Ending, Progress, faults_since, after_call, after_moment, start_at, report_of}
@@ -216,12 +217,12 @@ upgrade_headline t rec st turns pattern a =
 ---- The same, attended
 
 -- An attended upgrade is to reach and to leave what the plain one is.
-same-setup : (o : Outcome) (r : Record) (s : Settings) → setup_after o r (Attended s) ≡ setup_after o r (Upgrade s)
-same-setup outcome.Done r s = refl
-same-setup outcome.RolledBack r s = refl
-same-setup (outcome.Degraded side.Old ms) r s = refl
-same-setup (outcome.Degraded side.Target ms) r s = refl
-same-setup outcome.Lost r s = refl
+same-record : (o : Outcome) (r : Record) (s : Settings) → named_record o r (Attended s) ≡ named_record o r (Upgrade s)
+same-record outcome.Done r s = refl
+same-record outcome.RolledBack r s = refl
+same-record (outcome.Degraded side.Old ms) r s = refl
+same-record (outcome.Degraded side.Target ms) r s = refl
+same-record outcome.Lost r s = refl
 
 says-attended : (o : Outcome) (r : Record) (s : Settings) (first last : Table) → Says r (Upgrade s) o first last → Says r (Attended s) o first last
 says-attended outcome.Done r s first last h = h
@@ -233,7 +234,7 @@ says-attended outcome.Lost r s first last h = h
 after-attended : (r : Record) (s : Settings) (report : Report) (t : Table) → AgreesAfter r (Upgrade s) report t → AgreesAfter r (Attended s) report t
 after-attended r s report t a =
     let same : next_record r (Attended s) report t ≡ next_record r (Upgrade s) report t =
-    ap (λ o. option_and_then (record_from o r.pid_path report) (master_of o t)) (same-setup report.outcome r s) in
+    ap (λ o. option_and_then (record_from o report) (master_of o t)) (same-record report.outcome r s) in
     record { record_then = a.record_then; is = same ∙ a.is; agrees = a.agrees; record_in_range = a.record_in_range; same_master = a.same_master }
 
 pub attended_headline : AttendedHeadline

@@ -13,7 +13,8 @@ use Rattle.vocabulary.specs.declared.calls.Reply.{Reply}
 use Rattle.vocabulary.specs.declared.calls.Reply.TheVariants as reply
 use Rattle.definitions.specs.Tree.{Tree, Branches, Nothing, Ends, Does}
 use Rattle.definitions.specs.Plans.{beside, graft}
-use Rattle.definitions.specs.Plans.{old_part, on, round, census, census_edges, fork_edges, await_any_edges, then_edge}
+use Rattle.definitions.specs.Plans.{old_part, on, round, await_any_edges, then_edge}
+use Rattle.call_laws.specs.Pieces.{census, census_edges, fork_edges}
 use Rattle.definitions.specs.Run.{Progress}
 use Rattle.table_laws.proofs.Rows.{both-true}
 use Rattle.table_laws.proofs.Views.{Names, named}

@@ -20,7 +20,8 @@ use Rattle.vocabulary.specs.declared.plans.Turn.{Turn}
 use Rattle.definitions.specs.Tree.{Tree, Ends, full_or_short}
 use Rattle.definitions.specs.Plans.{joined, weave, graft, tries, tries_all, pid_calls, new_part, back_from}
 use Rattle.vocabulary.specs.declared.calls.Answer.TheVariants as answer
-use Rattle.definitions.specs.Run.{first_cause, went_wrong, lacked_by, lacked_after, Progress}
+use Rattle.definitions.specs.Run.{went_wrong, lacked_by, lacked_after, Progress}
+use Rattle.call_laws.specs.Pieces.{first_cause}
 use Rattle.definitions.specs.After.{all_opened, still_wanted, upgraded}
 use Rattle.table_laws.proofs.Rows.{both-true}
 use Rattle.call_laws.proofs.Choices.{and-left, and-right}
@@ -323,12 +324,12 @@ module _ (c : Given) (m : ℕ) (ne : m ≢ c.rec.pid) where
         let ls = lacked_by c.rec.generation.image (lacked_after image S (answer.Counted cs) q'.lacked) in
         let after : List ℕ → Progress =
         λ l. record
-        { table = t'; calls = q'.calls + 1; ready = cs; lacking = lacks S cs; lacked = lacked_after image S (answer.Counted cs) q'.lacked; faults = q'.faults; losses = q'.losses; returns = q'.returns; cause = first_cause q'.cause (went_wrong call (full_or_short l)) (q'.calls + 1); note = q'.note }
+        { table = t'; calls = q'.calls + 1; ready = cs; lacked = lacked_after image S (answer.Counted cs) q'.lacked; faults = q'.faults; losses = q'.losses; returns = q'.returns; cause = first_cause q'.cause (went_wrong call (full_or_short l)) (q'.calls + 1); note = q'.note }
         in
         subst (λ st. Edge c m ne none r0 0 false ls0 back back-goes call rest S q' st) (sym (unfailing (co c).handed image (me c m ne x) call fate q'.table tt))
         (elim (lacks S cs) as (λ l. lacks S cs ≡ l → Behind (inv c) (post c) Anyhow Unasked (co c) (edges c m ne none r0 0 false ls0 back back-goes call rest) (full_or_short l) (after l)) [
           | [] ↦ λ e. next (seen T (new c) cs) ls (after []) (only-seen cs)
-              (held-plain c m ne none r0 0 false ls0 back back-goes x (counted hs (seen T (new c) cs) files) t' cs (lacks S cs) (lacked_after image S (answer.Counted cs) q'.lacked) q' b' b'.still.files_stay refl refl framed second)
+              (held-plain c m ne none r0 0 false ls0 back back-goes x (counted hs (seen T (new c) cs) files) t' cs (lacked_after image S (answer.Counted cs) q'.lacked) q' b' b'.still.files_stay refl refl framed second)
           | k ∷ ks ↦ λ e. goes-back c m ne (counted hs (seen T (new c) cs) files) r0 0 ls (after (k ∷ ks)) only0 aside (record {
             looks = framed.looks;
             enough = b'.enough;

@@ -26,8 +26,9 @@ use Rattle.definitions.specs.Exits.{after_exits}
 use Rattle.definitions.specs.Calls.{Stepped, gives, each_row, drop_where, census_of, is_exited_of, step_by, step_with}
 use Rattle.definitions.specs.Calls.{Handed}
 use Rattle.definitions.specs.Tree.{Tree, Branches, Ends, Does, Nothing, Branch, among, reply_of, call_of}
-use Rattle.definitions.specs.Plans.{upgrade_tree, settle, quits, awaits_gone, gone_edges, then_edge, does}
-use Rattle.definitions.specs.Run.{Progress, Lost, start_at, outcome_of, noted, after_call, ready_after}
+use Rattle.definitions.specs.Plans.{upgrade_tree, settle, awaits_gone, then_edge, does}
+use Rattle.call_laws.specs.Pieces.{quits, gone_edges}
+use Rattle.definitions.specs.Run.{Progress, Lost, start_at, outcome_of, noted, after_call, ready_after, lacked_last}
 use Rattle.definitions.specs.Manner.{has_ready, is_lost, is_old_side, is_process_of, is_quit_of, is_wait_of}
 use Rattle.definitions.specs.Manner.{is_wait_call, is_late, is_leave_call, was_late, IsKillDue, KillsAreDue, Manner}
 use Rattle.definitions.specs.Claims.{names_any}
@@ -88,7 +89,7 @@ module _ (c : Given) (p k : ℕ) (on : has_ready c.t p k ≡ true) where
 
   -- it stands at an end on the old side, unless its master had waited for it to go
   abbrev stays : Finally
-  stays past e q = is_old_side (outcome_of (sides_of c.rec (Upgrade c.st)) e q.lacking) ≡ true → list_any (λ e. is_wait_call e.call) past ≡ false → F q.table
+  stays past e q = is_old_side (outcome_of (sides_of c.rec (Upgrade c.st)) e (lacked_last q.lacked)) ≡ true → list_any (λ e. is_wait_call e.call) past ≡ false → F q.table
 
   abbrev no_asking : Asking
   no_asking past call t = ⊤
@@ -490,7 +491,7 @@ leave-due c past _ t e h = absurd (cc e)
 
 manner-of : (c : Given) (turns : List Turn) → refused_in (co c) (tree_of c turns) (start_at c.t c.rec.note) ≡ None → let ran =
     run_in (co c) (tree_of c turns) (start_at c.t c.rec.note) in Manner c.rec (Upgrade c.st)
-    (outcome_of (sides_of c.rec (Upgrade c.st)) ran.ending ran.last.lacking) c.t ran
+    (outcome_of (sides_of c.rec (Upgrade c.st)) ran.ending (lacked_last ran.last.lacked)) c.t ran
 manner-of c turns spared =
     let at = start_at c.t c.rec.note in
     let tree = tree_of c turns in
@@ -507,7 +508,7 @@ manner-of c turns spared =
         let at = start_at c.t c.rec.note in
         let ran = run_in (co c) tree at in
         refused_in (co c) tree at ≡ None →
-        is_old_side (outcome_of (sides_of c.rec (Upgrade c.st)) ran.ending ran.last.lacking) ≡ true →
+        is_old_side (outcome_of (sides_of c.rec (Upgrade c.st)) ran.ending (lacked_last ran.last.lacked)) ≡ true →
         list_any (λ e. is_wait_call e.call) ran.entries ≡ false → (b : Bool) → is_lost p ran.passed ≡ b →
         (has_ready ran.last.table p k ≡ true) ⊎ (is_lost p ran.passed ≡ true)
     stays-it c p k on spared old none true e = inr e
@@ -516,7 +517,7 @@ manner-of c turns spared =
         let at = start_at c.t c.rec.note in
         let all =
         from-traced (λ past call t. ⊤)
-        (λ past e q. is_old_side (outcome_of (sides_of c.rec (Upgrade c.st)) e q.lacking) ≡ true → list_any (λ e. is_wait_call e.call) past ≡ false → Stands c.rec.pid c.rec.generation.image p c.rec.generation k (first-low c.t c.rec c.start p k on) q.table)
+        (λ past e q. is_old_side (outcome_of (sides_of c.rec (Upgrade c.st)) e (lacked_last q.lacked)) ≡ true → list_any (λ e. is_wait_call e.call) past ≡ false → Stands c.rec.pid c.rec.generation.image p c.rec.generation k (first-low c.t c.rec c.start p k on) q.table)
         (Unlost p) (co c) [] tree at (stays-traced c p k on turns) spared (are-unlost p (co c) tree at e) in
         inl
         (stands-ready c.rec.pid c.rec.generation.image p c.rec.generation k (first-low c.t c.rec c.start p k on) (run_in (co c) tree at).last.table (all.last old none))

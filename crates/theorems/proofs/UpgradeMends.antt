@@ -26,7 +26,8 @@ use Rattle.definitions.specs.Tree.{Tree, Branches, Ends, Does, Nothing, Branch, 
 use Rattle.definitions.specs.Plans.{beside, graft, weave, joined}
 use Rattle.definitions.specs.Run.{Lack, lacked_by, lacked_after, Progress, Lost, noted, after_call}
 use Rattle.run_laws.proofs.Rules.{own-lacked}
-use Rattle.definitions.specs.Plans.{on, round, census, census_edges, fork_edges, await_any_edges, then_edge, tries, tries_all}
+use Rattle.definitions.specs.Plans.{on, round, await_any_edges, then_edge, tries, tries_all}
+use Rattle.call_laws.specs.Pieces.{census, census_edges, fork_edges}
 use Rattle.definitions.specs.Claims.{names_any}
 use Rattle.run_laws.proofs.Logic.{Exiting}
 use Rattle.call_laws.proofs.Cases.{fork-cases, await-cases, open-cases, adopt-cases, unfailing}

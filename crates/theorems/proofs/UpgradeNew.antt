@@ -21,7 +21,8 @@ use Rattle.definitions.specs.Exits.{change}
 use Rattle.definitions.specs.Manner.{is_leave_call}
 use Rattle.definitions.specs.Tree.{Tree, Branches, Nothing, plain_reply, replies_to, reply_of}
 use Rattle.definitions.specs.Plans.{on, tries, back_from}
-use Rattle.definitions.specs.Run.{first_cause, Lack, lacked_by, Ending, Progress, after_moment, after_call, answered}
+use Rattle.definitions.specs.Run.{Lack, lacked_by, Ending, Progress, after_moment, after_call, answered}
+use Rattle.call_laws.specs.Pieces.{first_cause}
 use Rattle.definitions.specs.Claims.{names_any}
 use Rattle.run_laws.proofs.Refusals.{is_leave}
 use Rattle.table_laws.proofs.Rows.{both-true}
@@ -110,7 +111,6 @@ module _ (c : Given) (m : ℕ) (ne : m ≢ c.rec.pid) where
     table = t;
     calls = q.calls + 1;
     ready = q.ready;
-    lacking = q.lacking;
     lacked = q.lacked;
     faults = q.faults + 1;
     losses = q.losses;
@@ -120,12 +120,11 @@ module _ (c : Given) (m : ℕ) (ne : m ≢ c.rec.pid) where
   }
 
   -- A call was answered plainly.
-  abbrev pub plain_with : Table → List ℕ → List ℕ → List Lack → Progress → Progress
-  plain_with t ready lacking lacked q = record {
+  abbrev pub plain_with : Table → List ℕ → List Lack → Progress → Progress
+  plain_with t ready lacked q = record {
     table = t;
     calls = q.calls + 1;
     ready = ready;
-    lacking = lacking;
     lacked = lacked;
     faults = q.faults;
     losses = q.losses;
@@ -151,11 +150,11 @@ module _ (c : Given) (m : ℕ) (ne : m ≢ c.rec.pid) where
       still-framed q looks = record { looks = looks; same = λ t. refl }
 
       pub held-plain :
-          {ls : List ℕ} (x y : Doing) (t : Table) (ready lacking : List ℕ) (lacked : List Lack) (q : Progress) →
+          {ls : List ℕ} (x y : Doing) (t : Table) (ready : List ℕ) (lacked : List Lack) (q : Progress) →
           Held x s0 r0 k0 w0 ls0 q → t.files ≡ y.files → t.limits ≡ q.table.limits → lacked_by v.image lacked ≡ ls →
           Framed (view v s0 r0) q.table.rows t.rows → Second c (w c m y.hs y.s y.r) y.names y.d t.rows q.losses →
-          Held y s0 r0 k0 w0 ls (plain_with t ready lacking lacked q)
-      held-plain x y t ready lacking lacked q b files limits is framed second = record {
+          Held y s0 r0 k0 w0 ls (plain_with t ready lacked q)
+      held-plain x y t ready lacked q b files limits is framed second = record {
         looks = framed.looks;
         enough = b.enough;
         secured = λ a e. omega (arith, b.secured a e, framed.same (named (g c) (is_in (R c))));
@@ -232,7 +231,7 @@ module _ (c : Given) (m : ℕ) (ne : m ≢ c.rec.pid) where
       try-adopt rest x q aside next b =
           step Adopt [] rest x q refl b
           (λ q' b' looks fate. adopt-cases (co c).handed image (me x) fate q'.table (λ st. Edge Adopt rest [] q' st) (just-failed x q' aside b')
-          (next (plain_with q'.table q'.ready q'.lacking q'.lacked q') (held-plain x x q'.table q'.ready q'.lacking q'.lacked q' b' b'.still.files_stay refl b'.lacking (still-framed q' b'.looks) b'.beside)))
+          (next (plain_with q'.table q'.ready q'.lacked q') (held-plain x x q'.table q'.ready q'.lacked q' b' b'.still.files_stay refl b'.lacking (still-framed q' b'.looks) b'.beside)))
           (λ q' b'. just-failed x q' aside b')
 
       pub try-close :
@@ -247,7 +246,7 @@ module _ (c : Given) (m : ℕ) (ne : m ≢ c.rec.pid) where
           framed-change (view v s0 r0) m (is_of m) (with_holds (lacks_address a)) q'.table.rows (apart s0 r0)
           (mine-of m, λ k zs. refl) (holds-stay (lacks_address a)) b'.looks in
           subst (λ st. Edge (CloseAt a) rest [] q' st) (sym (unfailing (co c).handed image (me x) (CloseAt a) fate q'.table tt))
-          (next (plain_with t' q'.ready q'.lacking q'.lacked q') (held-plain x (with_hs x (lacks_address a x.hs)) t' q'.ready q'.lacking q'.lacked q' b' b'.still.files_stay refl b'.lacking framed
+          (next (plain_with t' q'.ready q'.lacked q') (held-plain x (with_hs x (lacks_address a x.hs)) t' q'.ready q'.lacked q' b' b'.still.files_stay refl b'.lacking framed
           (inl (looks-allows (after_close a (w c m x.hs x.s x.r)) (w c m (lacks_address a x.hs) x.s x.r) (record { number = refl; others = λ k e. e; image = refl; holds = refl; starting = λ j k e. e; ready = λ j k e. e; held_starting = λ j k e. share-lacks (posts c) k a x.hs; held = λ j k e. share-lacks (posts c) k a x.hs }) t'.rows (close-looks (w c m x.hs x.s x.r) a q'.table.rows looks)), omega (arith, b'.beside.1, close-weigh m x.names a q'.table.rows)))))
           (λ q' b'. just-failed x q' aside b')
 
@@ -267,9 +266,9 @@ module _ (c : Given) (m : ℕ) (ne : m ≢ c.rec.pid) where
           let framed =
           framed-change (view v s0 r0) m (is_row m) (with_holds (put_hold h)) q'.table.rows (apart s0 r0)
           (mine-row m, λ k zs. refl) (holds-stay (put_hold h)) b'.looks in
-          next h (plain_with t' q'.ready q'.lacking q'.lacked q') refl refl
+          next h (plain_with t' q'.ready q'.lacked q') refl refl
           (ap (λ (l : Limits). nat_lt (length hs) l.descriptors) (sym b'.still.limits_stay) ∙ room)
-          (held-plain x (bare (put_hold h hs) files) t' q'.ready q'.lacking q'.lacked q' b' b'.still.files_stay refl b'.lacking framed
+          (held-plain x (bare (put_hold h hs) files) t' q'.ready q'.lacked q' b' b'.still.files_stay refl b'.lacking framed
           (inl (looks-allows (after_open h (w c m hs none none)) (w c m (put_hold h hs) none none) (record { number = refl; others = λ k e. e; image = refl; holds = refl; starting = λ j k e. e; ready = λ j k e. e; held_starting = λ j k e. absurd (cc e); held = λ j k e. absurd (cc e) }) t'.rows (open-looks (w c m hs none none) h q'.table.rows looks)), omega arith))))
           (λ q' b'. just-failed x q' aside b')
 
@@ -287,8 +286,8 @@ module _ (c : Given) (m : ℕ) (ne : m ≢ c.rec.pid) where
           let j = q'.table.next_process in
           let t' = with_new_row q'.table (λ j. Worker j m (new c) k Starting hold) in
           let framed = framed-grow (view v s0 r0) m j (new c) k hold q'.table.rows (apart s0 r0) (eqb-refl m m refl) b'.looks in
-          next (plain_with t' q'.ready q'.lacking q'.lacked q')
-          (held-plain x (with_starting x (plus x.s (new c) k)) t' q'.ready q'.lacking q'.lacked q' b' b'.still.files_stay refl b'.lacking framed
+          next (plain_with t' q'.ready q'.lacked q')
+          (held-plain x (with_starting x (plus x.s (new c) k)) t' q'.ready q'.lacked q' b' b'.still.files_stay refl b'.lacking framed
           (inl (fork-looks (w c m x.hs x.s x.r) (new c) k j hold q'.table.rows refl off looks), omega (arith, b'.beside.1, fork-weigh m (new c) x.names k j hold q'.table.rows)))))
           (λ q' b'. just-failed x q' aside b')
 
@@ -334,8 +333,8 @@ module _ (c : Given) (m : ℕ) (ne : m ≢ c.rec.pid) where
           weigh-sub m (named (new c) (is_in done)) (named (new c) (is_in (k ∷ done)))
           (λ h j e. both-true (same_generation h (new c)) (is_in (k ∷ done) j) (and-left _ _ e) (in-there k j done (and-right (same_generation h (new c)) _ e)))
           q'.table.rows in
-          next (plain_with t' q'.ready q'.lacking q'.lacked q')
-          (held-plain x y t' q'.ready q'.lacking q'.lacked q' b' b'.still.files_stay refl b'.lacking framed (
+          next (plain_with t' q'.ready q'.lacked q')
+          (held-plain x y t' q'.ready q'.lacked q' b' b'.still.files_stay refl b'.lacking framed (
             inl
                 (looks-allows (after_wait (new c) k (w c m hs s (named (new c) (is_in done)))) (w c m hs (minus s (new c) k) (named (new c) (is_in (k ∷ done)))) (record { number = refl; others = λ j e. e; image = refl; holds = refl; starting = λ h j e. e; ready = joins k done; held_starting = λ h j e. refl; held = λ h j e. refl }) t'.rows (await-looks (w c m hs s (named (new c) (is_in done))) (new c) k q'.table.rows looks)),
             omega (arith, b'.beside.1, gain, more),
@@ -358,6 +357,6 @@ module _ (c : Given) (m : ℕ) (ne : m ≢ c.rec.pid) where
           step (WritePid path) [] rest x q refl b
           (λ q' b' looks fate. write-cases (co c).handed image (me x) path fate q'.table (λ st. Edge (WritePid path) rest [] q' st) (just-failed x q' aside b')
           (let t' = with_files (with_file path m q'.table.files) q'.table in
-          next (plain_with t' q'.ready q'.lacking q'.lacked q')
-          (held-plain x (with_written x (with_file path m x.files)) t' q'.ready q'.lacking q'.lacked q' b' (ap (with_file path m) b'.still.files_stay) refl b'.lacking (record { looks = b'.looks; same = λ t. refl }) b'.beside)))
+          next (plain_with t' q'.ready q'.lacked q')
+          (held-plain x (with_written x (with_file path m x.files)) t' q'.ready q'.lacked q' b' (ap (with_file path m) b'.still.files_stay) refl b'.lacking (record { looks = b'.looks; same = λ t. refl }) b'.beside)))
           (λ q' b'. just-failed x q' aside b')

@@ -13,10 +13,11 @@ use Rattle.vocabulary.specs.declared.calls.Call.TheVariants.{Alive, Leave, Remov
 use Rattle.vocabulary.specs.declared.calls.Answer.TheVariants as answer
 use Rattle.vocabulary.specs.declared.calls.Reply.TheVariants as reply
 use Rattle.definitions.specs.Table.{Address, FilePath, File, Hold, Caller, has_address, owner_at}
-use Rattle.definitions.specs.Calls.{Stepped, gives, step_by, each_row, drop_where, is_image, asked_alive, with_files, without_file, without_master}
+use Rattle.definitions.specs.Calls.{Stepped, gives, step_by, each_row, drop_where, is_image, asked_alive, with_files, without_file}
+use Rattle.call_laws.specs.Pieces.{without_master, quits}
 use Rattle.definitions.specs.Record.{FilesAre, oldbin}
 use Rattle.definitions.specs.Tree.{Tree, Nothing, reply_of}
-use Rattle.definitions.specs.Plans.{on, does, then_edge, note_edges, quits, awaits_gone, settle, remove_oldbin}
+use Rattle.definitions.specs.Plans.{on, does, then_edge, note_edges, awaits_gone, settle, remove_oldbin}
 use Rattle.definitions.specs.Plans.{hand_over, back_late, back_from, back_serving, asks, retire, relieve}
 use Rattle.definitions.specs.Run.{Ending, Progress, Return, noted, after_call, after_moment, answered, lacked_by}
 use Rattle.table_laws.proofs.Views.{Names, named, View, Looks, finds, eqb-is, eqb-refl}

@@ -15,9 +15,9 @@ use Rattle.definitions.specs.Service.{Service, service}
 use Rattle.definitions.specs.Crew.{Posts, Crew, Layout, share, group_of, posts_of, layout_in, short_at, shortfalls_of}
 use Rattle.definitions.specs.Record.{Record, Agrees, FilesAre, addresses_of, crew_of, layout_of, listener_of}
 use Rattle.definitions.specs.Target.{Sides, upgrade_generation, want, wanted_at, sides_of, handover_for}
-use Rattle.definitions.specs.After.{crew_wanted, posts_wanted, Setup, setup_after, recorded, renewed, upgraded, next_image}
+use Rattle.definitions.specs.After.{crew_wanted, posts_wanted, named_record, reported, renewed, upgraded, next_image}
 use Rattle.definitions.specs.Tree.{Tree}
-use Rattle.definitions.specs.Run.{Pattern, Progress, Return, faults_since, Ending, At, outcome_of}
+use Rattle.definitions.specs.Run.{Pattern, Progress, Return, faults_since, Ending, At, outcome_of, lacked_last}
 use Rattle.definitions.specs.Claims.{AgreesAfter, IsStart, has_socket, Says, IsPaid, Kept, IsCommon, IsBlamed, HasCause, HasDescriptors, ready_with}
 use Rattle.table_laws.proofs.Rows.{weigh, both-true}
 use Rattle.table_laws.proofs.Views.{Names, named, View, Looks, ready_in}
@@ -145,8 +145,8 @@ module _ (c : Given) where
 
   abbrev pub post : Ending → Progress → Type 0
   post e q =
-      Says c.rec (Upgrade c.st) (outcome_of sides e q.lacking) c.t q.table
-      × IsPaid c.rec.retries (outcome_of sides e q.lacking) q × HasCause (outcome_of sides e q.lacking) q.cause
+      Says c.rec (Upgrade c.st) (outcome_of sides e (lacked_last q.lacked)) c.t q.table
+      × IsPaid c.rec.retries (outcome_of sides e (lacked_last q.lacked)) q × HasCause (outcome_of sides e (lacked_last q.lacked)) q.cause
       × AgreesAfter c.rec (Upgrade c.st) (report_at sides e q) q.table
 
   abbrev pub Goes : Course → Tree → Progress → Type 0
@@ -344,7 +344,7 @@ module _ (c : Given) where
   Exactly m h q = (k : ℕ) → list_any (is_worker is_ready m h k) q.table.rows ≡ is_in q.ready k
 
   abbrev pub Saw : ℕ → Generation → List ℕ → Progress → Type 0
-  Saw m h S q = Counted m h S q.lacking q.table.rows
+  Saw m h S q = Counted m h S (lacked_last q.lacked) q.table.rows
 
   listens-old : ListensBy u g (layout_of c.rec)
   listens-old k a on = first-listens c.t c.rec c.start k a
@@ -353,7 +353,7 @@ module _ (c : Given) where
     agrees-old :
         (r : Names) (q : Progress) → Only g R r → Looks (view u none r) q.table.rows → Exactly c.rec.pid g q →
         Still files note c.t.limits q.table.files q.note q.table.limits → (e : Ending) →
-        Agrees q.table (recorded (resized c.rec c.rec.wanted) c.rec.pid_path (report_at sides e q) c.rec.pid)
+        Agrees q.table (reported (resized c.rec c.rec.wanted) (report_at sides e q) c.rec.pid)
     agrees-old r q only looks exact still e =
         agrees-after (view u none r) old_crew q.table _ (λ n. refl) (λ k. refl) (λ h k on. (only h k on).0) looks exact
         refl refl refl c.start.agrees.listeners
@@ -367,12 +367,12 @@ module _ (c : Given) where
         (census-within u (λ n. refl) g R r q.table.rows q.ready only looks exact k e)
 
     pub old-full :
-        (r : Names) (q : Progress) → Only g R r → Looks (view u none r) q.table.rows → q.lacking ≡ [] →
+        (r : Names) (q : Progress) → Only g R r → Looks (view u none r) q.table.rows → (lacked_last q.lacked) ≡ [] →
         is_some q.cause ≡ true → Still files note c.t.limits q.table.files q.note q.table.limits → Saw c.rec.pid g R q →
         Exactly c.rec.pid g q → post (At RolledBack) q
     old-full r q only looks full caused still saw exact = (
       λ a. service-of u (λ n. refl) g R (addresses_of c.rec) (layout_of c.rec) listens-old
-          (first-keys c.t c.rec c.start) r q.table q.lacking only looks full saw a ∙ sym
+          (first-keys c.t c.rec c.start) r q.table (lacked_last q.lacked) only looks full saw a ∙ sym
           (first-service c.t c.rec c.start a),
       tt,
       caused,
@@ -383,16 +383,16 @@ module _ (c : Given) where
 
     pub old-short :
         (r : Names) (q : Progress) (x : ℕ) (xs : List ℕ) → Only g R r → Looks (view u none r) q.table.rows →
-        q.lacking ≡ x ∷ xs → is_some q.cause ≡ true → Still files note c.t.limits q.table.files q.note q.table.limits →
+        (lacked_last q.lacked) ≡ x ∷ xs → is_some q.cause ≡ true → Still files note c.t.limits q.table.files q.note q.table.limits →
         length R + c.rec.retries ≤ weigh (ready_in c.rec.pid (named g (is_in R))) q.table.rows + q.losses + q.faults →
         Saw c.rec.pid g R q → Exactly c.rec.pid g q → post (At ShortOld) q
     old-short r q x xs only looks short caused still budget saw exact =
         let some = c.start.record_in_range.groups.some in
         let less =
         service-short u (λ n. refl) g R (addresses_of c.rec) (layout_of c.rec) listens-old
-        (first-keys c.t c.rec c.start) r q.table q.lacking only looks some (omega (arith, ap length short)) saw in (
-          (less.0, less.1, fewer-same (short_at (layout_of c.rec) (shortfalls_of c.rec.posts.groups q.lacking)) _ _ _ _ (λ a. sym (first-service c.t c.rec c.start a)) (λ a. refl) less.2),
-          omega (arith, budget, counted-all c.rec.pid g R q.lacking q.table.rows saw, shortfalls-sum c.rec.posts.groups q.lacking some),
+        (first-keys c.t c.rec c.start) r q.table (lacked_last q.lacked) only looks some (omega (arith, ap length short)) saw in (
+          (less.0, less.1, fewer-same (short_at (layout_of c.rec) (shortfalls_of c.rec.posts.groups (lacked_last q.lacked))) _ _ _ _ (λ a. sym (first-service c.t c.rec c.start a)) (λ a. refl) less.2),
+          omega (arith, budget, counted-all c.rec.pid g R (lacked_last q.lacked) q.table.rows saw, shortfalls-sum c.rec.posts.groups (lacked_last q.lacked) some),
           caused,
           kept-after c.rec (Upgrade c.st) (report_at sides (At ShortOld) q) q.table c.rec.wanted refl
               c.start.record_in_range c.start.record_in_range.wanted (within-old r q only looks exact)
@@ -405,18 +405,18 @@ module _ (c : Given) where
   abbrev pub x : ℕ → List Hold → Names → View
   x m hs r = sole (w m hs none r)
 
-  -- the setup of the target, with these holds
-  abbrev pub moved : List Hold → Setup
-  moved hs = record { listeners = map listener_of hs; posts = posts; generation = new; wanted = n; retries = c.st.retries; timeout = c.st.timeout }
+  -- the record with the target's service and these holds
+  abbrev pub moved : List Hold → Record
+  moved hs = record c.rec { listeners = map listener_of hs; posts = posts; generation = new; wanted = n; retries = c.st.retries; timeout = c.st.timeout }
 
   -- the listeners that the record will have
   abbrev pub Lists : List Hold → Type 0
   Lists hs = upgraded c.st.listeners c.rec.listeners ≡ Some (map listener_of hs)
 
-  moved-is : (hs : List Hold) → Lists hs → renewed c.st posts (upgraded c.st.listeners c.rec.listeners) (next_image c.rec.generation) ≡ Some (moved hs)
+  moved-is : (hs : List Hold) → Lists hs → renewed c.rec c.st posts (upgraded c.st.listeners c.rec.listeners) (next_image c.rec.generation) ≡ Some (moved hs)
   moved-is hs lists =
-      ap (λ ls. renewed c.st posts ls (next_image c.rec.generation)) lists ∙ ap
-      (λ o. renewed c.st posts (Some (map listener_of hs)) o) (next-image-is c.rec.generation c.numbered)
+      ap (λ ls. renewed c.rec c.st posts ls (next_image c.rec.generation)) lists ∙ ap
+      (λ o. renewed c.rec c.st posts (Some (map listener_of hs)) o) (next-image-is c.rec.generation c.numbered)
 
   -- Its workers' descriptors were told from what it holds when all is closed and opened.
   pub laid-first : (hs : List Hold) → Lists hs → RisesFrom 3 (fds hs) → Laid hs
@@ -435,21 +435,21 @@ module _ (c : Given) where
     moved-left :
         (r : Names) (q : Progress) → Only new S r → Looks (view (x m hs r) none r) q.table.rows → Exactly m new q →
         Still files note c.t.limits q.table.files q.note q.table.limits → (e : Ending) →
-        setup_after (outcome_of sides e q.lacking) c.rec (Upgrade c.st) ≡ Some (moved hs) →
+        named_record (outcome_of sides e (lacked_last q.lacked)) c.rec (Upgrade c.st) ≡ Some (moved hs) →
         AgreesAfter c.rec (Upgrade c.st) (report_at sides e q) q.table
     moved-left r q only looks exact still e is =
         moved-after c.rec (Upgrade c.st) (report_at sides e q) q.table (moved hs) m is
         (some-held hs wanted keys c.range.listens) c.range.groups low c.range.retries c.range.timeout_least
-        c.range.timeout_most c.start.record_in_range some (λ e. absurd (omega (arith, e)))
+        c.range.timeout_most c.start.record_in_range.pid_path some (λ e. absurd (omega (arith, e)))
         (λ k on. below-of n k (census-within (x m hs r) (λ n. refl) new S r q.table.rows q.ready only looks exact k on))
         (agrees-after (view (x m hs r) none r) new_crew q.table _ (λ n. refl) (λ k. refl) (λ h k on. (only h k on).0) looks exact refl refl refl refl (files-still note q.note c.rec.pid_path m files q.table.files c.t.limits q.table.limits are still))
 
     pub new-full :
-        (r : Names) (q : Progress) → Only new S r → Looks (view (x m hs r) none r) q.table.rows → q.lacking ≡ [] →
+        (r : Names) (q : Progress) → Only new S r → Looks (view (x m hs r) none r) q.table.rows → (lacked_last q.lacked) ≡ [] →
         Still files note c.t.limits q.table.files q.note q.table.limits → Saw m new S q → Exactly m new q →
         post (At Done) q
     new-full r q only looks full still saw exact = (
-      service-of (x m hs r) (λ n. refl) new S wanted layout (listens-new r) keys r q.table q.lacking only looks full saw,
+      service-of (x m hs r) (λ n. refl) new S wanted layout (listens-new r) keys r q.table (lacked_last q.lacked) only looks full saw,
       tt,
       tt,
       moved-left r q only looks exact still (At Done) (moved-is hs lists),
@@ -457,13 +457,13 @@ module _ (c : Given) where
 
     pub new-short :
         (r : Names) (q : Progress) (y : ℕ) (ys : List ℕ) → Only new S r → Looks (view (x m hs r) none r) q.table.rows →
-        q.lacking ≡ y ∷ ys → is_some q.cause ≡ true → Still files note c.t.limits q.table.files q.note q.table.limits →
+        (lacked_last q.lacked) ≡ y ∷ ys → is_some q.cause ≡ true → Still files note c.t.limits q.table.files q.note q.table.limits →
         length S + c.rec.retries ≤ weigh (ready_in m (named new (is_in S))) q.table.rows + q.losses + q.faults →
         Saw m new S q → Exactly m new q → post (At ShortTarget) q
     new-short r q y ys only looks short caused still budget saw exact = (
-      service-short (x m hs r) (λ n. refl) new S wanted layout (listens-new r) keys r q.table q.lacking only looks
+      service-short (x m hs r) (λ n. refl) new S wanted layout (listens-new r) keys r q.table (lacked_last q.lacked) only looks
           c.range.groups.some (omega (arith, ap length short)) saw,
-      omega (arith, budget, counted-all m new S q.lacking q.table.rows saw, shortfalls-sum c.st.groups q.lacking c.range.groups.some),
+      omega (arith, budget, counted-all m new S (lacked_last q.lacked) q.table.rows saw, shortfalls-sum c.st.groups (lacked_last q.lacked) c.range.groups.some),
       caused,
       moved-left r q only looks exact still (At ShortTarget) (moved-is hs lists),
     )

@@ -7,7 +7,8 @@ use Rattle.std.specs.Prelude.{◌++◌, ◌&&◌, filter, reverse, min, nat_lt}
 use Rattle.std.proofs.lemmas.Bool.Decides.{nat_tests}
 use Rattle.listener_set.specs.declared.generation.Generation.{Generation}
 use Rattle.listener_set.specs.Numbers.{is_in, numbers_below}
-use Rattle.definitions.specs.Plans.{workers_tree, quits, settle}
+use Rattle.definitions.specs.Plans.{workers_tree, settle}
+use Rattle.call_laws.specs.Pieces.{quits}
 use Rattle.vocabulary.specs.declared.plans.Side.TheVariants.{Old, Target}
 use Rattle.vocabulary.specs.declared.targets.Target.TheVariants.{Workers}
 use Rattle.definitions.specs.Target.{want, wanted_at}
@@ -107,7 +108,7 @@ like_workers rec n low = record {
   short = λ m. refl;
   rolled_back = refl;
   short_old = λ m. refl;
-  leaves = λ ran h. h;
+  leaves = λ t ran h. h;
 }
 
 module _ (t : Table) (rec : Record) (n : ℕ) (pattern : Pattern) (s : IsStart t rec) (low : n ≤ 1024) where

@@ -11,8 +11,9 @@ use Rattle.definitions.specs.Crew.{Crew}
 use Rattle.definitions.specs.Record.{Record, crew_of}
 use Rattle.definitions.specs.Target.{sides_of}
 use Rattle.definitions.specs.Tree.{Tree}
-use Rattle.definitions.specs.Plans.{plan_tree, workers_tree, quits, settle}
-use Rattle.definitions.specs.Run.{Pattern, Progress, Ending, At, start_at, outcome_of}
+use Rattle.definitions.specs.Plans.{plan_tree, workers_tree, settle}
+use Rattle.call_laws.specs.Pieces.{quits}
+use Rattle.definitions.specs.Run.{Pattern, Progress, Ending, At, start_at, outcome_of, lacked_last}
 use Rattle.definitions.specs.Manner.{has_ready, is_old_side}
 use Rattle.definitions.specs.Claims.{IsStart}
 use Rattle.theorems.proofs.Headlines.{InManner}
@@ -77,7 +78,7 @@ module _ (t : Table) (r : Record) (n : ℕ) (pattern : Pattern) (s : IsStart t r
   ---- It stays
 
   abbrev Need : Ending → Progress → Type 0
-  Need e q = (is_old_side (outcome_of (sides_of r (Workers n)) e q.lacking) || nat_lt k n) ≡ true
+  Need e q = (is_old_side (outcome_of (sides_of r (Workers n)) e (lacked_last q.lacked)) || nat_lt k n) ≡ true
 
   abbrev post : Ending → Progress → Type 0
   post e q = Need e q → Stands r.pid g.image p g k low q.table

@@ -98,7 +98,6 @@ progress t faults losses cause = record {
   table = t;
   calls = 1;
   ready = [];
-  lacking = [];
   lacked = [];
   faults = faults;
   losses = losses;
@@ -129,8 +128,7 @@ lacks_one t faults = record {
   table = t;
   calls = 1;
   ready = [];
-  lacking = 1 ∷ [];
-  lacked = [];
+  lacked = record { by = 1; numbers = 1 ∷ [] } ∷ [];
   faults = faults;
   losses = 0;
   returns = [];
@@ -172,11 +170,11 @@ pub record WrongTables : Type 0 where
   pub orphan : Agrees orphaned (two_ready 3) × Refuted (IsFormed orphaned)
   -- The note says that the file is in its place.
   pub files : Refuted (FilesAre InPlace (Some pid_file) 100 [])
-  pub stop_note : Refuted (StopNote NoFile (Some pid_file) (ran_from two_workers (m1 Leave answer.Fine) two_workers))
+  pub stop_note : Refuted (StopNote NoFile (Some pid_file) two_workers (ran_from two_workers (m1 Leave answer.Fine) two_workers))
   -- The removal failed, and yet the file is gone.
-  pub file_gone : Refuted (StopNote Left (Some pid_file) (ran_from two_workers (m1 (RemovePid pid_file) answer.IoFault) two_without_file))
+  pub file_gone : Refuted (StopNote Left (Some pid_file) two_workers (ran_from two_workers (m1 (RemovePid pid_file) answer.IoFault) two_without_file))
   -- After a stop the master is still there.
-  pub stopped : Refuted (IsSucceeded (two_ready 3) (Stop true) (ran_from two_workers (m1 (Kill first 1) answer.Fine) none_left))
+  pub stopped : Refuted (IsSucceeded (two_ready 3) (Stop true) two_workers (ran_from two_workers (m1 (Kill first 1) answer.Fine) none_left))
   -- A fault without a cause, and a cause without a fault or a loss.
   pub blamed : Refuted (IsBlamed (progress two_workers 1 0 None))
   pub blamed_falsely : Refuted (IsBlamed (progress two_workers 0 0 (Some 1)))

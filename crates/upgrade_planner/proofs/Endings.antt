@@ -12,7 +12,8 @@ use Rattle.vocabulary.specs.declared.plans.PidNote.{PidNote}
 use Rattle.vocabulary.specs.declared.plans.PidNote.TheVariants.{InPlace, AtOldbin, OldbinLeft, Left, NoFile}
 use Rattle.vocabulary.specs.declared.plans.End.{End}
 use Rattle.definitions.specs.Tree.{Tree, Branches, Ends, Does, Nothing, Branch, Split}
-use Rattle.definitions.specs.Plans.{asks, awaits_any, awaits_gone, back_alone, back_from, back_late, back_serving, does, forks_any, hand_over, move_aside, move_back, old_part, quits, relieve, remove_oldbin, retire, settle, spawn_edges, starts_any, tries, tries_all}
+use Rattle.definitions.specs.Plans.{asks, awaits_any, awaits_gone, back_alone, back_from, back_late, back_serving, does, forks_any, hand_over, move_aside, move_back, old_part, relieve, remove_oldbin, retire, settle, starts_any, tries, tries_all}
+use Rattle.call_laws.specs.Pieces.{quits, spawn_edges}
 use Rattle.plan_steps.specs.Stretches.{ends_at, all_end_at, has_some, is_last, is_onward, ends_old}
 use Rattle.plan_steps.proofs.Endings.{last_onward}
 

@@ -9,7 +9,8 @@ use Rattle.vocabulary.specs.declared.plans.PidNote.{PidNote}
 use Rattle.vocabulary.specs.declared.plans.PidNote.TheVariants.{InPlace, AtOldbin, OldbinLeft, Left, NoFile}
 use Rattle.definitions.specs.Record.{oldbin}
 use Rattle.definitions.specs.Tree.{Tree, Ends, Split, JoinReady, JoinBack}
-use Rattle.definitions.specs.Plans.{asks, back_serving, retire, does, settle, move_back, move_aside, remove_oldbin, back_alone, back_from, back_late, hand_over, old_part, pid_calls, relieve, spawn_edges}
+use Rattle.definitions.specs.Plans.{asks, back_serving, retire, does, settle, move_back, move_aside, remove_oldbin, back_alone, back_from, back_late, hand_over, old_part, pid_calls, relieve}
+use Rattle.call_laws.specs.Pieces.{spawn_edges}
 use Rattle.plan_pieces.proofs.Fitness.{settle_fit, quits_fit, awaits_gone_fit, remove_fit, starts_any_fit}
 use Rattle.plan_pieces.proofs.TriedFitness.{IsFit, move_fit, tries_fit, tries_all_fit}
 use Rattle.upgrade_planner.specs.Trees.{master_of, heir_of, way_back, coming_calls, coming_part, taking_over}

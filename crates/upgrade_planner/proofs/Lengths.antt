@@ -10,7 +10,8 @@ use Rattle.vocabulary.specs.declared.plans.PidNote.TheVariants.{InPlace, AtOldbi
 use Rattle.vocabulary.specs.declared.plans.End.{End}
 use Rattle.definitions.specs.Tree.{Tree, Branches, Ends, Does, Nothing, Branch, Done, RolledBack, ShortOld, ShortTarget, Split, JoinReady, JoinBack, Join}
 use Rattle.call_laws.specs.Lengths.{height}
-use Rattle.definitions.specs.Plans.{graft, graft_all, back_alone, back_from, does, move_aside, settle, spawn_edges}
+use Rattle.definitions.specs.Plans.{graft, graft_all, back_alone, back_from, does, move_aside, settle}
+use Rattle.call_laws.specs.Pieces.{spawn_edges}
 use Rattle.plan_steps.specs.Stretches.{ends_at, all_end_at, has_some, is_last, split_end, to_split, farthest, one_more, aside, asides, beside_height}
 use Rattle.upgrade_planner.proofs.Endings.{IsLast, alone_last, undone_last}
 

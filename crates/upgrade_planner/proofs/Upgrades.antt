@@ -1,20 +1,22 @@
 -- An upgrade is the one of its definition.
-use Rattle.std.proofs.Common.{◌≡◌, ℕ, ◌+◌, ◌≤◌, max, ◌∷◌, ◌++◌, map, append_assoc, Bool, true, false, List, Some, None, nat_lt, refl, sym, ◌∙◌, ap, arith}
-use Rattle.std.specs.Prelude.{if◌then◌else◌}
+use Rattle.std.proofs.Common.{◌≡◌, ℕ, ◌+◌, ◌≤◌, max, ◌∷◌, ◌++◌, map, reverse, Option, append_assoc, Bool, true, false, List, Some, None, nat_lt, refl, sym, ◌∙◌, ap, arith}
+use Rattle.std.specs.Prelude.{◌&&◌}
+use Rattle.std.specs.Bool.{then_some}
 use Rattle.listener_set.specs.Numbers.{numbers_below}
 use Rattle.listener_set.specs.declared.generation.Generation.{Generation}
-use Rattle.definitions.specs.Table.{Address}
+use Rattle.definitions.specs.Table.{Address, FilePath}
 use Rattle.vocabulary.specs.Settings.{Settings}
 use Rattle.vocabulary.specs.declared.targets.Target.TheVariants as target
 use Rattle.vocabulary.specs.declared.plans.End.{End}
 use Rattle.definitions.specs.Crew.{Posts, Crew, fork_of}
 use Rattle.definitions.specs.Record.{Record, addresses_of, crew_of}
 use Rattle.definitions.specs.Target.{only_in, upgrade_generation, numbers_wanted, addresses_wanted, handover_for}
-use Rattle.definitions.specs.After.{next_image, numbered, posts_wanted, crew_wanted}
+use Rattle.definitions.specs.After.{next_image, has_next, posts_wanted, crew_wanted}
 use Rattle.definitions.specs.Calls.{Call, OpenAt, CloseAt, AwaitReady, Adopt, Census, WritePid}
 use Rattle.definitions.specs.Tree.{Tree, Ends, Done, RolledBack, ShortOld, ShortTarget, Split, JoinReady, JoinBack, Join}
 use Rattle.call_laws.specs.Lengths.{height}
-use Rattle.definitions.specs.Plans.{Turn, graft}
+use Rattle.definitions.specs.Plans.{Turn, graft, asks, awaits_gone, back_from, back_serving, retire}
+use Rattle.call_laws.specs.Pieces.{quits}
 use Rattle.definitions.specs.Plans.{move_aside, new_calls, new_part, pid_calls, plan_tree, relieve, taken_over, tries, tries_all, upgrade_tree}
 use Rattle.call_laws.specs.Lengths.{plan_length, upgrade_length}
 use Rattle.plan_steps.specs.Stretches.{is_last, aside, longest_of}
@@ -130,9 +132,14 @@ same_addresses false r s = refl
 
 -- where a number follows the last, it is the upgrade's
 pub next_is : (g new : Generation) → next_image g ≡ Some new → new ≡ upgrade_generation g
-next_is g new h = one (nat_lt g.image 4294967295) (nat_lt g.config 4294967295) h
+next_is g new h = one (has_next g.image && has_next g.config) h
   where
-    one : (b d : Bool) → numbered (if b then Some (g.image + 1) else None) (if d then Some (g.config + 1) else None) ≡ Some new → new ≡ upgrade_generation g
-    one true true e = let is : upgrade_generation g ≡ new = cc in sym is
-    one true false e = cc
-    one false d e = cc
+    one : (b : Bool) → then_some b (upgrade_generation g) ≡ Some new → new ≡ upgrade_generation g
+    one true e = let is : upgrade_generation g ≡ new = cc in sym is
+    one false e = cc
+
+-- the relief of the old master, from the trees of its parts
+pub relief_is : (attended : Bool) (image by : ℕ) (old new : Crew) (g : Generation) (ready leaving : List ℕ) (rounds : ℕ) (path : Option FilePath) (n : ℕ) (quitting waiting last stopped : Tree) → by ≡ image → g ≡ old.generation → leaving ≡ ready
+    → quitting ≡ quits by g (reverse leaving) waiting → waiting ≡ awaits_gone by g (reverse leaving) last → last ≡ asks attended image 2 (retire image old new ready rounds path n) (back_serving image new.generation.image old ready rounds path)
+    → stopped ≡ back_from image new.generation.image old ready rounds path → asks attended image 1 quitting stopped ≡ relieve attended image old new ready rounds path n
+relief_is attended image by old new g ready leaving rounds path n quitting waiting last stopped b h v q w l s = rw (q, w, l, s, b, h, v) refl

@@ -8,7 +8,8 @@ use Rattle.definitions.specs.Tree.{Tree, Ends, Split, JoinReady, JoinBack}
 use Rattle.vocabulary.specs.Settings.{Settings}
 use Rattle.vocabulary.specs.declared.targets.Target.{Target}
 use Rattle.vocabulary.specs.declared.targets.Target.TheVariants as target
-use Rattle.definitions.specs.Plans.{does, settle, tries, tries_all, pid_calls, move_aside, move_back, remove_oldbin, back_alone, back_from, old_part, relieve, spawn_edges}
+use Rattle.definitions.specs.Plans.{does, settle, tries, tries_all, pid_calls, move_aside, move_back, remove_oldbin, back_alone, back_from, old_part, relieve}
+use Rattle.call_laws.specs.Pieces.{spawn_edges}
 use Rattle.plan_steps.specs.declared.parts.Parts.{Parts}
 use Rattle.rollback_plan.specs.declared.draft.Draft.{Draft}
 use Rattle.rollback_plan.specs.Drafts.{IsMade, splits_in}

@@ -3,7 +3,8 @@ ghost use Rattle.std.specs.Prelude.{◌≡◌, ◌≤◌, ◌<◌, ◌+◌, ◌*
 ghost use Rattle.vocabulary.specs.Settings.{HasSuffixRoom};
 ghost use Rattle.vocabulary.specs.declared.calls.Call.TheVariants as call;
 ghost use Rattle.definitions.specs.Tree.{Ends, Split};
-ghost use Rattle.definitions.specs.Plans.{back_late, does, spawn_edges};
+ghost use Rattle.definitions.specs.Plans.{back_late, does};
+ghost use Rattle.call_laws.specs.Pieces.{spawn_edges};
 ghost use Rattle.rollback_plan.specs.declared.draft.DraftRefusal.TheVariants.{TooLarge};
 ghost use Rattle.rollback_plan.specs.declared.draft.TheConstants.{MOST_STEPS};
 ghost use Rattle.rollback_plan.specs.Drafts.{trees_of, tree_at, splits_in, IsMade, Extends, GrowsWithin};

@@ -1,5 +1,6 @@
 -- What the definitions name of the crates below and of std, operators aside, passed on from one place. Declares nothing.
 pub use Rattle.std.specs.Bool.{then_some}
+pub use Rattle.std.specs.Option.{option_or}
 pub use Rattle.std.specs.List.{list_any, filter_map, sum_by}
 pub use Rattle.std.specs.List.{AllByRecursion}
 pub use Rattle.std.specs.Prelude.{ℕ, zero, suc, min, max, Bool, true, false, not, List, [], map, reverse, length}

@@ -1,9 +1,9 @@
-use Rattle.std.proofs.Common.{◌≡◌, ◌-◌, ◌+◌, ℕ, get_or, ◌∙◌, ap, subst, arith}
+use Rattle.std.proofs.Common.{[], ◌≡◌, ◌-◌, ◌+◌, ℕ, get_or, ◌∙◌, ap, subst, arith}
 use Rattle.std.proofs.lemmas.Option.{slice_get-get_or}
 use Rattle.plan_steps.specs.declared.step.Place.{Place}
 use Rattle.rollback_plan.specs.Drafts.{IsMade, tree_at}
 use Rattle.rollback_plan.proofs.DraftTrees.{keeps_on, made_kept}
-use Rattle.plan_pieces.specs.Pieces.{attempt}
+use Rattle.definitions.specs.Plans.{either}
 use Rattle.plan_pieces.proofs.attempting.add_attempts.Goals as goal
 
 pub loop-i-preserved : goal.loop-i-preserved
@@ -18,7 +18,7 @@ loop-i-preserved c =
           let next = (before.made back tree made trees).is ∙ ap tree on in
           let way : Place = get_or ways i (record { 0 = 0 }) in
           let there = made_kept c.args.draft.now c.loop-i.draft way (back i) before.keeps (made.made i way (slice_get-get_or ways i (record { 0 = 0 }) (omega (arith, c.requires.each)))) in
-          let is = ap (λ t. attempt c.args.by call t (tree_at c.loop-i.draft way)) next ∙ (ap (attempt c.args.by call (tree (i + 1))) there.is ∙ trees.each i call c.get.ensures) in
+          let is = ap (λ t. either c.args.by call [] t (tree_at c.loop-i.draft way)) next ∙ (ap (either c.args.by call [] (tree (i + 1))) there.is ∙ trees.each i call c.get.ensures) in
           subst (IsMade c.add_attempt.new.draft c.in_ok-next.next) is c.in_ok-next.ensures.made;
       below = c.in_ok-next.ensures.made.below;
       count = omega (arith, before.count, c.in_ok-next.ensures.grows.count);

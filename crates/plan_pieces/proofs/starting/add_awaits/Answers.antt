@@ -1,7 +1,8 @@
 use Rattle.std.proofs.Common.{◌≡◌, ◌-◌, ◌+◌, ℕ, get_or, drop, sym, ◌∙◌, ap, subst, arith}
 use Rattle.std.proofs.lemmas.List.{drop_more}
 use Rattle.vocabulary.specs.declared.calls.Call.TheVariants.{AwaitReady, Kill}
-use Rattle.definitions.specs.Plans.{does, then_edge, await_edges, awaits}
+use Rattle.definitions.specs.Plans.{does, then_edge, awaits}
+use Rattle.call_laws.specs.Pieces.{await_edges}
 use Rattle.rollback_plan.specs.Drafts.{IsMade, tree_at}
 use Rattle.rollback_plan.proofs.DraftTrees.{keeps_on, at_kept}
 use Rattle.plan_pieces.proofs.starting.add_awaits.Goals as goal

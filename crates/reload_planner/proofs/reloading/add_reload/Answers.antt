@@ -5,7 +5,8 @@ use Rattle.listener_set.specs.declared.generation.Generation.{Generation}
 use Rattle.definitions.specs.Table.{Address}
 use Rattle.definitions.specs.Crew.{Crew}
 use Rattle.vocabulary.specs.declared.plans.Side.TheVariants.{Old}
-use Rattle.definitions.specs.Plans.{quits, closes, settle}
+use Rattle.definitions.specs.Plans.{settle}
+use Rattle.call_laws.specs.Pieces.{quits, closes}
 use Rattle.rollback_plan.specs.declared.draft.Draft.{Draft}
 use Rattle.plan_steps.specs.declared.step.Place.{Place}
 use Rattle.rollback_plan.specs.Drafts.{are_places}

@@ -3,7 +3,8 @@ use Rattle.std.proofs.lemmas.List.{take_all}
 use Rattle.std.proofs.lemmas.Option.{slice_get-get_or}
 use Rattle.std.proofs.lemmas.Result.{IfOk-weaker}
 use Rattle.definitions.specs.Tree.{Tree}
-use Rattle.definitions.specs.Plans.{starts, census, census_edges}
+use Rattle.definitions.specs.Plans.{starts}
+use Rattle.call_laws.specs.Pieces.{census, census_edges}
 use Rattle.plan_steps.specs.declared.step.Place.{Place}
 use Rattle.rollback_plan.specs.Drafts.{IsMade, tree_at}
 use Rattle.rollback_plan.proofs.BackTrees.{all_kept}

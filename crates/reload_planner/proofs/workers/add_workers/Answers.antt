@@ -4,7 +4,8 @@ use Rattle.listener_set.specs.declared.generation.Generation.{Generation}
 use Rattle.vocabulary.specs.declared.plans.Side.TheVariants.{Old}
 use Rattle.definitions.specs.Crew.{Crew}
 use Rattle.definitions.specs.Tree.{Tree}
-use Rattle.definitions.specs.Plans.{quits, settle, starts}
+use Rattle.definitions.specs.Plans.{settle, starts}
+use Rattle.call_laws.specs.Pieces.{quits}
 use Rattle.plan_steps.specs.declared.step.Place.{Place}
 use Rattle.rollback_plan.specs.Drafts.{tree_at, IsMade, are_places}
 use Rattle.rollback_plan.specs.Back.{AreMade}

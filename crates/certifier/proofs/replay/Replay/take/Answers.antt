@@ -7,7 +7,8 @@ use Rattle.definitions.specs.Calls.{Stepped, step_with}
 use Rattle.definitions.specs.Exits.{after_exits}
 use Rattle.call_replies.specs.Replies.{is_listed}
 use Rattle.definitions.specs.Run.{Moment}
-use Rattle.definitions.specs.Claims.{names_any, executing_at}
+use Rattle.definitions.specs.Claims.{names_any}
+use Rattle.call_laws.specs.Pieces.{executing_at}
 use Rattle.definitions.specs.Plans.{Turn}
 use Rattle.handover_text.specs.Reading.{handed_by}
 use Rattle.rollback_plan.specs.Bounds.{lacked_in}

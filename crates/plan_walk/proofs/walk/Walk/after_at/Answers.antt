@@ -4,7 +4,7 @@ use Rattle.call_laws.specs.Lengths.{height}
 use Rattle.definitions.specs.Run.{Entry, Lack, lacked_after}
 use Rattle.plan_walk.specs.Path.{Asks}
 use Rattle.rollback_plan.specs.declared.cursor.Cursor.{Cursor}
-use Rattle.rollback_plan.specs.Bounds.{lacking_in, lacked_in}
+use Rattle.rollback_plan.specs.Bounds.{lacked_in}
 use Rattle.rollback_plan.specs.Cursors.{rest_under, left_after, IsTurn}
 use Rattle.plan_walk.specs.Fit.{height_next}
 use Rattle.plan_walk.specs.Rests.{rest_in, left_in, IsTurnIn}
@@ -61,8 +61,8 @@ returns-in_default-follow-clause-trail c = λ turns turn.
     let began = c.in-Some-step.ensures.some.first given.turns (subst (λ (o : Option Cursor). IsTurnIn o c.args.turn given.turns) c.in-Some.is given.first) in
     let by : e.by ≡ s.by = begun_by (rest_under k given.turns) s (lacked_in w.bound) e began asked in
     let all : lacked_in c.take.new.self ≡ lacked_after e.by set e.answer (lacked_in w.bound) = c.take.ensures.lacked ∙ ap (λ (image : ℕ). lacked_after image set e.answer (lacked_in w.bound)) (sym by) in
-    advanced_lost (rest_in w.rest turns) t set w.bound.ready (lacking_in w.bound) c.take.new.self.ready (lacking_in c.take.new.self) (lacked_in w.bound) (lacked_in c.take.new.self) w.note w.cause c.first_cause-cause.result w.made e
-    is (begins_set t s begun) c.take.ensures.ready c.take.ensures.lacking all causes (c.in_default-follow.ensures turns first)
+    advanced_lost (rest_in w.rest turns) t set w.bound.ready c.take.new.self.ready (lacked_in w.bound) (lacked_in c.take.new.self) w.note w.cause c.first_cause-cause.result w.made e
+    is (begins_set t s begun) c.take.ensures.ready all causes (c.in_default-follow.ensures turns first)
 
 pub returns-in_default-follow-clause-lower : goal.returns-in_default-follow-clause-lower
 returns-in_default-follow-clause-lower c = λ turns turn.
@@ -112,9 +112,9 @@ returns-clause-trail c = λ turns turn.
     let by : e.by ≡ s.by = begun_by (rest_under k given.turns) s (lacked_in w.bound) e began asked in
     let all : lacked_in c.take.new.self ≡ lacked_after e.by set e.answer (lacked_in w.bound) = c.take.ensures.lacked ∙ ap (λ (image : ℕ). lacked_after image set e.answer (lacked_in w.bound)) (sym by) in
     rw left
-    (advanced_on (rest_in w.rest turns) t set w.bound.ready (lacking_in w.bound) c.take.new.self.ready (lacking_in c.take.new.self) (lacked_in w.bound) (lacked_in c.take.new.self) w.note c.unwrap_or.result w.cause c.first_cause-cause.result w.made e
+    (advanced_on (rest_in w.rest turns) t set w.bound.ready c.take.new.self.ready (lacked_in w.bound) (lacked_in c.take.new.self) w.note c.unwrap_or.result w.cause c.first_cause-cause.result w.made e
     (way.note, rest_under way.rest (left_after k turns))
-    is (begins_set t s begun) c.take.ensures.ready c.take.ensures.lacking all causes (c.in-Some-follow.ensures turns first) c.unwrap_or.ensures)
+    is (begins_set t s begun) c.take.ensures.ready all causes (c.in-Some-follow.ensures turns first) c.unwrap_or.ensures)
 
 pub returns-clause-lower : goal.returns-clause-lower
 returns-clause-lower c = λ turns turn.
