@@ -73,14 +73,14 @@ def run_side_by_side(room: pathlib.Path) -> Iterator[str]:
 
 
 def begin_with_what_waits(room: pathlib.Path) -> Iterator[str]:
-    """Once the program is proved, what waits begins, and nothing else before all is proved: on one processor nothing."""
+    """Once the program is proved what waits begins, and the rest once all is; on one processor all of it then."""
     for processors in PROCESSORS:
         scripts, wanted = laid_out(room, processors), set(WAITING if processors > 1 else ())
         with scripts:
             scripts.begin()
             scripts.program_is_proved()
             if not comes(lambda: wanted <= set(scripts.counted)):
-                yield f"on {processors} processors {sorted(scripts.counted)} run beside the proofs, and not {sorted(wanted)}"
+                yield f"on {processors} processors {sorted(scripts.counted)} run beside proofs, not {sorted(wanted)}"
             time.sleep(0.2)
             if not set(scripts.counted) <= wanted | set(WITHOUT_PROGRAM):
                 yield f"on {processors} processors {sorted(scripts.counted)} run before all is proved"
