@@ -1,10 +1,12 @@
-//! Tests of masters on the modelled kernel: records, upgrades, the words that they carry out, and certificates.
+//! Tests of the modelled kernel, and of masters on it: records, upgrades, words and certificates.
 #![tactic(auto)]
 
 #[cfg(test)]
 mod agreement;
 #[cfg(test)]
 mod certificates;
+#[cfg(test)]
+mod kernels;
 #[cfg(test)]
 mod setup;
 #[cfg(test)]

@@ -4,11 +4,11 @@ ghost use Rattle.service_state.specs.Targets.{IsTarget};
 use crate::records::{in_two_groups, settings_of, with_workers};
 use listener_set::{FilePath, Generation, Numbers};
 use reload_planner::{PlanRefusal, Scene, plan, plan_reopen, plan_stop, plan_workers};
-use rollback_plan::{MOST_STEPS, Next, Place, Plan, PlanEdge, Step};
+use rollback_plan::{MOST_STEPS, Plan, PlanEdge, Step};
 use service_state::Record;
 use std::alloc::Global;
 use std::test::Fail;
-use vocabulary::{Actor, Call, Order, Outcome, PidNote, Reply, Report, Settings, Sides, Target};
+use vocabulary::{Actor, Call, Order, Outcome, PidNote, Report, Settings, Sides, Target};
 use worker_groups::{Crew, Groups, Posts};
 
 const GENERATION: Generation = Generation {
@@ -204,37 +204,6 @@ fn a_reopening_has_a_step_for_each_ready_worker_and_a_settle(rt: HostRuntime) ->
     Ok(())
 }
 
-/// Whether a step removes a file, and goes on to the next step at this reply. Gives what is noted then.
-fn noted(plan: &Plan, number: u32, file: FilePath, reply: Reply) -> Result<Option<PidNote>, Fail> {
-    let step = step_of(plan, number)?;
-    if step.order() != Order::Make(Call::RemovePid(file)) {
-        return Err(Fail::from("another order"));
-    }
-    let edge = step.edge(reply).ok_or("an edge is missing")?;
-    if edge.next != Next::To(Place(number.saturating_add(1))) {
-        return Err(Fail::from("another step comes next"));
-    }
-    Ok(edge.note)
-}
-
-/// What the removals of a stop make of the note, where both files are there.
-#[test]
-fn a_stop_notes_its_removals(rt: HostRuntime) -> Result<(), Fail> {
-    let path = pid_path()?;
-    let oldbin = FilePath::read(b"/run/a.pid.oldbin")?;
-    let stop = stop_of(rt.alloc(), 0, PidNote::OldbinLeft, false)?;
-    assert_eq!(rt; stop.len(), 3);
-    for (number, file, reply, note) in [
-        (1, path, Reply::Fine, Some(PidNote::NoFile)),
-        (1, path, Reply::IoFault, Some(PidNote::Left)),
-        (2, oldbin, Reply::Fine, None),
-        (2, oldbin, Reply::IoFault, Some(PidNote::Left)),
-    ] {
-        assert_eq!(rt; noted(&stop, number, file, reply)?, note, "at {number}");
-    }
-    Ok(())
-}
-
 /// A master with one worker of this generation.
 fn running_as(image: u32, config: u32) -> Result<Record, Fail> {
     let mut state = running(1, PidNote::InPlace)?;
@@ -253,15 +222,6 @@ fn upgrade_refusal(alloc: Global, state: &Record, settings: Settings) -> Option<
 }
 
 #[test]
-fn an_upgrade_is_planned_elsewhere(rt: HostRuntime) -> Result<(), Fail> {
-    let settings = settings(&["0.0.0.0:8080"], 1)?;
-    let state = running(1, PidNote::InPlace)?;
-    let refused = upgrade_refusal(rt.alloc(), &state, settings);
-    assert_eq!(rt; refused, Some(PlanRefusal::Unplanned));
-    Ok(())
-}
-
-#[test]
 fn a_configuration_beyond_the_last_is_refused(rt: HostRuntime) -> Result<(), Fail> {
     let settings = settings(&["0.0.0.0:8080"], 1)?;
     let next = running_as(1, u32::MAX - 1)?;
@@ -270,16 +230,6 @@ fn a_configuration_beyond_the_last_is_refused(rt: HostRuntime) -> Result<(), Fai
     let last = running_as(1, u32::MAX)?;
     assert_eq!(rt; reload_refusal(rt.alloc(), &last, settings), refused);
     assert_eq!(rt; upgrade_refusal(rt.alloc(), &last, settings), refused);
-    Ok(())
-}
-
-#[test]
-fn an_image_beyond_the_last_is_refused(rt: HostRuntime) -> Result<(), Fail> {
-    let settings = settings(&["0.0.0.0:8080"], 1)?;
-    let last = running_as(u32::MAX, 1)?;
-    assert_eq!(rt; reload_refusal(rt.alloc(), &last, settings), None);
-    let refused = upgrade_refusal(rt.alloc(), &last, settings);
-    assert_eq!(rt; refused, Some(PlanRefusal::NoGeneration));
     Ok(())
 }
 
@@ -312,15 +262,6 @@ fn an_upgrade_hands_each_group_over(rt: HostRuntime) -> Result<(), Fail> {
     let grouped = in_two_groups(&settings(&["0.0.0.0:8080", "0.0.0.0:9090"], 2)?)?;
     let plan = upgrade_of(rt.alloc(), &running(2, PidNote::InPlace)?, &grouped)?;
     assert!(rt; plan.text() == HANDED_GROUPS);
-    Ok(())
-}
-
-#[test]
-fn an_upgrade_of_the_last_image_is_refused(rt: HostRuntime) -> Result<(), Fail> {
-    let settings = settings(&["0.0.0.0:8080"], 2)?;
-    let last = running_as(u32::MAX, 1)?;
-    let refused = upgrade_planner::plan(rt.alloc(), &last, &settings).err();
-    assert_eq!(rt; refused, Some(PlanRefusal::NoGeneration));
     Ok(())
 }
 

@@ -143,15 +143,6 @@ fn a_reload_opens_first_and_closes_at_its_end(rt: HostRuntime) -> Result<(), Fai
     Ok(())
 }
 
-#[test]
-fn a_master_listens_at_its_addresses_in_their_order(rt: HostRuntime) -> Result<(), Fail> {
-    let start = running(&["0.0.0.0:8080", "0.0.0.0:7070"])?;
-    let expected = [(3, "0.0.0.0:8080"), (4, "0.0.0.0:7070")];
-    assert!(rt; is_listening(&start.listeners, &expected));
-    assert_eq!(rt; start.listeners.addresses().len(), 2);
-    Ok(())
-}
-
 /// What a master knows as process 102 after an upgrade to other addresses.
 fn upgraded() -> Result<Record, Fail> {
     let start = running(&["0.0.0.0:8080", "0.0.0.0:7070"])?;
@@ -167,22 +158,6 @@ fn an_upgrade_closes_first_and_then_opens(rt: HostRuntime) -> Result<(), Fail> {
     Ok(())
 }
 
-/// Whether a master is process 102, with the settings' rounds and timeout, and its pid file beside.
-fn is_of_process_102(record: &Record) -> bool {
-    record.retries == 5
-        && record.timeout == 7
-        && record.pid == 102
-        && record.note == PidNote::AtOldbin
-}
-
-#[test]
-fn an_upgrade_takes_the_settings_over(rt: HostRuntime) -> Result<(), Fail> {
-    let record = upgraded()?;
-    assert_eq!(rt; generation_of(&record), (2, 2));
-    assert!(rt; is_of_process_102(&record));
-    Ok(())
-}
-
 /// The address and the count of these numbers that so many workers want.
 fn wanted_of(
     alloc: Global,
@@ -194,16 +169,6 @@ fn wanted_of(
     Ok((service.address(address), service.entry(address, count)))
 }
 
-/// The address of that number at which so many workers are wanted.
-fn address_wanted(
-    alloc: Global,
-    state: &Record,
-    workers: u32,
-    number: usize,
-) -> Result<Option<Address>, Fail> {
-    Ok(wanted_of(alloc, state, workers, (number, 0))?.0)
-}
-
 /// The count of that number at an address where so many workers are wanted.
 fn entry_wanted(
     alloc: Global,
@@ -212,43 +177,6 @@ fn entry_wanted(
     numbers: (usize, usize),
 ) -> Result<Option<(Generation, u32)>, Fail> {
     Ok(wanted_of(alloc, state, workers, numbers)?.1)
-}
-
-#[test]
-fn a_target_wants_each_address(rt: HostRuntime) -> Result<(), Fail> {
-    let state = running(&["0.0.0.0:8080", "0.0.0.0:7070"])?;
-    let (first, second) = (
-        Address::read(b"0.0.0.0:7070")?,
-        Address::read(b"0.0.0.0:8080")?,
-    );
-    for (workers, number, address) in [
-        (3, 0, Some(first)),
-        (3, 1, Some(second)),
-        (3, 2, None),
-        (0, 1, Some(second)),
-    ] {
-        let wanted = address_wanted(rt.alloc(), &state, workers, number)?;
-        assert_eq!(rt; wanted, address, "{workers} at {number}");
-    }
-    Ok(())
-}
-
-#[test]
-fn a_target_wants_its_count_at_each_address(rt: HostRuntime) -> Result<(), Fail> {
-    let state = running(&["0.0.0.0:8080", "0.0.0.0:7070"])?;
-    let three = Some((state.generation, 3));
-    assert_eq!(rt; entry_wanted(rt.alloc(), &state, 3, (1, 0))?, three);
-    assert_eq!(rt; entry_wanted(rt.alloc(), &state, 3, (1, 1))?, None);
-    assert_eq!(rt; entry_wanted(rt.alloc(), &state, 0, (1, 0))?, None);
-    Ok(())
-}
-
-#[test]
-fn a_stop_wants_no_address(rt: HostRuntime) -> Result<(), Fail> {
-    let state = running(&["0.0.0.0:8080", "0.0.0.0:7070"])?;
-    let stopped = want(rt.alloc(), &state, &Target::Stop { quick: true })?;
-    assert_eq!(rt; stopped.address(0), None);
-    Ok(())
 }
 
 /// The settings of two addresses, each with a group of its own.
@@ -267,18 +195,6 @@ fn a_target_wants_the_workers_of_its_group_at_each_address(rt: HostRuntime) -> R
     let (two, one) = (Some((state.generation, 2)), Some((state.generation, 1)));
     assert_eq!(rt; entry_wanted(rt.alloc(), &state, 3, (0, 0))?, two);
     assert_eq!(rt; entry_wanted(rt.alloc(), &state, 3, (1, 0))?, one);
-    Ok(())
-}
-
-#[test]
-fn a_reload_to_two_groups_has_one_before(rt: HostRuntime) -> Result<(), Fail> {
-    let settings = grouped_settings()?;
-    let sole = running(&["0.0.0.0:8080", "0.0.0.0:7070"])?;
-    let target = Target::Reload(settings);
-    let sides = sole.sides(&target);
-    assert_eq!(rt; sides.old.as_slice().len(), 1);
-    assert!(rt; sides.target == settings.groups);
-    assert!(rt; sole.posts_wanted(&target) == running_with(&settings).posts);
     Ok(())
 }
 
@@ -303,13 +219,5 @@ fn other_counts_are_wanted_after_their_word_alone(rt: HostRuntime) -> Result<(),
         let after = wanted_after(&record, target, *outcome, *ready);
         assert_eq!(rt; after, *wanted, "{ready} are ready");
     }
-    Ok(())
-}
-
-#[test]
-fn a_master_has_a_process_number(rt: HostRuntime) -> Result<(), Fail> {
-    let record = running(&["0.0.0.0:8080"])?;
-    let done = report(Outcome::Done, 2);
-    assert!(rt; after(&record, &Target::Reopen, &done, 0).is_none());
     Ok(())
 }

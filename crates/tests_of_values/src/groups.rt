@@ -15,14 +15,6 @@ fn three_groups() -> Result<Groups, Fail> {
 }
 
 #[test]
-fn groups_have_the_addresses_and_workers_of_all(rt: HostRuntime) -> Result<(), Fail> {
-    let groups = three_groups()?;
-    assert!(rt; groups.addresses() == 4);
-    assert!(rt; groups.workers() == 3);
-    Ok(())
-}
-
-#[test]
 fn a_number_falls_to_the_group_that_takes_it(rt: HostRuntime) -> Result<(), Fail> {
     let groups = three_groups()?;
     for (number, of_worker, at_address) in [(0, 0, 0), (1, 0, 1), (2, 2, 1), (3, 2, 2)] {
@@ -52,24 +44,6 @@ fn groups_have_at_most_64_addresses_and_1024_workers(rt: HostRuntime) {
     assert!(rt; groups.workers() == 1024);
 }
 
-/// As many groups as there can be.
-fn sixteen_groups() -> Result<Groups, Fail> {
-    let mut groups = Groups::one(1, 1);
-    for _more in 1..16 {
-        groups = with_group(groups, 1, 1)?;
-    }
-    Ok(groups)
-}
-
-#[test]
-fn there_are_at_most_16_groups(rt: HostRuntime) -> Result<(), Fail> {
-    let mut groups = sixteen_groups()?;
-    assert!(rt; refusal(&mut groups, 0, 2000) == Some(GroupRefusal::TooMany));
-    assert!(rt; groups.as_slice().len() == 16);
-    assert!(rt; groups.group_of(15) == 15);
-    Ok(())
-}
-
 /// Two groups: workers 0 and 1 at one address, and worker 2 at two others.
 fn two_groups() -> Result<Groups, Fail> {
     with_group(Groups::one(1, 2), 2, 1)
@@ -92,22 +66,6 @@ fn workers_are_given_what_their_group_has(rt: HostRuntime) -> Result<(), Fail> {
     assert!(rt; posts.given(2) == Some(descriptors(&[1, 2])));
     assert!(rt; posts.groups().as_slice().len() == 2);
     Ok(())
-}
-
-#[test]
-fn a_group_is_given_other_descriptors(rt: HostRuntime) -> Result<(), Fail> {
-    let mut posts = Posts::first(&two_groups()?);
-    assert!(rt; posts.groups().as_slice().len() == 2);
-    posts.set_descriptors(1, &descriptors(&[63]));
-    assert!(rt; posts.given_in(1) == Some(descriptors(&[63])));
-    assert!(rt; posts.descriptors_of(0) == descriptors(&[0]));
-    assert!(rt; posts.groups().as_slice().len() == 2);
-    Ok(())
-}
-
-#[test]
-fn workers_of_one_group_are_given_no_set(rt: HostRuntime) {
-    assert!(rt; Posts::new(&Groups::one(1, 2)).given(1).is_none());
 }
 
 #[test]

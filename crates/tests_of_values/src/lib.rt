@@ -1,13 +1,17 @@
-//! Tests of values: numbers, listeners, groups, services, and plans that are drawn up by hand.
+//! Tests of values and their texts: numbers, listeners, groups, calls, lines, patterns and handovers.
 #![tactic(auto)]
 
 #[cfg(test)]
+mod call_texts;
+#[cfg(test)]
 mod groups;
+#[cfg(test)]
+mod handovers;
+#[cfg(test)]
+mod lines;
 #[cfg(test)]
 mod listeners;
 #[cfg(test)]
 mod numbers;
 #[cfg(test)]
-mod plans;
-#[cfg(test)]
-mod services;
+mod patterns;

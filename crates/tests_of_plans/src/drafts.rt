@@ -1,7 +1,7 @@
 //! Plans that are drawn up by hand, as they are numbered, written and drawn.
 use listener_set::{Generation, Numbers};
 use plan_text::{write_graph, write_plan};
-use rollback_plan::{Bound, Draft, DraftRefusal, MOST_STEPS, Next, Plan, PlanEdge};
+use rollback_plan::{Bound, Draft, Next, Plan, PlanEdge};
 use std::alloc::{AllocError, Global};
 use std::test::Fail;
 use vocabulary::{Actor, Answer, Call, End, Order, PidNote, Reply, Side, Sides};
@@ -293,33 +293,5 @@ fn plans_are_drawn_with_a_box_for_each_step(rt: HostRuntime) -> Result<(), Fail>
     assert!(rt; is_drawn(rt.alloc(), &more, MORE_DRAWN)?);
     let settle = a_settle(rt.alloc())?;
     assert!(rt; is_drawn(rt.alloc(), &settle, SETTLE_DRAWN)?);
-    Ok(())
-}
-
-/// Adds so many settles with no round of starts.
-fn add_settles(draft: &mut Draft, count: usize) -> Result<(), Fail> {
-    for _step in 0..count {
-        draft.settle(Actor(1), &first_crew(), &Numbers::none(), Side::Old, 0)?;
-    }
-    Ok(())
-}
-
-/// How a settle with so many rounds of starts is refused.
-fn refusal(draft: &mut Draft, rounds: u32) -> Option<DraftRefusal> {
-    draft
-        .settle(Actor(1), &first_crew(), &Numbers::none(), Side::Old, rounds)
-        .err()
-}
-
-/// A settle that doesn't fit adds nothing, and no step fits into a full draft.
-#[test]
-fn a_full_draft_stays_as_it_is(rt: HostRuntime) -> Result<(), Fail> {
-    let mut draft = Draft::new(rt.alloc());
-    add_settles(&mut draft, MOST_STEPS - 4)?;
-    assert_eq!(rt; refusal(&mut draft, 1), Some(DraftRefusal::TooLarge));
-    assert_eq!(rt; draft.len(), MOST_STEPS - 4);
-    add_settles(&mut draft, 4)?;
-    assert_eq!(rt; refusal(&mut draft, 0), Some(DraftRefusal::TooLarge));
-    assert_eq!(rt; draft.len(), MOST_STEPS);
     Ok(())
 }
