@@ -148,11 +148,20 @@ where
     /// Tells a new master the limits, in its environment: a program that knows none can be started too.
     fn tell_limits(&self, command: &mut Command) -> Result<(), AllocError> {
         let ChildLimits { answer, ready } = self.watch.limits;
-        for (name, seconds) in [(ANSWER_WITHIN, answer), (READY_WITHIN, ready)] {
-            if seconds > 0 {
-                let text = format!(in self.alloc; "{seconds}")?;
-                command.env(name, text.as_str())?;
-            }
+        self.tell_limit(command, ANSWER_WITHIN, answer)?;
+        self.tell_limit(command, READY_WITHIN, ready)
+    }
+
+    /// Tells one of them, in seconds; 0 is none.
+    fn tell_limit(
+        &self,
+        command: &mut Command,
+        name: &str,
+        seconds: u32,
+    ) -> Result<(), AllocError> {
+        if seconds > 0 {
+            let text = format!(in self.alloc; "{seconds}")?;
+            command.env(name, text.as_str())?;
         }
         Ok(())
     }

@@ -5,4 +5,4 @@ mod explanation;
 mod sentences;
 
 pub use explanation::{Explanation, explanation_of};
-pub use sentences::{ANSWERS, FAULTS, WORDS};
+pub use sentences::{answer_pages, fault_pages, word_pages};

@@ -2,9 +2,26 @@
 
 use crate::Explanation;
 
+// There are three lists, since the prover takes too long over one of all. A function that names a list has all its
+// sentences in its code: one function does.
+
 /// The codes that the program prints: those that begin its faults, and those of addresses, starts, configurations and
-/// handovers. (There are three lists, since the prover takes too long over one of all.)
-pub const FAULTS: [Explanation; 37] = [
+/// handovers.
+pub fn fault_pages() -> &'static [Explanation] {
+    &FAULTS
+}
+
+/// The other codes: those of plans, words, workers and texts.
+pub fn word_pages() -> &'static [Explanation] {
+    &WORDS
+}
+
+/// What is no code: answers of calls, outcomes of words, and what else is in a block.
+pub fn answer_pages() -> &'static [Explanation] {
+    &ANSWERS
+}
+
+const FAULTS: [Explanation; 37] = [
     Explanation {
         code: "usage",
         meaning: "invalid command line",
@@ -285,8 +302,7 @@ program never prints this code.",
     },
 ];
 
-/// The other codes: those of plans, words, workers and texts.
-pub const WORDS: [Explanation; 23] = [
+const WORDS: [Explanation; 23] = [
     Explanation {
         code: "P1",
         meaning: "the plan would have more than 65536 steps",
@@ -461,8 +477,7 @@ one is missing.",
     },
 ];
 
-/// What is no code: answers of calls, outcomes of words, and what else is in a block.
-pub const ANSWERS: [Explanation; 33] = [
+const ANSWERS: [Explanation; 33] = [
     Explanation {
         code: "opened",
         meaning: "the address is open",

@@ -3,7 +3,7 @@ ghost use Rattle.std.specs.Prelude.{◌≡◌, ◌++◌, ◌⊎◌, IfOk, IfErr,
 ghost use Rattle.explanations.specs.Pages.{meaning_line, page_text};
 ghost use Rattle.faults.specs.declared.fault.Fault.TheVariants.{Code, Memory};
 
-use code_explanations::{ANSWERS, Explanation, FAULTS, WORDS, explanation_of};
+use code_explanations::{Explanation, answer_pages, explanation_of, fault_pages, word_pages};
 use faults::Fault;
 use std::alloc::{AllocError, Global};
 
@@ -49,20 +49,6 @@ fn meaning_of_word(code: &str) -> Option<Explanation> {
 
 fn meaning_of_answer(code: &str) -> Option<Explanation> {
     explanation_of(answer_pages(), code)
-}
-
-// A function that names a table has all its sentences in its code, and takes long to prove: one function names it.
-
-fn fault_pages() -> &'static [Explanation] {
-    &FAULTS
-}
-
-fn word_pages() -> &'static [Explanation] {
-    &WORDS
-}
-
-fn answer_pages() -> &'static [Explanation] {
-    &ANSWERS
 }
 
 /// A line for each.

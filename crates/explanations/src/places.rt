@@ -78,18 +78,23 @@ fn tell_events<E: Write>(events: Option<u32>, errors: &mut E) {
 
 /// The turns, where they have another letter or none.
 fn tell_turns<E: Write>(turns: Option<&str>, errors: &mut E) {
-    let Some(turns) = turns else {
-        return;
-    };
-    if turns == "all" {
-        return;
+    match turns {
+        Some(turns) if !are_turns(turns) => {
+            let _ = writeln!(
+                errors,
+                "  --turns {turns}: only 'all' and the letters n and o are allowed"
+            );
+        }
+        _ => {}
     }
-    if turns.is_empty() || !turns.bytes().all(|byte| byte == b'n' || byte == b'o') {
-        let _ = writeln!(
-            errors,
-            "  --turns {turns}: only 'all' and the letters n and o are allowed"
-        );
-    }
+}
+
+fn are_turns(text: &str) -> bool {
+    text == "all" || (!text.is_empty() && text.bytes().all(is_turn))
+}
+
+fn is_turn(letter: u8) -> bool {
+    letter == b'n' || letter == b'o'
 }
 
 /// The end that an option names, where it is not the one that is allowed.
@@ -315,10 +320,11 @@ pub fn put_shown<W: Write>(line: &[u8], out: &mut W) -> io::Result<()> {
 
 /// Whether a byte is not shown: one of no letter or sign, or one that is not ASCII in a line that is no text.
 fn is_odd(byte: u8, is_text: bool) -> bool {
-    if byte.is_ascii() {
-        byte.is_ascii_control() && byte != b'\t'
-    } else {
-        !is_text
+    match byte {
+        b'\t' => false,
+        0..=31 | 127 => true,
+        32..=126 => false,
+        128..=255 => !is_text,
     }
 }
 

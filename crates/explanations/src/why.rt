@@ -4,6 +4,7 @@ use crate::places::{Evidence, tell_file, tell_place};
 use code_explanations::Explanation;
 use command_line::{Request, complaint};
 use faults::Fault;
+use plain_text::read_number;
 use std::alloc::Global;
 use std::io::Write;
 use std::rt::Files;
@@ -75,27 +76,12 @@ fn tell_numbers<E: Write>(args: &[String], errors: &mut E) {
 
 /// The value of an option, if it is no number.
 fn tell_number<E: Write>(option: &str, value: &str, errors: &mut E) {
-    if !is_number(value.as_bytes()) {
+    if read_number(value.as_bytes()).is_none() {
         let _ = writeln!(
             errors,
             "  {option} {value}: numbers from 0 to 4294967295 are allowed, without leading zeros"
         );
     }
-}
-
-/// Whether a text is a decimal number of at most 32 bits without a leading zero.
-fn is_number(text: &[u8]) -> bool {
-    let mut value: u64 = 0;
-    for byte in text {
-        if !byte.is_ascii_digit() || value > u64::from(u32::MAX) {
-            return false;
-        }
-        value = value
-            .saturating_mul(10)
-            .saturating_add(u64::from(*byte - b'0'));
-    }
-    let has_zero = text.len() > 1 && text.first() == Some(&b'0');
-    !text.is_empty() && !has_zero && value <= u64::from(u32::MAX)
 }
 
 /// What each code in the line of a fault means.
@@ -169,9 +155,7 @@ fn has_before(text: &[u8], place: usize, line: &[u8]) -> bool {
 /// A line for the meaning, and the lines of the remedy.
 fn tell_meaning<E: Write>(explanation: &Explanation, errors: &mut E) {
     let _ = writeln!(errors, "  {}: {}", explanation.code, explanation.meaning);
-    if !explanation.remedy.is_empty() {
-        for line in explanation.remedy.split('\n') {
-            let _ = writeln!(errors, "    {line}");
-        }
+    for line in explanation.remedy.lines() {
+        let _ = writeln!(errors, "    {line}");
     }
 }

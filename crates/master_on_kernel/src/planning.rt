@@ -2,7 +2,8 @@
 ghost use Rattle.std.specs.Prelude.{◌≡◌, IfOk, IfErr};
 ghost use Rattle.service_state.specs.Targets.{IsTarget};
 ghost use Rattle.faults.specs.Faults.{IsDue};
-ghost use Rattle.master_on_kernel.specs.Outlooks.{shown, Tells, IsPlanned, IsForeseen};
+ghost use Rattle.master_on_kernel.specs.Outlooks.{shown, Tells, IsPlanned, IsOutlook, IsForeseen};
+ghost use Rattle.word_runner.specs.Asking.{IsPossible};
 ghost use Rattle.master_on_kernel.specs.Starts.{record_at};
 
 use crate::start::{Start, silent_workers};
@@ -16,6 +17,7 @@ use std::alloc::{AllocError, Global};
 use transcript::write_body;
 use vocabulary::Target;
 use word_runner::{Asked, Body, CodeText, asked_by, body_status, note};
+use worker_table::WorkerTable;
 
 /// How a plan is shown.
 #[derive(Clone, Copy)]
@@ -41,11 +43,26 @@ pub fn look_ahead(alloc: Global, start: &Start, word: Word, form: Form) -> Resul
 {
     let record = start.record()?;
     let mut workers = silent_workers(alloc, &record)?;
-    match asked_by(word, &record, &workers, Some(&start.next)) {
-        Asked::Act(target) => Ok(planned(alloc, &record, &target, form)?),
-        Asked::Beat(heard) => Ok(told(alloc, &note(&mut workers, heard))?),
-        Asked::Nothing => Ok(told(alloc, &Body::Nothing)?),
-        Asked::Refused(code) => Ok(told(alloc, &Body::Refused(code))?),
+    let asked = asked_by(word, &record, &workers, Some(&start.next));
+    Ok(outlook_of(alloc, asked, &record, &mut workers, form)?)
+}
+
+/// What there is to show of what a word asks of a master.
+fn outlook_of(
+    alloc: Global,
+    asked: Asked,
+    record: &Record,
+    workers: &mut WorkerTable,
+    form: Form,
+) -> Result<Outlook, AllocError>
+    requires { IsPossible asked }
+    ensures { IfOk result (IsOutlook asked record.now workers.old form) }
+{
+    match asked {
+        Asked::Act(target) => planned(alloc, record, &target, form),
+        Asked::Beat(heard) => told(alloc, &note(workers, heard)),
+        Asked::Nothing => told(alloc, &Body::Nothing),
+        Asked::Refused(code) => told(alloc, &Body::Refused(code)),
     }
 }
 

@@ -464,33 +464,35 @@ fn turns_of(alloc: Global, text: Option<&str>) -> Result<Turns, Fault>
 
 /// What is demanded of the runs: only degraded ends can be forbidden, and only done ones required.
 fn demands_of(options: &ExploreOptions<'_>) -> Result<Demands, Fault> {
-    let forbids_degraded = match options.forbid {
-        None => false,
-        Some("degraded") => true,
-        Some(_) => return Err(Fault::Usage),
-    };
-    let requires_done = match options.require {
-        None => false,
-        Some("done") => true,
-        Some(_) => return Err(Fault::Usage),
-    };
     Ok(Demands {
-        forbids_degraded,
-        requires_done,
+        forbids_degraded: is_given(options.forbid, "degraded")?,
+        requires_done: is_given(options.require, "done")?,
         least: options.least,
     })
+}
+
+/// Whether an option is given, which can only name this end.
+fn is_given(option: Option<&str>, allowed: &str) -> Result<bool, Fault> {
+    match option {
+        None => Ok(false),
+        Some(end) if end == allowed => Ok(true),
+        Some(_) => Err(Fault::Usage),
+    }
 }
 
 /// The control words of the command line; the first that is none is the fault.
 fn read_words(alloc: Global, texts: &[&str]) -> Result<Vec<Word>, Fault> {
     let mut words = Vec::new(alloc);
     for (i, text) in texts.iter().enumerate() {
-        match control_words::read(text.as_bytes()) {
-            Ok(word) => words.push(word).map_err(AllocError::from)?,
-            Err(refusal) => return Err(Fault::Word(i + 1, refusal)),
-        }
+        let word = read_word(text, i + 1)?;
+        words.push(word).map_err(AllocError::from)?;
     }
     Ok(words)
+}
+
+/// The control word of this number. (With it in the loop, the loop took a minute to prove.)
+fn read_word(text: &str, number: usize) -> Result<Word, Fault> {
+    control_words::read(text.as_bytes()).map_err(|refusal| Fault::Word(number, refusal))
 }
 
 /// All that is left of standard input.
