@@ -1,6 +1,4 @@
-//! How long the planning of a reload and of an upgrade takes, at 2, 128 and 1,024 workers before and after. It writes
-//! how many steps each plan has, and to the error output the least time of all runs.
-#![tactic(auto)]
+//! How long the planning of a reload and of an upgrade takes, and how many steps each plan has.
 
 ghost use Rattle.std.specs.Prelude.{◌≤◌};
 ghost use Rattle.service_state.specs.Targets.{IsTarget};
@@ -48,7 +46,7 @@ fn measure(
 }
 
 /// A reload and an upgrade with that many workers before and after.
-fn renew(rt: &HostRuntime, workers: u32) -> anyhow::Result<()>
+pub(crate) fn renew(rt: &HostRuntime, workers: u32) -> anyhow::Result<()>
     requires { workers ≤ 1024 }
 {
     let mut settings = Settings::plain();
@@ -58,10 +56,4 @@ fn renew(rt: &HostRuntime, workers: u32) -> anyhow::Result<()>
     let state = Record::start(&settings, workers, &ready, 100);
     measure(rt, "HUP", workers, &state, &Target::Reload(settings))?;
     measure(rt, "USR2", workers, &state, &Target::Upgrade(settings))
-}
-
-fn main(rt: HostRuntime) -> anyhow::Result<()> {
-    renew(&rt, 2)?;
-    renew(&rt, 128)?;
-    renew(&rt, 1024)
 }

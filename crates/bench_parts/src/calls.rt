@@ -1,7 +1,5 @@
-//! How long the modelled kernel takes for the calls of a reload and of a graceful stop, at 128 and at
-//! 1,024 workers. It writes how many calls that are and how many workers are ready at the end, and to the
-//! error output the least time of all runs.
-#![tactic(auto)]
+//! How long the modelled kernel takes for the calls of a reload and of a graceful stop: how many calls that are, and how
+//! many workers are ready at the end.
 
 use anyhow::Context;
 use kernel_model::{Kernel, Moment, WIDEST_LIMITS};
@@ -122,10 +120,8 @@ fn show(rt: &HostRuntime, name: &str, workers: u32, calls: &[Call]) -> anyhow::R
     Ok(())
 }
 
-fn main(rt: HostRuntime) -> anyhow::Result<()> {
-    for workers in [128, 1024] {
-        show(&rt, "HUP", workers, &calls_of_reload(&rt, workers)?)?;
-        show(&rt, "QUIT", workers, &calls_of_stop(&rt, workers)?)?;
-    }
-    Ok(())
+/// The calls of both with that many workers.
+pub(crate) fn make(rt: &HostRuntime, workers: u32) -> anyhow::Result<()> {
+    show(rt, "HUP", workers, &calls_of_reload(rt, workers)?)?;
+    show(rt, "QUIT", workers, &calls_of_stop(rt, workers)?)
 }
