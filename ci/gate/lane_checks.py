@@ -19,16 +19,30 @@ BREAKS_OFF = "exit 1\n"
 LASTS = '#!/bin/sh\nsetsid sleep 1000 &\necho "begins lasting" >> "$1"\nwait\n'
 
 
+class Crowded(Scripts):
+    """Scripts beside proofs that leave them no room."""
+
+    def wait_for_room(self) -> None:
+        self.proofs_ended.wait()
+
+
+class Roomy(Scripts):
+    """Scripts beside proofs that leave them room."""
+
+    def wait_for_room(self) -> None:
+        pass
+
+
 def put(path: pathlib.Path, text: str) -> None:
     path.write_text(text)
     path.chmod(0o755)
 
 
-def laid_out(room: pathlib.Path, processors: int, **others: str) -> Scripts:
+def laid_out(room: pathlib.Path, processors: int, kind: type[Scripts] = Crowded, **others: str) -> Scripts:
     """A run of scripts that pass, but for these others. They note in the file `notes`, in the place of the program."""
     for name in SCRIPTS:
         put(room / name, others.get(name, NOTES + PASSES))
-    return Scripts(room, room / "notes", lambda line: None, processors)
+    return kind(room, room / "notes", lambda line: None, processors)
 
 
 def each_is_in_a_lane(room: pathlib.Path) -> Iterator[str]:
@@ -73,7 +87,8 @@ def run_side_by_side(room: pathlib.Path) -> Iterator[str]:
 
 
 def begin_with_what_waits(room: pathlib.Path) -> Iterator[str]:
-    """Once the program is proved what waits begins, and the rest once all is; on one processor all of it then."""
+    """Once the program is proved what waits begins, and the rest once all is; on one processor all of it then. No proof
+    leaves room before."""
     for processors in PROCESSORS:
         scripts, wanted = laid_out(room, processors), set(WAITING if processors > 1 else ())
         with scripts:
@@ -85,6 +100,23 @@ def begin_with_what_waits(room: pathlib.Path) -> Iterator[str]:
             if not set(scripts.counted) <= wanted | set(WITHOUT_PROGRAM):
                 yield f"on {processors} processors {sorted(scripts.counted)} run before all is proved"
             scripts.all_is_proved()
+            scripts.run()
+        if scripts.counted != dict.fromkeys(SCRIPTS, (1, 0)):
+            yield f"on {processors} processors: {scripts.counted}"
+
+
+def begin_where_there_is_room(room: pathlib.Path) -> Iterator[str]:
+    """All begin beside the proofs where these leave them room, once the program is proved."""
+    for processors in PROCESSORS:
+        scripts = laid_out(room, processors, Roomy)
+        with scripts:
+            scripts.begin()
+            time.sleep(0.2)
+            if not set(scripts.counted) <= set(WITHOUT_PROGRAM):
+                yield f"on {processors} processors {sorted(scripts.counted)} run before the program is proved"
+            scripts.program_is_proved()
+            if not comes(lambda: set(scripts.counted) == set(SCRIPTS)):
+                yield f"on {processors} processors {sorted(scripts.counted)} run beside proofs, and not all"
             scripts.run()
         if scripts.counted != dict.fromkeys(SCRIPTS, (1, 0)):
             yield f"on {processors} processors: {scripts.counted}"
@@ -143,7 +175,8 @@ def leave_out_the_rest(room: pathlib.Path) -> Iterator[str]:
 
 
 CHECKS: tuple[Callable[[pathlib.Path], Iterator[str]], ...] = (
-    each_is_in_a_lane, run_side_by_side, begin_with_what_waits, tell_what_failed, leave_none_behind, leave_out_the_rest,
+    each_is_in_a_lane, run_side_by_side, begin_with_what_waits, begin_where_there_is_room, tell_what_failed,
+    leave_none_behind, leave_out_the_rest,
 )
 
 

@@ -43,8 +43,9 @@ FIRST = ("json",)
 # proved, beside the proofs of tests, and goes before them, as far as the system lets it.
 WAITING = ("adapters", "service", "children", "package", "soak")
 AHEAD = -5
-# What computes: first what tells most in a second, and then the longest, so that short ones fill the end. It gives way
-# to the others, whose loads and time limits are those of an operator.
+# What computes: first what tells most in a second, and then the longest, so that short ones fill the end. It begins once
+# the last proofs of tests leave it room, and gives way to the others, whose loads and time limits are those of an
+# operator.
 COMPUTING = ("cases", "hostile", "rehearsals", "roundtrips", "reader", "limits", "explorations", "documents",
              "terminals", "deployments", "pictures")
 NICE = 10
@@ -97,7 +98,7 @@ class Scripts:
         self.seconds: dict[str, float] = {}
         self.failed: dict[str, list[str]] = {}
         self.mark, self.telling = Mark("PREFORK_GATE"), threading.Lock()
-        self.proofs_ended, self.is_left_out = threading.Event(), False
+        self.proofs_ended, self.is_left_out, self.runs_program = threading.Event(), False, False
         self.runners: list[threading.Thread] = []
 
     def __enter__(self) -> "Scripts":
@@ -119,18 +120,19 @@ class Scripts:
             seen = seen + 1 if spare(1.0) >= ROOM * self.processors else 0
 
     def program_is_proved(self) -> None:
-        """Runs what mostly waits, if it does not run yet."""
-        beginning, self.waiting = self.waiting, []
-        for lane in beginning:
+        """Runs what mostly waits, and the others once the proofs leave them room or have ended."""
+        if self.runs_program:
+            return
+        self.runs_program = True
+        for lane in self.waiting:
             for _ in range(lane.runners):
                 self.run_beside(self.go_along, lane)
+        self.run_beside(self.compute)
 
     def all_is_proved(self) -> None:
-        """Runs the others, if they do not run yet."""
-        if not self.proofs_ended.is_set():
-            self.program_is_proved()
-            self.proofs_ended.set()
-            self.run_beside(self.compute)
+        """Runs all that does not run yet."""
+        self.program_is_proved()
+        self.proofs_ended.set()
 
     def run(self) -> None:
         """Runs all that does not run yet, and waits for all."""
@@ -163,6 +165,7 @@ class Scripts:
 
     def compute(self) -> None:
         """Runs what computes, after what comes first; then others may join."""
+        self.wait_for_room()
         self.go_along(Lane(FIRST))
         self.computing.begun.set()
         self.go_along(self.computing)
