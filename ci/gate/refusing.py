@@ -128,10 +128,10 @@ class Refusals(Copies):
         return iter(self.next, None)
 
 
-class Cuts(Copies):
-    """Runs in each of which the input, or an argument, ends early: each from the beginning of the program."""
+class Repeats(Copies):
+    """Runs each from the beginning of the program: standard input may be another, and an argument may end early."""
 
-    def __enter__(self) -> "Cuts":
+    def __enter__(self) -> "Repeats":
         theirs, self.ask = os.pipe()
         self.start({"REFUSE_CUT": f"{theirs},{self.their_told}"}, theirs)
         return self
@@ -140,9 +140,10 @@ class Cuts(Copies):
         os.close(self.ask)
         super().__exit__(*given)
 
-    def give(self, size: int) -> None:
-        """From now on standard input ends after this number of bytes."""
-        self.given.truncate(size)
+    def give(self, given: bytes) -> None:
+        """From now on this is standard input."""
+        os.ftruncate(self.given.fileno(), 0)
+        os.pwrite(self.given.fileno(), given, 0)
 
     def run(self, place: int = 0, size: int = 0) -> Result:
         """A run, with the argument of this place, from 1 on, ending at this size."""
