@@ -1,6 +1,7 @@
 """Checks of how scripts run side by side, on scripts that are made up."""
 import pathlib
 import tempfile
+import threading
 import time
 from collections.abc import Callable, Iterator
 
@@ -22,14 +23,14 @@ LASTS = '#!/bin/sh\nsetsid sleep 1000 &\necho "begins lasting" >> "$1"\nwait\n'
 class Crowded(Scripts):
     """Scripts beside proofs that leave them no room."""
 
-    def wait_for_room(self) -> None:
-        self.proofs_ended.wait()
+    def wait_for_room(self, latest: threading.Event) -> None:
+        latest.wait()
 
 
 class Roomy(Scripts):
     """Scripts beside proofs that leave them room."""
 
-    def wait_for_room(self) -> None:
+    def wait_for_room(self, latest: threading.Event) -> None:
         pass
 
 
@@ -87,17 +88,20 @@ def run_side_by_side(room: pathlib.Path) -> Iterator[str]:
 
 
 def begin_with_what_waits(room: pathlib.Path) -> Iterator[str]:
-    """Once the program is proved what waits begins, and the rest once all is; on one processor all of it then. No proof
-    leaves room before."""
+    """Once the program is proved what waits begins, and what needs no program; the rest begins once all is proved. On
+    one processor what waits is part of the rest. No proof leaves room before."""
     for processors in PROCESSORS:
-        scripts, wanted = laid_out(room, processors), set(WAITING if processors > 1 else ())
+        scripts, wanted = laid_out(room, processors), {*WITHOUT_PROGRAM, *(WAITING if processors > 1 else ())}
         with scripts:
             scripts.begin()
+            time.sleep(0.1)
+            if scripts.counted:
+                yield f"on {processors} processors {sorted(scripts.counted)} run before the program is proved"
             scripts.program_is_proved()
             if not comes(lambda: wanted <= set(scripts.counted)):
                 yield f"on {processors} processors {sorted(scripts.counted)} run beside proofs, not {sorted(wanted)}"
             time.sleep(0.2)
-            if not set(scripts.counted) <= wanted | set(WITHOUT_PROGRAM):
+            if not set(scripts.counted) <= wanted:
                 yield f"on {processors} processors {sorted(scripts.counted)} run before all is proved"
             scripts.all_is_proved()
             scripts.run()

@@ -35,7 +35,7 @@ SCRIPTS = {
     "documents": "checks of documents",
     "selftest": "runs of the gate itself",
 }
-# Needs no program: it begins beside the proofs, once these leave it room.
+# Needs no program: it begins beside the proofs, once these leave it room, and at the latest once the program is proved.
 WITHOUT_PROGRAM = ("selftest",)
 # Compares two times that a processor takes, so it runs before what computes.
 FIRST = ("json",)
@@ -98,7 +98,7 @@ class Scripts:
         self.seconds: dict[str, float] = {}
         self.failed: dict[str, list[str]] = {}
         self.mark, self.telling = Mark("PREFORK_GATE"), threading.Lock()
-        self.proofs_ended, self.is_left_out, self.runs_program = threading.Event(), False, False
+        self.program_proved, self.proofs_ended, self.is_left_out = threading.Event(), threading.Event(), False
         self.runners: list[threading.Thread] = []
 
     def __enter__(self) -> "Scripts":
@@ -110,20 +110,20 @@ class Scripts:
             self.end_all()
 
     def begin(self) -> None:
-        """Runs what needs no program, once the proofs leave room for it or have ended."""
+        """Runs what needs no program, once the proofs leave room for it or the program is proved."""
         self.run_beside(self.need_no_program)
 
-    def wait_for_room(self) -> None:
-        """Waits until about half of the processors are spare, or the proofs have ended."""
+    def wait_for_room(self, latest: threading.Event) -> None:
+        """Waits until about half of the processors are spare, or until this has come."""
         seen = 0
-        while seen < LOOKS and not self.proofs_ended.is_set():
+        while seen < LOOKS and not latest.is_set():
             seen = seen + 1 if spare(1.0) >= ROOM * self.processors else 0
 
     def program_is_proved(self) -> None:
         """Runs what mostly waits, and the others once the proofs leave them room or have ended."""
-        if self.runs_program:
+        if self.program_proved.is_set():
             return
-        self.runs_program = True
+        self.program_proved.set()
         for lane in self.waiting:
             for _ in range(lane.runners):
                 self.run_beside(self.go_along, lane)
@@ -150,6 +150,7 @@ class Scripts:
     def leave_off(self) -> None:
         """Begins no script any more."""
         self.is_left_out = True
+        self.program_proved.set()
         self.proofs_ended.set()
         self.computing.begun.set()
 
@@ -160,12 +161,12 @@ class Scripts:
         runner.start()
 
     def need_no_program(self) -> None:
-        self.wait_for_room()
+        self.wait_for_room(self.program_proved)
         self.go_along(Lane(WITHOUT_PROGRAM))
 
     def compute(self) -> None:
         """Runs what computes, after what comes first; then others may join."""
-        self.wait_for_room()
+        self.wait_for_room(self.proofs_ended)
         self.go_along(Lane(FIRST))
         self.computing.begun.set()
         self.go_along(self.computing)
