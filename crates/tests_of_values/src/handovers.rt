@@ -32,20 +32,6 @@ const TOLD_BEFORE: [&str; 8] = [
     "end",
 ];
 
-/// A handover of two groups.
-const GROUPS: [&str; 10] = [
-    "handover 2",
-    "old-pid 100",
-    "generation 2 2",
-    "listener 3 0.0.0.0:8080",
-    "listener 4 0.0.0.0:9090",
-    "group 2",
-    "want 0.0.0.0:8080",
-    "group 1",
-    "want 0.0.0.0:9090",
-    "end",
-];
-
 fn put(text: &mut Vec<u8>, line: &str) -> Result<(), AllocError> {
     text.extend_from_slice(line.as_bytes())?;
     text.extend_from_slice(b"\n")
@@ -116,35 +102,12 @@ fn a_handover_of_version_1_is_read_as_one_group(rt: HostRuntime) -> Result<(), F
     Ok(())
 }
 
-#[test]
-fn a_handover_tells_of_groups(rt: HostRuntime) -> Result<(), Fail> {
-    let told = told(rt.alloc(), &GROUPS)?;
-    assert!(rt; told.groups.as_slice().len() == 2);
-    assert!(rt; is_group(&told, 0, 2));
-    assert!(rt; is_group(&told, 1, 1));
-    assert!(rt; is_written(rt.alloc(), &told, &GROUPS)?);
-    Ok(())
-}
-
 /// What stands before the listeners of texts that are refused.
 const HEAD: &str = "old-pid 1\ngeneration 0 0\nlistener 3 /a\n";
 
-/// What follows the first line of version 1 and the head, and how the text is refused.
-const REFUSED_BEFORE: [(&str, Option<HandoverRefusal>); 10] = [
-    ("want /b\nworkers 02\n", Some(Line(6))),
-    ("want /b\nworkers 1025\n", Some(Line(6))),
-    ("want /b\nwant /b\n", Some(Line(6))),
-    ("workers 1\n", Some(Line(5))),
-    ("group 1\n", Some(Line(5))),
-    ("want /b\ngroup 1\n", Some(Line(6))),
+/// What follows the first line and the head, and how the text is refused.
+const REFUSED: [(&str, Option<HandoverRefusal>); 15] = [
     ("listener 3 /b\n", Some(OutOfOrder(5))),
-    ("listener 4 /a\n", Some(Line(5))),
-    ("want /b\nworkers 0\nend\n", None),
-    ("want /b\nworkers 0\nend\nx", Some(Trailing)),
-];
-
-/// The same for version 2.
-const REFUSED: [(&str, Option<HandoverRefusal>); 14] = [
     ("group 02\n", Some(Line(5))),
     ("group 1025\n", Some(Line(5))),
     ("group 1024\nwant /b\ngroup 1\n", Some(Line(7))),
@@ -161,28 +124,17 @@ const REFUSED: [(&str, Option<HandoverRefusal>); 14] = [
     ("group 0\nwant /b\nend\n\n", Some(Trailing)),
 ];
 
-fn begun(alloc: Global, first: &str, rest: &str) -> Result<Vec<u8>, AllocError> {
-    let mut text = whole(alloc, &[first])?;
+fn begun(alloc: Global, rest: &str) -> Result<Vec<u8>, AllocError> {
+    let mut text = whole(alloc, &["handover 2"])?;
     text.extend_from_slice(HEAD.as_bytes())?;
     text.extend_from_slice(rest.as_bytes())?;
     Ok(text)
 }
 
 #[test]
-fn a_handover_of_version_1_is_refused_by_its_first_faulty_line(
-    rt: HostRuntime,
-) -> Result<(), Fail> {
-    for (rest, refusal) in REFUSED_BEFORE {
-        let text = begun(rt.alloc(), "handover 1", rest)?;
-        assert_eq!(rt; read(text.as_slice()).err(), refusal, "{rest}");
-    }
-    Ok(())
-}
-
-#[test]
 fn a_handover_is_refused_by_its_first_faulty_line(rt: HostRuntime) -> Result<(), Fail> {
     for (rest, refusal) in REFUSED {
-        let text = begun(rt.alloc(), "handover 2", rest)?;
+        let text = begun(rt.alloc(), rest)?;
         assert_eq!(rt; read(text.as_slice()).err(), refusal, "{rest}");
     }
     Ok(())
@@ -196,7 +148,7 @@ fn put_want(text: &mut Vec<u8>, port: u32) -> Result<(), AllocError> {
 
 /// A text that ends with a group of 64 addresses.
 fn full_group(alloc: Global) -> Result<Vec<u8>, AllocError> {
-    let mut text = begun(alloc, "handover 2", "group 0\n")?;
+    let mut text = begun(alloc, "group 0\n")?;
     for port in 1..65_u32 {
         put_want(&mut text, port)?;
     }

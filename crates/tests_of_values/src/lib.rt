@@ -1,10 +1,8 @@
-//! Tests of values and their texts: numbers, listeners, groups, calls, lines, patterns and handovers.
+//! Tests of values and their texts: addresses, lines, patterns, handovers, plans, and what a master knows after them.
 #![tactic(auto)]
 
 #[cfg(test)]
-mod call_texts;
-#[cfg(test)]
-mod groups;
+mod drafts;
 #[cfg(test)]
 mod handovers;
 #[cfg(test)]
@@ -12,6 +10,8 @@ mod lines;
 #[cfg(test)]
 mod listeners;
 #[cfg(test)]
-mod numbers;
-#[cfg(test)]
 mod patterns;
+#[cfg(test)]
+mod planning;
+#[cfg(test)]
+mod records;

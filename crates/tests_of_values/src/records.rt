@@ -2,8 +2,7 @@
 ghost use Rattle.std.specs.Prelude.{◌≤◌};
 
 use listener_set::{Address, FilePath, Generation, ListenerSet, Numbers};
-use service_state::{Listeners, Record, want};
-use std::alloc::Global;
+use service_state::{Listeners, Record};
 use std::test::Fail;
 use vocabulary::{Listener, Outcome, PidNote, Report, Settings, Target};
 use worker_groups::{Group, Groups};
@@ -76,12 +75,13 @@ fn running(addresses: &[&str]) -> Result<Record, Fail> {
     Ok(Record::start(&settings(addresses)?, 2, &Numbers::below(2), 100))
 }
 
-fn report(outcome: Outcome, ready: u32) -> Report {
+/// What is heard where a target was reached and two workers are ready.
+fn reached() -> Report {
     Report {
-        outcome,
+        outcome: Outcome::Done,
         cause: None,
         note: PidNote::AtOldbin,
-        ready: Numbers::below(ready.min(1024)),
+        ready: Numbers::below(2),
     }
 }
 
@@ -104,17 +104,9 @@ fn is_listening(listeners: &Listeners, expected: &[(u32, &str)]) -> bool {
     true
 }
 
-/// What a master knows, as a process of this number, once a target has ended so, with so many ready workers.
-fn after(record: &Record, target: &Target, report: &Report, pid: u32) -> Option<Record> {
-    record.after(target, report, pid)
-}
-
 /// What a master knows after a target was reached, as a process of this number.
 fn known_after(record: &Record, target: &Target, pid: u32) -> Result<Record, Fail> {
-    match after(record, target, &report(Outcome::Done, 2), pid) {
-        Some(known) => Ok(known),
-        None => Err(Fail::from("no record")),
-    }
+    Ok(record.after(target, &reached(), pid).ok_or("no record")?)
 }
 
 /// What a master knows after a reload to settings with these addresses.
@@ -155,69 +147,5 @@ fn an_upgrade_closes_first_and_then_opens(rt: HostRuntime) -> Result<(), Fail> {
     let record = upgraded()?;
     let expected = [(3, "0.0.0.0:9090"), (4, "0.0.0.0:7070")];
     assert!(rt; is_listening(&record.listeners, &expected));
-    Ok(())
-}
-
-/// The address and the count of these numbers that so many workers want.
-fn wanted_of(
-    alloc: Global,
-    state: &Record,
-    workers: u32,
-    (address, count): (usize, usize),
-) -> Result<(Option<Address>, Option<(Generation, u32)>), Fail> {
-    let service = want(alloc, state, &Target::Workers(workers))?;
-    Ok((service.address(address), service.entry(address, count)))
-}
-
-/// The count of that number at an address where so many workers are wanted.
-fn entry_wanted(
-    alloc: Global,
-    state: &Record,
-    workers: u32,
-    numbers: (usize, usize),
-) -> Result<Option<(Generation, u32)>, Fail> {
-    Ok(wanted_of(alloc, state, workers, numbers)?.1)
-}
-
-/// The settings of two addresses, each with a group of its own.
-fn grouped_settings() -> Result<Settings, Fail> {
-    in_two_groups(&settings(&["0.0.0.0:8080", "0.0.0.0:7070"])?)
-}
-
-/// A running master with these settings.
-fn running_with(settings: &Settings) -> Record {
-    Record::start(settings, 2, &Numbers::below(2), 100)
-}
-
-#[test]
-fn a_target_wants_the_workers_of_its_group_at_each_address(rt: HostRuntime) -> Result<(), Fail> {
-    let state = running_with(&grouped_settings()?);
-    let (two, one) = (Some((state.generation, 2)), Some((state.generation, 1)));
-    assert_eq!(rt; entry_wanted(rt.alloc(), &state, 3, (0, 0))?, two);
-    assert_eq!(rt; entry_wanted(rt.alloc(), &state, 3, (1, 0))?, one);
-    Ok(())
-}
-
-/// How many workers are wanted once a target has ended so, with so many ready ones.
-fn wanted_after(record: &Record, target: &Target, outcome: Outcome, ready: u32) -> Option<u32> {
-    Some(after(record, target, &report(outcome, ready), 100)?.wanted)
-}
-
-#[test]
-fn other_counts_are_wanted_after_their_word_alone(rt: HostRuntime) -> Result<(), Fail> {
-    let record = running(&["0.0.0.0:8080"])?;
-    for (target, outcome, ready, wanted) in &[
-        (Target::Workers(3), Outcome::Done, 3, Some(3)),
-        (Target::Workers(3), Outcome::RolledBack, 2, Some(2)),
-        (Target::Workers(1), Outcome::Done, 2, None),
-        (Target::Workers(1025), Outcome::Done, 2, None),
-        (Target::Mend(Numbers::none()), Outcome::Done, 2, Some(2)),
-        (Target::Reopen, Outcome::Done, 2, Some(2)),
-        (Target::Reopen, Outcome::Lost, 2, None),
-        (Target::Stop { quick: false }, Outcome::Done, 0, None),
-    ] {
-        let after = wanted_after(&record, target, *outcome, *ready);
-        assert_eq!(rt; after, *wanted, "{ready} are ready");
-    }
     Ok(())
 }
