@@ -4,6 +4,7 @@ Like kit.py this depends on the inside of `rt`. It is a file of its own since no
 have the sum of kit.py.
 """
 import functools
+import os
 import pathlib
 import sys
 
@@ -17,6 +18,9 @@ from gate.tally import PROGRAM
 TAKEN = 0.75
 # Longer than any chain of crates, in lines.
 BEFORE_ALL = 1_000_000
+# For the allocator of `rattle`, mimalloc: never to give memory back that was freed. By default it does so after a while,
+# and takes the same pages again soon after, which the system then has to clear.
+ALLOCATOR = {"MIMALLOC_PURGE_DELAY": "-1"}
 # From this number of processors on, crates of the longest chains get more jobs: those in a chain that has at least this
 # part of the longest one's lines.
 MANY, NEAR = 4, 0.85
@@ -80,6 +84,8 @@ def with_first(name, in_lanes):
 
 def main() -> int:
     rt = kit.rt
+    for name, value in ALLOCATOR.items():
+        os.environ.setdefault(name, value)
     rt.rtlib.Crate.below = listed_once(rt.rtlib.Crate.below)
     for name, changed in (("need", as_measured), ("in_lanes", functools.partial(with_first, PROGRAM.name))):
         # (another kit may have no such function)
