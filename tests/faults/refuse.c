@@ -1,5 +1,5 @@
 /* Refuses a growth of memory, a read or a write of a program, for ci/hostile and ci/children; and runs a program again
- * and again from its beginning, for ci/hostile and ci/rehearsals.
+ * and again from its beginning, for ci/hostile, ci/rehearsals and ci/explorations.
  *
  * Preloaded into the program, and into none that it starts. REFUSE is a letter and a number: m5 refuses the 5th growth
  * of memory (malloc, realloc), r2 fails the 2nd read, w1 the 1st write to standard output. REFUSE_TELL is the number of
