@@ -168,6 +168,11 @@ fn other() -> Result<Settings, Fail> {
     settings(&["0.0.0.0:9090", "0.0.0.0:7070"], 3)
 }
 
+/// The same addresses with no workers.
+fn no_workers() -> Result<Settings, Fail> {
+    settings(&["0.0.0.0:8080", "0.0.0.0:9090"], 0)
+}
+
 /// Places with the same step and the same edges are one.
 #[test]
 fn no_two_steps_of_a_plan_are_alike(rt: HostRuntime) -> Result<(), Fail> {
@@ -182,10 +187,40 @@ fn no_two_steps_of_a_plan_are_alike(rt: HostRuntime) -> Result<(), Fail> {
 }
 
 #[test]
+fn no_two_steps_of_a_mending_are_alike(rt: HostRuntime) -> Result<(), Fail> {
+    let mut overdue = Numbers::none();
+    overdue.add(0);
+    overdue.add(2);
+    for state in &masters(rt.alloc())? {
+        assert!(rt; is_distinct(rt.alloc(), state, &Target::Mend(overdue))?);
+    }
+    Ok(())
+}
+
+#[test]
+fn no_two_steps_of_a_reload_are_alike(rt: HostRuntime) -> Result<(), Fail> {
+    let (other, none) = (other()?, no_workers()?);
+    for state in &masters(rt.alloc())? {
+        assert!(rt; is_distinct(rt.alloc(), state, &Target::Reload(other))?);
+        assert!(rt; is_distinct(rt.alloc(), state, &Target::Reload(none))?);
+    }
+    Ok(())
+}
+
+#[test]
 fn no_two_steps_of_an_upgrade_are_alike(rt: HostRuntime) -> Result<(), Fail> {
     let other = other()?;
     for state in &masters(rt.alloc())? {
         assert!(rt; !repeats(&upgrade_of(rt.alloc(), state, &other)?));
+    }
+    Ok(())
+}
+
+#[test]
+fn no_two_steps_of_an_attended_upgrade_are_alike(rt: HostRuntime) -> Result<(), Fail> {
+    let none = no_workers()?;
+    for state in &masters(rt.alloc())? {
+        assert!(rt; !repeats(&upgrade_planner::plan_attended(rt.alloc(), state, &none)?));
     }
     Ok(())
 }
