@@ -1,13 +1,14 @@
 """What a master's record becomes once a plan has ended (After.antt)."""
 from reader.addresses import Address, has
-from reader.crew import Addresses, Listeners, posts_of
+from reader.crew import Addresses, Listeners
 from reader.crews import Crew, Posts
-from reader.numbers import first_from
+from reader.groups import Groups
+from reader.numbers import Numbers, first_from
 from reader.record import Record
 from reader.settings import Settings
 from reader.table import Table, live_master
 from reader.target import (
-    Attended, Reload, Stop, Target, Upgrade, Workers, generation_wanted, reload_generation, upgrade_generation,
+    Attended, Reload, Stop, Target, Upgrade, Workers, generation_wanted, next_config, next_image,
 )
 from reader.vocabulary import AnyOutcome, Degraded, Generation, Listener, Outcome, Report, Side
 
@@ -63,6 +64,23 @@ def upgraded(addresses: Addresses, ls: Listeners) -> Listeners | None:
 # Where the workers of a target listen
 
 
+def descriptors_at(ls: Listeners, addresses: Addresses) -> Numbers:
+    """The descriptors of the listeners whose addresses a list has."""
+    return tuple(l.descriptor for l in ls if has(addresses, l.address))
+
+
+def descriptors_by(gs: Groups, addresses: Addresses, ls: Listeners) -> tuple[Numbers, ...]:
+    """Of each group the descriptors: it takes its number of addresses, the next ones."""
+    if not gs:
+        return ()
+    own, others = addresses[:gs[0].addresses], addresses[gs[0].addresses:]
+    return (descriptors_at(ls, own), *descriptors_by(gs[1:], others, ls))
+
+
+def posts_of(groups: Groups, addresses: Addresses, ls: Listeners) -> Posts:
+    return Posts(groups, descriptors_by(groups, addresses, ls))
+
+
 def listeners_then(r: Record, target: Target) -> Listeners:
     """The listeners while the target's workers are started: with what is added, and, of an upgrade, without what is
     dropped. Where the added ones are too many no worker is started, and it does not matter."""
@@ -89,21 +107,6 @@ def crew_wanted(r: Record, t: Target) -> Crew:
 
 
 # The record of a service
-
-
-def has_next(n: int) -> bool:
-    """Image and config numbers end at 4,294,967,295."""
-    return n < 4294967295
-
-
-def next_config(g: Generation) -> Generation | None:
-    """The generation of a reload."""
-    return reload_generation(g) if has_next(g.config) else None
-
-
-def next_image(g: Generation) -> Generation | None:
-    """The generation of an upgrade."""
-    return upgrade_generation(g) if has_next(g.image) and has_next(g.config) else None
 
 
 def renewed(r: Record, s: Settings, posts: Posts, ls: Listeners | None, g: Generation | None) -> Record | None:

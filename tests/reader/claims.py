@@ -6,7 +6,7 @@ from typing import NamedTuple
 
 from reader import names as name
 from reader.addresses import Address, FilePath, has
-from reader.after import next_config, next_image, next_record
+from reader.after import next_record
 from reader.crew import Layout, short_at
 from reader.lengths import plan_length
 from reader.manner import Manner, is_leave_call
@@ -20,7 +20,7 @@ from reader.settings import IsInRange
 from reader.table import Holds, IsFormed, Process, Table, Worker, has_address, is_own, is_ready, owner_at
 from reader.target import (
     Attended, Mend, Reload, Stop, Target, Upgrade, Workers, addresses_wanted, handover_for, layout_wanted,
-    numbers_wanted, sides_of, upgrade_generation, want, wanted_at,
+    next_config, next_image, numbers_wanted, sides_of, upgrade_generation, want, wanted_at,
 )
 from reader.vocabulary import (
     Answer, AnyAnswer, AnyOutcome, Call, Degraded, Entries, Outcome, PidNote, RemovePid, Report, Side,

@@ -26,23 +26,6 @@ def share(posts: Posts, k: int, holds: Holds) -> Holds:
     return shared(fds_of(posts, k), holds)
 
 
-def descriptors_at(ls: Listeners, addresses: Addresses) -> Numbers:
-    """The descriptors of the listeners whose addresses a list has."""
-    return tuple(l.descriptor for l in ls if has(addresses, l.address))
-
-
-def descriptors_by(gs: Groups, addresses: Addresses, ls: Listeners) -> tuple[Numbers, ...]:
-    """Of each group the descriptors: it takes its number of addresses, the next ones."""
-    if not gs:
-        return ()
-    own, others = addresses[:gs[0].addresses], addresses[gs[0].addresses:]
-    return (descriptors_at(ls, own), *descriptors_by(gs[1:], others, ls))
-
-
-def posts_of(groups: Groups, addresses: Addresses, ls: Listeners) -> Posts:
-    return Posts(groups, descriptors_by(groups, addresses, ls))
-
-
 # Whom an address counts
 
 

@@ -1,6 +1,7 @@
 """The manner of a run: which processes it leaves alone, and which it ends only after they were asked to end
 (Manner.antt)."""
 from collections.abc import Callable
+from functools import partial
 
 from reader.numbers import is_in
 from reader.record import Record
@@ -60,20 +61,14 @@ def Goes(first: Table, goes: Callable[[int], bool], ran: Ran) -> bool:
 # Entries
 
 
-def is_quit_call(call: Call) -> bool:
-    return isinstance(call, Quit)
+def is_quit(test: Callable[[Generation, int], bool], call: Call) -> bool:
+    """A call to quit of a name that passes the test."""
+    return isinstance(call, Quit) and test(call.generation, call.nr)
 
 
-def is_quit_of(g: Generation, k: int, call: Call) -> bool:
-    return isinstance(call, Quit) and bears(g, k, call.generation, call.nr)
-
-
-def is_wait_of(g: Generation, k: int, call: Call) -> bool:
-    return isinstance(call, AwaitGone) and bears(g, k, call.generation, call.nr)
-
-
-def is_wait_call(call: Call) -> bool:
-    return isinstance(call, AwaitGone)
+def is_wait(test: Callable[[Generation, int], bool], call: Call) -> bool:
+    """A wait for an end of a name that passes the test."""
+    return isinstance(call, AwaitGone) and test(call.generation, call.nr)
 
 
 def is_usr1_of(g: Generation, k: int, call: Call) -> bool:
@@ -95,14 +90,14 @@ def one_then(first: Callable[[Entry], bool], second: Callable[[Entry], bool], en
 
 def was_late(g: Generation, k: int, entries: Entries) -> bool:
     """The worker was told to quit, and was late at a wait for its end."""
-    return one_then(
-        lambda e: is_quit_of(g, k, e.call), lambda e: is_wait_of(g, k, e.call) and is_late(e.answer), entries
-    )
+    named = partial(bears, g, k)
+    return one_then(lambda e: is_quit(named, e.call), lambda e: is_wait(named, e.call) and is_late(e.answer), entries)
 
 
 def was_waited_for(g: Generation, k: int, entries: Entries) -> bool:
     """The worker was told to quit, and was waited for."""
-    return one_then(lambda e: is_quit_of(g, k, e.call), lambda e: is_wait_of(g, k, e.call), entries)
+    named = partial(bears, g, k)
+    return one_then(lambda e: is_quit(named, e.call), lambda e: is_wait(named, e.call), entries)
 
 
 def is_process_of(p: int, g: Generation, k: int, row: Process) -> bool:
@@ -151,7 +146,7 @@ def stays_all(_: int) -> bool:
 
 def UpgradeManner(r: Record, end: AnyOutcome, first: Table, ran: Ran) -> bool:
     """An upgrade that comes back leaves all workers, unless it had waited for them to go."""
-    waited = any(is_wait_call(e.call) for e in ran.entries)
+    waited = any(is_wait(lambda g, k: True, e.call) for e in ran.entries)
     stays = not is_old_side(end) or waited or Stays(first, stays_all, ran)
     return stays and KillsOnlyLate(first, ran) and LeavesLast(r, ran)
 
@@ -181,5 +176,5 @@ def Manner(r: Record, target: Target, end: AnyOutcome, first: Table, ran: Ran) -
             return UpgradeManner(r, end, first, ran)
         case Stop(quick):
             if quick:
-                return not any(is_quit_call(e.call) for e in ran.entries)
+                return not any(is_quit(lambda g, k: True, e.call) for e in ran.entries)
             return KillsOnlyLate(first, ran) and LeavesLast(r, ran)

@@ -3,10 +3,10 @@ rollback_plan/specs/Following.antt)."""
 from typing import NamedTuple
 
 from reader.numbers import Numbers
-from reader.pieces import first_cause
-from reader.run import lacked_after, lacked_by, lacked_last, outcome_at, ready_after, went_wrong
+from reader.pieces import branch, first_cause
+from reader.run import lacked_after, lacked_by, lacked_last, outcome_of, ready_after, went_wrong
 from reader.target import Sides
-from reader.tree import Branch, Does, Ends, Tree, branch, call_of, reply_of, shown
+from reader.tree import Branch, Does, Ends, Tree, call_of, reply_of, shown
 from reader.vocabulary import Answer, AnyAnswer, AnyOutcome, Entries, Entry, Lacks, Outcome, PidNote, Report
 
 
@@ -76,7 +76,7 @@ def IsOutcome(sides: Sides, rest: Tree | None, lacking: Numbers, o: AnyOutcome) 
     if rest is None:
         return o is Outcome.Lost
     at = shown(rest)
-    return isinstance(at, Ends) and o == outcome_at(sides, at.end, lacking)
+    return isinstance(at, Ends) and o == outcome_of(sides, at.end, lacking)
 
 
 def Reports(sides: Sides, t: Trail, report: Report) -> bool:

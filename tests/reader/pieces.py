@@ -1,7 +1,7 @@
-"""Pieces of plans and of runs by names of their own (call_laws/specs/Pieces.antt): those that lengths.py and path.py
-name."""
+"""Pieces of plans and of runs by names of their own (call_laws/specs/Pieces.antt): those that lengths.py, path.py and
+run.py name."""
 from reader.plans import on
-from reader.tree import Branches, Tree
+from reader.tree import Branch, Branches, Tree, among
 from reader.vocabulary import Reply
 
 # What follows a call
@@ -9,6 +9,11 @@ from reader.vocabulary import Reply
 
 def spawn_edges(ok: Tree, bad: Tree) -> Branches:
     return on((Reply.Spawned,), ok, on((Reply.Again, Reply.NoMemory, Reply.NoImage), bad))
+
+
+def branch(branches: Branches, r: Reply) -> Branch | None:
+    """What follows a reply: the first edge that has it."""
+    return next((edge for edge in branches if among(edge.replies, r)), None)
 
 
 # Runs

@@ -8,7 +8,7 @@ from reader.crew import Addresses, fork_of
 from reader.crews import Crew
 from reader.numbers import Numbers, is_in, numbers_below
 from reader.record import Record, addresses_of, crew_of, oldbin
-from reader.target import Attended, Mend, Reload, Reopen, Stop, Target, Upgrade, Workers, only_in
+from reader.target import Attended, Mend, Reload, Reopen, Stop, Target, Upgrade, Workers
 from reader.tree import (
     AwaitLacking, Branch, Branches, Does, Ends, ForkLacking, KillLacking, Later, Make, Tree, plain_reply, replies_to,
     shown,
@@ -23,6 +23,11 @@ Turns = tuple[Turn, ...]
 # Edges and steps
 
 Replies = tuple[Reply, ...]
+
+
+def only_in(addresses: Addresses, others: Addresses) -> Addresses:
+    """What the first list has and the second lacks."""
+    return tuple(a for a in addresses if a not in others)
 
 
 def on(replies: Replies, rest: Tree, more: Branches = ()) -> Branches:

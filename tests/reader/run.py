@@ -7,9 +7,10 @@ from reader.crews import shortfalls_of
 from reader.exits import after_exits, losses_of
 from reader.names import Name
 from reader.numbers import Numbers, lacks
+from reader.pieces import branch
 from reader.table import Table
 from reader.target import Sides
-from reader.tree import Does, Order, Tree, branch, call_of, plain_reply, reply_of, same_reply, shown
+from reader.tree import Does, Order, Tree, call_of, plain_reply, reply_of, same_reply, shown
 from reader.vocabulary import (
     Answer, AnyAnswer, AnyOutcome, Ask, Call, Counted, Degraded, End, Entries, Entry, Fate, Lack, Lacks, Outcome,
     PidNote, Reply, Report, Side,
@@ -45,7 +46,7 @@ def lacked_last(lacked: Lacks) -> Numbers:
     return lacked[0].numbers if lacked else ()
 
 
-def beside(by: int, lacked: Lacks) -> Lacks:
+def newest_of_others(by: int, lacked: Lacks) -> Lacks:
     """The newest of another master."""
     return tuple(lack for lack in lacked if lack.by != by)[:1]
 
@@ -53,7 +54,7 @@ def beside(by: int, lacked: Lacks) -> Lacks:
 def lacked_after(by: int, numbers: Numbers, a: AnyAnswer, lacked: Lacks) -> Lacks:
     """What the last counts lack, after an answer to a master. A plan has two masters at most: their last counts are
     kept, the newest first."""
-    return (Lack(by, lacks(numbers, a.numbers)), *beside(by, lacked)) if isinstance(a, Counted) else lacked
+    return (Lack(by, lacks(numbers, a.numbers)), *newest_of_others(by, lacked)) if isinstance(a, Counted) else lacked
 
 
 def went_wrong(call: Call, r: Reply) -> bool:
@@ -173,9 +174,11 @@ def run_with(handed: Handed, tree: Tree, pattern: Pattern, p: Progress) -> Ran:
 # What is reported: what the calls and their answers tell, and nothing else
 
 
-def outcome_at(sides: Sides, end: End, lacking: Numbers) -> AnyOutcome:
-    """What an end says, by the groups of its side and what the last census lacked."""
-    match end:
+def outcome_of(sides: Sides, ending: End | None, lacking: Numbers) -> AnyOutcome:
+    """The outcome of a run that ends so, by the groups of its side and what the last census lacked."""
+    match ending:
+        case None:
+            return Outcome.Lost
         case End.RolledBack:
             return Outcome.RolledBack
         case End.ShortOld:
@@ -185,11 +188,6 @@ def outcome_at(sides: Sides, end: End, lacking: Numbers) -> AnyOutcome:
         case _:
             # (no run ends at a mark)
             return Outcome.Done
-
-
-def outcome_of(sides: Sides, ending: End | None, lacking: Numbers) -> AnyOutcome:
-    """The outcome of a run that ends so, by what its last census lacked."""
-    return Outcome.Lost if ending is None else outcome_at(sides, ending, lacking)
 
 
 def report_of(sides: Sides, ran: Ran) -> Report:

@@ -62,17 +62,27 @@ class Sides(NamedTuple):
     target: Groups
 
 
-def only_in(addresses: Addresses, others: Addresses) -> Addresses:
-    """What the first list has and the second lacks."""
-    return tuple(a for a in addresses if a not in others)
-
-
 def reload_generation(g: Generation) -> Generation:
     return Generation(g.image, g.config + 1)
 
 
 def upgrade_generation(g: Generation) -> Generation:
     return Generation(g.image + 1, g.config + 1)
+
+
+def has_next(n: int) -> bool:
+    """Image and config numbers end at 4,294,967,295."""
+    return n < 4294967295
+
+
+def next_config(g: Generation) -> Generation | None:
+    """The generation of a reload."""
+    return reload_generation(g) if has_next(g.config) else None
+
+
+def next_image(g: Generation) -> Generation | None:
+    """The generation of an upgrade."""
+    return upgrade_generation(g) if has_next(g.image) and has_next(g.config) else None
 
 
 # The service that is wanted

@@ -135,27 +135,18 @@ def plain_reply(call: Call) -> Reply:
     return replies_to(call)[0]
 
 
-# Edges
-
-
-def branch(branches: Branches, r: Reply) -> Branch | None:
-    """What follows a reply: the first edge that has it."""
-    return next((edge for edge in branches if among(edge.replies, r)), None)
-
-
-def lowest(numbers: Numbers) -> int:
-    """The number that a settle's step names: the lowest that the last census lacked."""
-    return numbers[0] if numbers else 0
+# What a step asks for
 
 
 def call_of(order: Order, lacking: Numbers) -> Call:
-    """The call that a step asks for, once its worker is named."""
+    """The call that a step asks for. A settle's step names the lowest number that the last census lacked."""
+    named = lacking[0] if lacking else 0
     match order:
         case Make(call):
             return call
         case ForkLacking(crew):
-            return fork_of(crew, lowest(lacking))
+            return fork_of(crew, named)
         case AwaitLacking(g):
-            return AwaitReady(g, lowest(lacking))
+            return AwaitReady(g, named)
         case KillLacking(g):
-            return Kill(g, lowest(lacking))
+            return Kill(g, named)

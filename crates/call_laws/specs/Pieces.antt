@@ -3,8 +3,8 @@
 -- Our own. Each name stands for a text of the definitions, and says nothing that they do not.
 
 use Rattle.std.specs.Prelude.{◌≡◌, ◌∷◌, ◌++◌, if◌then◌else◌}
-use Rattle.vocabulary.specs.Words.{refl, ℕ, false, List, [], Bool, Option, option_and_then, option_or, then_some}
-use Rattle.vocabulary.specs.Words.{map, lacks}
+use Rattle.vocabulary.specs.Words.{refl, ℕ, false, List, [], Bool, Option, option_and_then, option_or, then_some, map}
+use Rattle.vocabulary.specs.Words.{lacks, true, Some, None, get_or}
 use Rattle.vocabulary.specs.declared.calls.Reply.TheVariants as reply
 use Rattle.vocabulary.specs.declared.calls.Answer.TheVariants as answer
 use Rattle.vocabulary.specs.declared.calls.Fate.{Fate}
@@ -15,7 +15,7 @@ use Rattle.definitions.specs.Calls.{drop_where, is_of}
 use Rattle.definitions.specs.Calls.{with_holds, lacks_address, made_draining, census_of, is_exited_of, is_of_image}
 use Rattle.definitions.specs.Calls.{with_file, with_files, without_file, fault_of}
 use Rattle.definitions.specs.Manner.{is_leave_call}
-use Rattle.definitions.specs.Tree.{Tree, Branches, Does, Nothing, Make}
+use Rattle.definitions.specs.Tree.{Tree, Branches, Does, Nothing, Make, Branch, among, Reply, PidNote}
 use Rattle.definitions.specs.Plans.{on, tells}
 
 ---- What follows a call
@@ -37,6 +37,19 @@ census_edges full short = on (reply.Full ∷ []) full (on (reply.Short ∷ []) s
 
 abbrev pub census : ℕ → Generation → List ℕ → Branches → Tree
 census by g set branches = Does by (Make (Census g)) set branches
+
+-- what follows a reply: the note that is set, and the rest
+abbrev pub branch : Branches → Reply → Option (Option PidNote × Tree)
+branch Nothing r = None
+branch (Branch replies said rest more) r =
+    elim (among replies r) as (λ b. Option (Option PidNote × Tree)) [
+      | true ↦ Some (said, rest)
+      | false ↦ branch more r
+    ]
+
+-- the number that a settle's step names: the lowest that the last census lacked
+abbrev pub lowest : List ℕ → ℕ
+lowest lacking = get_or lacking 0 0
 
 ---- Workers that are told, and addresses that are closed
 

@@ -11,12 +11,12 @@ use Rattle.definitions.specs.Calls.{Fate, Stepped, step_with, Handed}
 use Rattle.definitions.specs.Exits.{after_exits}
 use Rattle.definitions.specs.Target.{handover_for, sides_of}
 use Rattle.definitions.specs.Plans.{Turn, plan_tree}
-use Rattle.definitions.specs.Tree.{Tree, Ends, Does, Branches, Nothing, Branch, among, branch, call_of, reply_of}
+use Rattle.definitions.specs.Tree.{Tree, Ends, Does, Branches, Nothing, Branch, among, call_of, reply_of}
 use Rattle.definitions.specs.Run.{Entry, Report, Sides, lacked_by, lacked_last}
 use Rattle.plan_walk.specs.Path.{Trail, advance, trail_after, IsOver, IsOutcome, Reports}
 use Rattle.definitions.specs.Run.{Progress, Ending, Lost, Ran, start_at, run_with, goes_with, noted, after_moment, after_call, answered, outcome_of}
 use Rattle.definitions.specs.Claims.{IsStart, HasDescriptors, Says, names_any, refused_among, heirs_of, run_of}
-use Rattle.call_laws.specs.Pieces.{executing_at, executing_after}
+use Rattle.call_laws.specs.Pieces.{executing_at, executing_after, branch}
 use Rattle.plan_executor.specs.Lawful.{trail_at, ending_of}
 use Rattle.plan_executor.specs.Enacted.{EndsSo}
 use Rattle.plan_executor.specs.Refusals.{HasPlan}

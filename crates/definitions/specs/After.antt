@@ -3,15 +3,15 @@
 -- After POSIX: a descriptor that is opened is the lowest free one. Our own: after a way back a master is what it was.
 
 use Rattle.std.specs.Prelude.{◌≡◌, ◌+◌, ◌==◌, ◌&&◌, ◌∷◌, if◌then◌else◌}
-use Rattle.vocabulary.specs.Words.{refl, codes, ℕ, nat_lt, nat_le, Bool, not, List, [], Option, Some, None}
-use Rattle.vocabulary.specs.Words.{is_none, option_map, option_and_then, unwrap_or, filter, bytes_eq, length, list_any}
-use Rattle.vocabulary.specs.Words.{has, first_from, Settings, then_some}
+use Rattle.vocabulary.specs.Words.{refl, codes, ℕ, nat_lt, nat_le, Bool, not, List, [], Option, Some, None, is_none}
+use Rattle.vocabulary.specs.Words.{option_map, option_and_then, unwrap_or, filter, bytes_eq, length, list_any, has}
+use Rattle.vocabulary.specs.Words.{first_from, Settings, then_some, map, take, drop}
 use Rattle.vocabulary.specs.declared.reports.Outcome.TheVariants as outcome
 use Rattle.vocabulary.specs.declared.targets.Target.TheVariants as target
 use Rattle.definitions.specs.Table.{Address, Generation, Table, Caller, live_master}
-use Rattle.definitions.specs.Crew.{Posts, Crew, posts_of}
+use Rattle.definitions.specs.Crew.{Posts, Crew, Group}
 use Rattle.definitions.specs.Record.{Listener, Record}
-use Rattle.definitions.specs.Target.{generation_wanted, reload_generation, upgrade_generation, Target}
+use Rattle.definitions.specs.Target.{generation_wanted, Target, next_config, next_image}
 use Rattle.definitions.specs.Tree.{Old, Target as TargetSide}
 use Rattle.vocabulary.specs.declared.reports.Report.{Report}
 use Rattle.vocabulary.specs.declared.reports.Outcome.{Outcome}
@@ -58,6 +58,20 @@ upgraded addresses ls = with_added addresses (still_wanted addresses ls)
 
 ---- Where the workers of a target listen
 
+-- the descriptors of the listeners whose addresses a list has
+abbrev pub descriptors_at : List Listener → List Address → List ℕ
+descriptors_at ls addresses =
+    map (λ (l : Listener). l.descriptor) (filter (λ (l : Listener). has addresses l.address) ls)
+
+-- of each group the descriptors: it takes the next so many addresses
+abbrev pub descriptors_by : List Group → List Address → List Listener → List (List ℕ)
+descriptors_by [] addresses ls = []
+descriptors_by (g ∷ gs) addresses ls =
+    descriptors_at ls (take g.addresses addresses) ∷ descriptors_by gs (drop g.addresses addresses) ls
+
+abbrev pub posts_of : List Group → List Address → List Listener → Posts
+posts_of groups addresses ls = record { groups = groups; descriptors = descriptors_by groups addresses ls }
+
 -- The listeners while the target's workers are started: with what is added, and, of an upgrade, without what is
 -- dropped. Where the added ones are too many no worker is started, and it does not matter.
 abbrev pub listeners_then : Record → Target → List Listener
@@ -77,18 +91,6 @@ abbrev pub crew_wanted : Record → Target → Crew
 crew_wanted r t = record { generation = generation_wanted r t; posts = posts_wanted r t }
 
 ---- The record of a service
-
--- Image and config numbers end at 4,294,967,295.
-abbrev pub has_next : ℕ → Bool
-has_next n = nat_lt n 4294967295
-
--- the generation of a reload
-abbrev pub next_config : Generation → Option Generation
-next_config g = then_some (has_next g.config) (reload_generation g)
-
--- the generation of an upgrade
-abbrev pub next_image : Generation → Option Generation
-next_image g = then_some (has_next g.image && has_next g.config) (upgrade_generation g)
 
 -- a record with the service of new settings
 abbrev pub renewed : Record → Settings → Posts → Option (List Listener) → Option Generation → Option Record

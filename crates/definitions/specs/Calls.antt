@@ -234,7 +234,7 @@ moved from to t = moved_if (owner_at from t.files) from to t
 
 ---- The order in a call
 
--- The call's own answer, to a caller that lives, of that image, which is handed that.
+-- What a live caller of this image is answered where no fate interferes; `handed` is what it was handed.
 abbrev pub own_step : Handed → ℕ → Caller → Call → Table → Stepped
 own_step handed image c (OpenAt a) t = opened c a t
 -- The caller and its workers lose their holds of the address.
@@ -295,8 +295,8 @@ step_by handed image None call f t = gives answer.MasterGone t
 step_by handed image (Some c) call f t =
     fault_or_own (option_and_then (λ fate. fault_of c call fate t) f) handed image c call t
 
--- A call by the master of an image, which is handed that: master-gone where it is not live, without effect; then the
--- fate, without effect; then the call's own answer.
+-- A call by the master of an image. Where that master is not live: master-gone, and nothing changes. Else, where the
+-- fate gives an answer: that one, and nothing changes. Else the call's own answer.
 abbrev pub step_with : Handed → ℕ → Call → Option Fate → Table → Stepped
 step_with handed image call f t = step_by handed image (live_master image t.rows) call f t
 

@@ -18,8 +18,8 @@ use Rattle.definitions.specs.Service.{Service, is_live_with, service, IsSame}
 use Rattle.definitions.specs.Crew.{Layout, short_at}
 use Rattle.definitions.specs.Record.{Listener, Record, IsRecord, Agrees, layout_of, PidNote, Left, NoFile, oldbin}
 use Rattle.definitions.specs.Target.{Target, Workers, Mend, Reload, Upgrade, Attended, Stop, want, wanted_at}
-use Rattle.definitions.specs.Target.{layout_wanted, sides_of, upgrade_generation, handover_for}
-use Rattle.definitions.specs.After.{next_record, next_config, next_image}
+use Rattle.definitions.specs.Target.{layout_wanted, sides_of, upgrade_generation, handover_for, next_config, next_image}
+use Rattle.definitions.specs.After.{next_record}
 use Rattle.definitions.specs.Plans.{Turn, plan_tree}
 use Rattle.definitions.specs.Run.{Report, Outcome, Entry, report_of, run_with, Pattern, Progress, faults_since}
 use Rattle.definitions.specs.Run.{start_at, Ran}
@@ -42,7 +42,7 @@ names_any images [] = false
 names_any images (name.Master i ∷ es) = is_in images i || names_any images es
 names_any images (e ∷ es) = names_any images es
 
--- The first moment, of those of these calls after the n-th, in which an executing master exits. Those who leave are
+-- These are the calls after the n-th: the first of them at whose moment an executing master exits. Those who leave are
 -- executing up to and at their Leave, and their heirs from it on.
 abbrev pub refused_among : List ℕ → List ℕ → Pattern → ℕ → List Entry → Option ℕ
 refused_among executing heirs pattern n [] = None
@@ -222,8 +222,7 @@ pub record IsAccepted (t : Table) (r : Record) (target : Target) (turns : List T
   pub accepts : Accepts t r target
   pub spared : refusal_of r target turns pattern t ≡ None
 
--- The floor holds at each table of the run where a target quits nobody, or only when others are ready. A mend kills
--- first, and a stop leaves none.
+-- Each target has a floor at each table of the run but two: a mend kills first, and a stop leaves no worker.
 abbrev pub HasFloor : Table → Record → Target → Ran → Type 0
 HasFloor t r (Attended s) ran =
     AllByRecursion (AttendedFloor (service t) (want r (Attended s)) t (wanted_at r (Attended s))) ran.passed

@@ -3,8 +3,8 @@
 -- Our own, as pools of php-fpm are: each group takes the next so many addresses and worker numbers of a configuration.
 
 use Rattle.std.specs.Prelude.{◌≡◌, ◌∷◌, if◌then◌else◌}
-use Rattle.vocabulary.specs.Words.{refl, codes, ℕ, zero, suc, Bool, List, [], Option, Some, None, map, filter, length}
-use Rattle.vocabulary.specs.Words.{take, drop, get_or, count_by, sum_by, numbers_below, is_in, has}
+use Rattle.vocabulary.specs.Words.{refl, codes, ℕ, zero, suc, Bool, List, [], Option, Some, None, filter, length, take}
+use Rattle.vocabulary.specs.Words.{drop, get_or, count_by, sum_by, numbers_below, is_in, has}
 use Rattle.definitions.specs.Table.{Listener, Address, Hold}
 use Rattle.definitions.specs.Calls.{Call, Fork, shared}
 pub use Rattle.vocabulary.specs.Words.{Group, group_of, Posts, Crew, fds_in, fds_of, shortfalls_of}
@@ -18,20 +18,6 @@ fork_of crew k = Fork crew.generation k (fds_of crew.posts k)
 -- what a worker holds of what its master holds
 abbrev pub share : Posts → ℕ → List Hold → List Hold
 share posts k holds = shared (fds_of posts k) holds
-
--- the descriptors of the listeners whose addresses a list has
-abbrev pub descriptors_at : List Listener → List Address → List ℕ
-descriptors_at ls addresses =
-    map (λ (l : Listener). l.descriptor) (filter (λ (l : Listener). has addresses l.address) ls)
-
--- of each group the descriptors: it takes the next so many addresses
-abbrev pub descriptors_by : List Group → List Address → List Listener → List (List ℕ)
-descriptors_by [] addresses ls = []
-descriptors_by (g ∷ gs) addresses ls =
-    descriptors_at ls (take g.addresses addresses) ∷ descriptors_by gs (drop g.addresses addresses) ls
-
-abbrev pub posts_of : List Group → List Address → List Listener → Posts
-posts_of groups addresses ls = record { groups = groups; descriptors = descriptors_by groups addresses ls }
 
 ---- Whom an address counts
 

@@ -51,21 +51,14 @@ Goes first goes ran =
 
 ---- Entries
 
-abbrev pub is_quit_call : Call → Bool
-is_quit_call (Quit g k) = true
-is_quit_call _ = false
+-- a call to quit, or a wait for an end, of a name that passes the test
+abbrev pub is_quit : (Generation → ℕ → Bool) → Call → Bool
+is_quit test (Quit g k) = test g k
+is_quit test _ = false
 
-abbrev pub is_quit_of : Generation → ℕ → Call → Bool
-is_quit_of g k (Quit h j) = bears g k h j
-is_quit_of g k _ = false
-
-abbrev pub is_wait_of : Generation → ℕ → Call → Bool
-is_wait_of g k (AwaitGone h j) = bears g k h j
-is_wait_of g k _ = false
-
-abbrev pub is_wait_call : Call → Bool
-is_wait_call (AwaitGone g k) = true
-is_wait_call _ = false
+abbrev pub is_wait : (Generation → ℕ → Bool) → Call → Bool
+is_wait test (AwaitGone g k) = test g k
+is_wait test _ = false
 
 abbrev pub is_usr1_of : Generation → ℕ → Call → Bool
 is_usr1_of g k (Usr1 h j) = bears g k h j
@@ -86,11 +79,12 @@ one_then first second (e ∷ entries) = (first e && list_any second entries) || 
 
 -- the worker was told to quit, and was late at a wait for its end
 abbrev pub was_late : Generation → ℕ → List Entry → Bool
-was_late g k entries = one_then (λ e. is_quit_of g k e.call) (λ e. is_wait_of g k e.call && is_late e.answer) entries
+was_late g k entries =
+    one_then (λ e. is_quit (bears g k) e.call) (λ e. is_wait (bears g k) e.call && is_late e.answer) entries
 
 -- the worker was told to quit, and was waited for
 abbrev pub was_waited_for : Generation → ℕ → List Entry → Bool
-was_waited_for g k entries = one_then (λ e. is_quit_of g k e.call) (λ e. is_wait_of g k e.call) entries
+was_waited_for g k entries = one_then (λ e. is_quit (bears g k) e.call) (λ e. is_wait (bears g k) e.call) entries
 
 -- the process with the number, where it bears the name
 abbrev pub is_process_of : ℕ → Generation → ℕ → Process → Bool
@@ -103,7 +97,7 @@ IsKillDue first before (Kill g k) t =
     (p j : ℕ) → has_ready first p j ≡ true → list_any (is_process_of p g k) t.rows ≡ true → was_late g k before ≡ true
 IsKillDue first before _ t = ⊤
 
--- Each entry with the table that its call meets.
+-- Each kill among these entries is due. The tables come in pairs: a call meets the second of its pair.
 abbrev pub KillsAreDue : Table → List Entry → List Entry → List Progress → Type 0
 KillsAreDue first before (e ∷ entries) (p ∷ middle ∷ rest) =
     IsKillDue first before e.call middle.table × KillsAreDue first (before ++ e ∷ []) entries rest
@@ -136,7 +130,7 @@ is_old_side _ = false
 -- An upgrade that comes back leaves all workers, unless it had waited for them to go.
 abbrev pub UpgradeManner : Record → Outcome → Table → Ran → Type 0
 UpgradeManner r end first ran =
-    (is_old_side end ≡ true → list_any (λ e. is_wait_call e.call) ran.entries ≡ false → Stays first (λ k. true) ran)
+    (is_old_side end ≡ true → list_any (λ e. is_wait (λ g k. true) e.call) ran.entries ≡ false → Stays first (λ k. true) ran)
     × KillsOnlyLate first ran × LeavesLast r ran
 
 -- A change of the number of workers leaves those alone whose number stays, and all on the old side; a mend leaves all
@@ -154,7 +148,7 @@ Manner r (Reload s) end first ran = (is_old_side end ≡ true → Stays first (�
 Manner r (Upgrade s) end first ran = UpgradeManner r end first ran
 Manner r (Attended s) end first ran = UpgradeManner r end first ran
 Manner r (Stop false) end first ran = KillsOnlyLate first ran × LeavesLast r ran
-Manner r (Stop true) end first ran = list_any (λ e. is_quit_call e.call) ran.entries ≡ false
+Manner r (Stop true) end first ran = list_any (λ e. is_quit (λ g k. true) e.call) ran.entries ≡ false
 
 ---- An example: no entry, so nobody was late
 

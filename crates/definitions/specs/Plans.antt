@@ -5,8 +5,8 @@
 -- master is gone.
 
 use Rattle.std.specs.Prelude.{◌≡◌, ◌||◌, ◌∷◌, ◌++◌}
-use Rattle.vocabulary.specs.Words.{refl, ℕ, zero, suc, not, nat_lt, Bool, true, false, List, [], Option, Some}
-use Rattle.vocabulary.specs.Words.{None, drop, filter, map, reverse, numbers_below, is_in}
+use Rattle.vocabulary.specs.Words.{refl, ℕ, zero, suc, not, nat_lt, Bool, true, false, List, [], Option, Some, None}
+use Rattle.vocabulary.specs.Words.{drop, filter, map, reverse, numbers_below, is_in, has}
 use Rattle.vocabulary.specs.declared.plans.Side.TheVariants as side
 use Rattle.vocabulary.specs.declared.calls.Reply.TheVariants as reply
 use Rattle.definitions.specs.Table.{Address, FilePath, Generation}
@@ -15,7 +15,7 @@ use Rattle.definitions.specs.Calls.{Adopt, WritePid, MovePid, RemovePid, Alive, 
 use Rattle.definitions.specs.Crew.{Crew, fork_of}
 use Rattle.definitions.specs.Record.{Record, PidNote, InPlace, AtOldbin, OldbinLeft, Left, NoFile, oldbin, addresses_of}
 use Rattle.definitions.specs.Record.{crew_of}
-use Rattle.definitions.specs.Target.{Target, Workers, Mend, Reopen, Reload, Upgrade, Attended, Stop, only_in}
+use Rattle.definitions.specs.Target.{Target, Workers, Mend, Reopen, Reload, Upgrade, Attended, Stop}
 use Rattle.definitions.specs.Tree.{Reply, plain_reply, replies_to, Side, End, Done, RolledBack, ShortOld, ShortTarget}
 use Rattle.definitions.specs.Tree.{JoinReady, JoinBack, Join, Make, ForkLacking, AwaitLacking, KillLacking, Tree}
 use Rattle.definitions.specs.Tree.{Branches, Ends, Does, Nothing, Branch}
@@ -24,6 +24,10 @@ pub use Rattle.vocabulary.specs.declared.plans.Turn.{Turn}
 pub use Rattle.vocabulary.specs.declared.plans.Turn.TheVariants.{New, Old}
 
 ---- Edges and steps
+
+-- what the first list has and the second lacks
+abbrev pub only_in : List Address → List Address → List Address
+only_in addresses others = filter (λ a. not (has others a)) addresses
 
 -- an edge that sets no note
 abbrev pub on : List Reply → Tree → Branches → Branches
@@ -226,8 +230,8 @@ abbrev mutual
   beside_all goes turns (Branch replies said rest more) =
       Branch replies said (beside goes turns rest) (beside_all goes turns more)
 
--- Both parts, the new one first, under the turns, New after their end. Where the new part has ended the old one goes
--- on alone; where both have, the new part's end says what follows.
+-- Both parts under a list of turns; after its end it is always the new part's turn. Where the new part has ended the
+-- old one goes on alone; where both have, the new part's end says what follows.
 abbrev mutual
   pub weave : (End → Tree) → Tree → List Turn → Tree → Tree
   weave join (Ends end) turns old = graft (λ e. join end) old

@@ -48,14 +48,14 @@ lacked_last [] = []
 lacked_last (lack ∷ lacked) = lack.numbers
 
 -- the newest of another master
-abbrev pub beside : ℕ → List Lack → List Lack
-beside by [] = []
-beside by (lack ∷ lacked) = if lack.by == by then beside by lacked else lack ∷ []
+abbrev pub newest_of_others : ℕ → List Lack → List Lack
+newest_of_others by [] = []
+newest_of_others by (lack ∷ lacked) = if lack.by == by then newest_of_others by lacked else lack ∷ []
 
 -- What the last counts lack, after an answer to a master. A plan has two masters at most: their last counts are kept,
 -- the newest first.
 abbrev pub lacked_after : ℕ → List ℕ → Answer → List Lack → List Lack
-lacked_after by set (answer.Counted ns) lacked = record { by = by; numbers = lacks set ns } ∷ beside by lacked
+lacked_after by set (answer.Counted ns) lacked = record { by = by; numbers = lacks set ns } ∷ newest_of_others by lacked
 lacked_after by set _ lacked = lacked
 
 -- a call that is not answered plainly, or a census that lacks a number of its set
@@ -122,7 +122,7 @@ after_call by order set s p =
 abbrev pub noted : Option PidNote → Progress → Progress
 noted said p = record p { note = unwrap_or said p.note }
 
--- what a step's call, which is handed that, is answered after the exits of its moment
+-- the answer to a step's call, after the exits of its moment
 abbrev pub answered : Handed → ℕ → Order → Option Fate → Progress → Stepped
 answered handed by order f p = step_with handed by (call_of order (lacked_by by p.lacked)) f p.table
 
@@ -146,8 +146,8 @@ abbrev pub with_entry : Entry → Progress → Progress → Ran → Ran
 with_entry entry before middle rest =
     record rest { entries = entry ∷ rest.entries; passed = before ∷ middle ∷ rest.passed }
 
--- The run of a tree, each call of which is handed that, and of what is behind the first of some edges that has the
--- reply.
+-- `run_with` is the run of a tree; `goes_with` goes on behind the first of these edges that has the reply. What a call
+-- is handed is the same throughout.
 abbrev mutual
   pub run_with : Handed → Tree → Pattern → Progress → Ran
   run_with handed (Ends end) pattern p = ends_at (At end) p
@@ -168,18 +168,14 @@ abbrev mutual
 
 ---- What is reported: what the calls and their answers tell, and nothing else
 
--- what an end says, by the groups of its side and what the last census lacked
-abbrev pub outcome_at : Sides → End → List ℕ → Outcome
-outcome_at sides Done lacking = outcome.Done
-outcome_at sides RolledBack lacking = outcome.RolledBack
-outcome_at sides ShortOld lacking = outcome.Degraded Old (shortfalls_of sides.old lacking)
-outcome_at sides ShortTarget lacking = outcome.Degraded Target (shortfalls_of sides.target lacking)
--- no run ends at a mark
-outcome_at sides _ lacking = outcome.Done
-
--- the outcome of a run that ends so, by what its last census lacked
+-- the outcome of a run that ends so, by the groups of its side and what the last census lacked
 abbrev pub outcome_of : Sides → Ending → List ℕ → Outcome
-outcome_of sides (At end) lacking = outcome_at sides end lacking
+outcome_of sides (At Done) lacking = outcome.Done
+outcome_of sides (At RolledBack) lacking = outcome.RolledBack
+outcome_of sides (At ShortOld) lacking = outcome.Degraded Old (shortfalls_of sides.old lacking)
+outcome_of sides (At ShortTarget) lacking = outcome.Degraded Target (shortfalls_of sides.target lacking)
+-- no run ends at a mark
+outcome_of sides (At _) lacking = outcome.Done
 outcome_of sides Lost lacking = outcome.Lost
 
 -- What the report of a run says, by the groups of both sides.

@@ -3,8 +3,9 @@
 -- After Unicorn's SIGNALS and nginx's "Controlling nginx": HUP starts workers of the next configuration, USR2 a new
 -- executable, TTIN and TTOU change the number of workers, USR1 reopens logs, QUIT and TERM stop.
 
-use Rattle.std.specs.Prelude.{◌≡◌, ◌∷◌, ◌+◌}
-use Rattle.vocabulary.specs.Words.{refl, ℕ, not, List, [], Some, None, filter, has, Settings, numbers_below}
+use Rattle.std.specs.Prelude.{◌≡◌, ◌∷◌, ◌+◌, ◌&&◌}
+use Rattle.vocabulary.specs.Words.{refl, ℕ, List, [], Some, None, Settings, numbers_below, nat_lt, Bool, Option}
+use Rattle.vocabulary.specs.Words.{then_some}
 use Rattle.definitions.specs.Table.{Address, Generation}
 use Rattle.definitions.specs.Calls.{Handover, Handed}
 use Rattle.definitions.specs.Service.{Service, serving}
@@ -15,16 +16,24 @@ pub use Rattle.vocabulary.specs.declared.targets.Target.{Target}
 pub use Rattle.vocabulary.specs.declared.targets.Target.TheVariants.{Workers, Mend, Reopen, Reload, Upgrade, Attended}
 pub use Rattle.vocabulary.specs.declared.targets.Target.TheVariants.{Stop}
 
--- what the first list has and the second lacks
-abbrev pub only_in : List Address → List Address → List Address
-only_in addresses others = filter (λ a. not (has others a)) addresses
-
 -- A reload's workers are of the next configuration; an upgrade's are of the next image too.
 abbrev pub reload_generation : Generation → Generation
 reload_generation g = record { image = g.image; config = g.config + 1 }
 
 abbrev pub upgrade_generation : Generation → Generation
 upgrade_generation g = record { image = g.image + 1; config = g.config + 1 }
+
+-- Image and config numbers end at 4,294,967,295.
+abbrev pub has_next : ℕ → Bool
+has_next n = nat_lt n 4294967295
+
+-- the generation of a reload
+abbrev pub next_config : Generation → Option Generation
+next_config g = then_some (has_next g.config) (reload_generation g)
+
+-- the generation of an upgrade
+abbrev pub next_image : Generation → Option Generation
+next_image g = then_some (has_next g.image && has_next g.config) (upgrade_generation g)
 
 ---- The service that is wanted
 

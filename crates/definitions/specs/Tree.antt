@@ -3,7 +3,7 @@
 -- Our own. Other masters go on after a failure as their code happens to; a plan has an edge for every reply.
 
 use Rattle.std.specs.Prelude.{◌≡◌, ◌∷◌}
-use Rattle.vocabulary.specs.Words.{get_or, refl, ℕ, Bool, true, false, List, [], Option, Some, None, list_any, lacks}
+use Rattle.vocabulary.specs.Words.{get_or, refl, ℕ, Bool, List, [], Option, list_any, lacks}
 use Rattle.vocabulary.specs.declared.calls.Answer.TheVariants as answer
 use Rattle.vocabulary.specs.declared.calls.Reply.TheVariants as reply
 use denote.Enum.Bare.{sameb}
@@ -34,6 +34,7 @@ mutual
 
 ---- Replies
 
+-- whether two replies are one: the equality that the checker makes of the enum
 abbrev pub same_reply : Reply → Reply → Bool
 same_reply a b = sameb the_type a b
 
@@ -89,28 +90,14 @@ replies_to _ = reply.Fine ∷ []
 abbrev pub plain_reply : Call → Reply
 plain_reply call = get_or (replies_to call) 0 reply.Fine
 
----- Edges
+---- What a step asks for
 
--- what follows a reply: the note that is set, and the rest
-abbrev pub branch : Branches → Reply → Option (Option PidNote × Tree)
-branch Nothing r = None
-branch (Branch replies said rest more) r =
-    elim (among replies r) as (λ b. Option (Option PidNote × Tree)) [
-      | true ↦ Some (said, rest)
-      | false ↦ branch more r
-    ]
-
--- the number that a settle's step names: the lowest that the last census lacked
-abbrev pub lowest : List ℕ → ℕ
-lowest [] = 0
-lowest (k ∷ ks) = k
-
--- the call that a step asks for, once its worker is named
+-- The call that a step asks for. A settle's step names the lowest number that the last census lacked.
 abbrev pub call_of : Order → List ℕ → Call
 call_of (Make call) lacking = call
-call_of (ForkLacking crew) lacking = fork_of crew (lowest lacking)
-call_of (AwaitLacking g) lacking = AwaitReady g (lowest lacking)
-call_of (KillLacking g) lacking = Kill g (lowest lacking)
+call_of (ForkLacking crew) lacking = fork_of crew (get_or lacking 0 0)
+call_of (AwaitLacking g) lacking = AwaitReady g (get_or lacking 0 0)
+call_of (KillLacking g) lacking = Kill g (get_or lacking 0 0)
 
 ---- An example: a census that lacks a number of its set is short
 

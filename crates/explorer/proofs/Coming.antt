@@ -10,7 +10,8 @@ use Rattle.definitions.specs.Table.{Table}
 use Rattle.definitions.specs.Record.{Record}
 use Rattle.definitions.specs.Calls.{Stepped, step_with, Handed}
 use Rattle.definitions.specs.Exits.{after_exits}
-use Rattle.definitions.specs.Tree.{Tree, Ends, Does, Branches, branch, reply_of, call_of}
+use Rattle.call_laws.specs.Pieces.{branch}
+use Rattle.definitions.specs.Tree.{Tree, Ends, Does, Branches, reply_of, call_of}
 use Rattle.definitions.specs.Plans.{Turn}
 use Rattle.definitions.specs.Run.{lacked_by}
 use Rattle.plan_walk.specs.Path.{advance, Asks, rest_after}

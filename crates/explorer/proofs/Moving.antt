@@ -12,7 +12,8 @@ use Rattle.definitions.specs.Record.{Record}
 use Rattle.definitions.specs.Exits.{losses_of}
 use Rattle.definitions.specs.Calls.{Call, Stepped, step_with, Handed}
 use Rattle.vocabulary.specs.declared.calls.Answer.TheVariants as answer
-use Rattle.definitions.specs.Tree.{Tree, Branches, Ends, Does, Nothing, Branch, Reply, among, branch, reply_of, call_of}
+use Rattle.call_laws.specs.Pieces.{branch}
+use Rattle.definitions.specs.Tree.{Tree, Branches, Ends, Does, Nothing, Branch, Reply, among, reply_of, call_of}
 use Rattle.definitions.specs.Plans.{Turn}
 use Rattle.definitions.specs.Run.{Sides, Lack, lacked_by, lacked_last}
 use Rattle.plan_walk.specs.Path.{Trail, Asks, rest_after}

@@ -8,7 +8,8 @@ use Rattle.definitions.specs.Table.{Table}
 use Rattle.definitions.specs.Record.{Record}
 use Rattle.definitions.specs.Exits.{after_exits}
 use Rattle.plan_walk.specs.Path.{rest_after}
-use Rattle.definitions.specs.Tree.{Tree, Ends, Does, branch, reply_of}
+use Rattle.call_laws.specs.Pieces.{branch}
+use Rattle.definitions.specs.Tree.{Tree, Ends, Does, reply_of}
 use Rattle.definitions.specs.Plans.{Turn}
 use Rattle.definitions.specs.Target.{sides_of, handover_for}
 use Rattle.definitions.specs.Run.{Moment, quiet, Pattern, Progress, start_at, Ran, Lost, ends_at, run_with, after_moment, after_call, answered, noted}

@@ -2,8 +2,8 @@
 ghost use Rattle.std.specs.Prelude.{◌≡◌, ◌<◌, ◌≤◌, ◌↔◌, ◌+◌, ◌++◌, ◌∷◌, [], false, length, map, insert, IsTrue, slice_get};
 ghost use Rattle.vocabulary.specs.Settings.{listeners_from};
 ghost use Rattle.definitions.specs.Table.{Address as AddressText};
-ghost use Rattle.definitions.specs.After.{listener_at, listens_on, opened_from, still_wanted, with_added, reloaded, upgraded};
-ghost use Rattle.definitions.specs.Crew.{descriptors_at};
+ghost use Rattle.definitions.specs.After.{listener_at, listens_on, opened_from, still_wanted, with_added, reloaded};
+ghost use Rattle.definitions.specs.After.{upgraded, descriptors_at};
 ghost use Rattle.master_listeners.specs.Listeners.{AreListed, is_above, only_under};
 
 use listener_set::{Address, DescriptorSet, FIRST_DESCRIPTOR, ListenerSet, MOST_DESCRIPTORS};

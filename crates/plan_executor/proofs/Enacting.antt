@@ -5,7 +5,7 @@ use Rattle.std.proofs.lemmas.Bool.{false≢true}
 use Rattle.handover_text.specs.Reading.{handed_by}
 use Rattle.definitions.specs.Table.{Table, Generation}
 use Rattle.definitions.specs.Record.{Record}
-use Rattle.definitions.specs.Target.{sides_of, handover_for}
+use Rattle.definitions.specs.Target.{sides_of, handover_for, next_config, next_image}
 use Rattle.service_state.specs.Targets.{IsTarget}
 use Rattle.vocabulary.specs.declared.targets.Target.{Target}
 use Rattle.vocabulary.specs.declared.targets.Target.TheVariants.{Workers, Mend, Reopen, Reload, Upgrade, Attended, Stop}
@@ -23,7 +23,7 @@ use Rattle.definitions.specs.Run.{Pattern}
 use Rattle.plan_executor.specs.Replays.{Replays}
 use Rattle.rollback_plan.specs.Plans.{tree_under, note_of, sides_told, text_of}
 use Rattle.plan_walk.specs.Path.{KeepsPathLaw}
-use Rattle.definitions.specs.After.{next_record, next_config, next_image}
+use Rattle.definitions.specs.After.{next_record}
 use Rattle.word_runner.specs.declared.enactor.Enacted.{Enacted}
 use Rattle.plan_executor.specs.Lawful.{IsWholeRun}
 use Rattle.plan_executor.specs.Enacted.{EndsSo, IsEnacted}

@@ -12,13 +12,14 @@ use Rattle.definitions.specs.Calls.{Call, SpawnMaster, MovePid, Handed}
 use Rattle.definitions.specs.Crew.{Crew}
 use Rattle.definitions.specs.Record.{Record, PidNote, InPlace, AtOldbin, OldbinLeft, Left, NoFile, oldbin, crew_of, addresses_of}
 use Rattle.definitions.specs.Target.{sides_of, handover_for}
-use Rattle.definitions.specs.Tree.{Tree, Ends, Does, Branches, Nothing, Branch, End, Done, Split, JoinReady, JoinBack, Reply, among, branch, reply_of}
+use Rattle.definitions.specs.Tree.{Tree, Ends, Does, Branches, Nothing, Branch, End, Done, Split, JoinReady, JoinBack}
+use Rattle.definitions.specs.Tree.{Reply, among, reply_of}
 use Rattle.vocabulary.specs.declared.calls.Reply.TheVariants as reply
 use Rattle.definitions.specs.Run.{Sides, Lack, lacked_after, lacked_last}
 use Rattle.definitions.specs.Plans.{Turn, weave, joined}
 use Rattle.definitions.specs.After.{crew_wanted}
 use Rattle.definitions.specs.Plans.{does, on, move_aside, new_part, new_calls, old_part, tries_all, taken_over, back_from, back_alone, settle, upgrade_tree, plan_tree}
-use Rattle.call_laws.specs.Pieces.{spawn_edges}
+use Rattle.call_laws.specs.Pieces.{spawn_edges, branch}
 use Rattle.definitions.specs.Run.{Pattern, Progress, Ending, At, Lost, Ran, run_with, goes_with, noted, start_at, outcome_of}
 use Rattle.theorems.specs.Apart.{IsOf, WalksAll, WalksApart}
 use Rattle.definitions.specs.Claims.{run_of, Says, EndsAsReported}

@@ -3,8 +3,8 @@ use Rattle.std.proofs.Common.{◌≡◌, false, [], ◌∷◌, Option, Some, Non
 use Rattle.std.specs.Prelude.{is_none, option_map, option_and_then}
 use Rattle.std.proofs.lemmas.Bool.{false≢true}
 use Rattle.definitions.specs.Table.{Table, Generation, Caller, live_master}
-use Rattle.definitions.specs.Target.{upgrade_generation}
-use Rattle.definitions.specs.After.{next_image, master_of}
+use Rattle.definitions.specs.Target.{upgrade_generation, next_image}
+use Rattle.definitions.specs.After.{master_of}
 use Rattle.definitions.specs.Record.{Record}
 use Rattle.upgrade_planner.proofs.Upgrades.{next_is}
 use Rattle.plan_executor.specs.Naming.{listed}

@@ -7,7 +7,8 @@ use Rattle.vocabulary.specs.declared.plans.PidNote.{PidNote}
 use Rattle.vocabulary.specs.declared.plans.Order.{Order}
 use Rattle.definitions.specs.Calls.{Stepped, step_with, Handed}
 use Rattle.definitions.specs.Exits.{after_exits}
-use Rattle.definitions.specs.Tree.{Tree, Ends, Does, Branches, Nothing, Branch, among, reply_of, call_of, branch}
+use Rattle.call_laws.specs.Pieces.{branch}
+use Rattle.definitions.specs.Tree.{Tree, Ends, Does, Branches, Nothing, Branch, among, reply_of, call_of}
 use Rattle.definitions.specs.Run.{lacked_by}
 use Rattle.plan_walk.specs.Path.{Trail, advance, trail_after, Follows, IsOver, rest_after, note_after}
 use Rattle.definitions.specs.Run.{Pattern, Progress, Lost, Ran, ends_at, run_with, goes_with, noted, after_moment, after_call, answered, with_entry}

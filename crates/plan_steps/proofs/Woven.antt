@@ -6,7 +6,8 @@ use Rattle.vocabulary.specs.declared.calls.Reply.{Reply}
 use Rattle.vocabulary.specs.declared.plans.PidNote.{PidNote}
 use Rattle.vocabulary.specs.declared.plans.End.{End}
 use Rattle.vocabulary.specs.declared.plans.End.TheVariants.{Done, RolledBack, ShortOld, ShortTarget, Split, JoinReady, JoinBack, Join}
-use Rattle.definitions.specs.Tree.{Tree, Branches, Ends, Does, Nothing, Branch, branch, among}
+use Rattle.call_laws.specs.Pieces.{branch}
+use Rattle.definitions.specs.Tree.{Tree, Branches, Ends, Does, Nothing, Branch, among}
 use Rattle.call_laws.specs.Lengths.{height, highest}
 use Rattle.plan_steps.specs.Fit.{is_fit, are_fit, short_after}
 use Rattle.call_replies.specs.Replies.{order_replies}

@@ -3,7 +3,8 @@ use Rattle.std.specs.Prelude.{ℕ, Bool, true, ◌&&◌, List, Option, None, Som
 use Rattle.std.specs.List.{list_all}
 use Rattle.vocabulary.specs.declared.plans.End.{End}
 use Rattle.vocabulary.specs.declared.plans.End.TheVariants.{Split}
-use Rattle.definitions.specs.Tree.{Tree, Branches, Ends, Does, Nothing, Branch, branch}
+use Rattle.call_laws.specs.Pieces.{branch}
+use Rattle.definitions.specs.Tree.{Tree, Branches, Ends, Does, Nothing, Branch}
 use Rattle.call_laws.specs.Lengths.{height}
 use Rattle.call_replies.specs.Replies.{order_replies}
 use Rattle.definitions.specs.Plans.{Turn, graft, weave, joined}

@@ -17,12 +17,12 @@ use Rattle.vocabulary.specs.declared.plans.PidNote.{PidNote}
 use Rattle.vocabulary.specs.declared.plans.Order.{Order}
 use Rattle.vocabulary.specs.declared.plans.Order.TheVariants.{Make, ForkLacking, AwaitLacking, KillLacking}
 use Rattle.vocabulary.specs.declared.reports.Entry.{Entry}
-use Rattle.definitions.specs.Tree.{Tree, Ends, Does, Branches, Nothing, Branch, branch}
-use Rattle.definitions.specs.Tree.{among, same_reply, reply_of, full_or_short, replies_to, call_of}
+use Rattle.definitions.specs.Tree.{Tree, Ends, Does, Branches, Nothing, Branch, among, same_reply, reply_of}
+use Rattle.definitions.specs.Tree.{full_or_short, replies_to, call_of}
 use Rattle.call_laws.specs.Lengths.{height, highest}
 use Rattle.call_replies.specs.Replies.{is_listed, order_replies}
 use Rattle.definitions.specs.Run.{ready_after, Lack, lacked_by, lacked_after, went_wrong}
-use Rattle.call_laws.specs.Pieces.{first_cause}
+use Rattle.call_laws.specs.Pieces.{first_cause, branch}
 use Rattle.plan_walk.specs.Path.{Trail, advance, Asks}
 use Rattle.rollback_plan.specs.Following.{follow}
 use Rattle.plan_steps.specs.declared.step.Step.{Step}

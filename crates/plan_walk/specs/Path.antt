@@ -4,7 +4,7 @@ use Rattle.vocabulary.specs.declared.calls.Answer.TheVariants as answer
 use Rattle.vocabulary.specs.declared.reports.Outcome.TheVariants as outcome
 use Rattle.definitions.specs.Tree.{reply_of, Done, PidNote, call_of, Tree, Ends, Does}
 use Rattle.definitions.specs.Run.{Entry, Report, Outcome, Sides, Lack, ready_after}
-use Rattle.definitions.specs.Run.{lacked_by, lacked_last, lacked_after, went_wrong, outcome_at}
+use Rattle.definitions.specs.Run.{lacked_by, lacked_last, lacked_after, went_wrong, outcome_of, At}
 use Rattle.call_laws.specs.Pieces.{first_cause}
 use Rattle.rollback_plan.specs.Following.{follow}
 
@@ -71,7 +71,7 @@ IsOver _ = Unit {0}
 -- the end that the path is at, or Lost where the last answer had no edge
 abbrev pub IsOutcome : Sides → Option Tree → List ℕ → Outcome → Type 0
 IsOutcome sides None lacking o = o ≡ outcome.Lost
-IsOutcome sides (Some (Ends end)) lacking o = o ≡ outcome_at sides end lacking
+IsOutcome sides (Some (Ends end)) lacking o = o ≡ outcome_of sides (At end) lacking
 IsOutcome sides (Some (Does by order set branches)) lacking o = ⊥
 
 pub record Reports (sides : Sides) (t : Trail) (report : Report) : Type 0 where

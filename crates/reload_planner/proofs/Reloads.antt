@@ -6,12 +6,12 @@ use Rattle.listener_set.specs.Numbers.{numbers_below}
 use Rattle.listener_set.specs.declared.generation.Generation.{Generation}
 use Rattle.definitions.specs.Table.{Address}
 use Rattle.definitions.specs.Crew.{Posts, Crew}
-use Rattle.definitions.specs.Target.{only_in, reload_generation}
-use Rattle.definitions.specs.After.{next_config, has_next, posts_wanted}
+use Rattle.definitions.specs.Target.{reload_generation, next_config, has_next}
+use Rattle.definitions.specs.After.{posts_wanted}
 use Rattle.definitions.specs.Record.{Record, addresses_of, crew_of}
 use Rattle.vocabulary.specs.Settings.{Settings}
 use Rattle.vocabulary.specs.declared.targets.Target.TheVariants.{Reload}
-use Rattle.definitions.specs.Plans.{Turn, reload_tree, plan_tree}
+use Rattle.definitions.specs.Plans.{Turn, reload_tree, plan_tree, only_in}
 use Rattle.definitions.specs.Tree.{Tree}
 use Rattle.call_laws.specs.Lengths.{height}
 use Rattle.rollback_plan.specs.declared.plan.Plan.{Plan}

@@ -1,6 +1,6 @@
 //! The plan that brings a new configuration.
 ghost use Rattle.std.specs.Prelude.{◌≡◌, ◌≤◌, ◌<◌, ◌+◌, ◌*◌, ◌↔◌, List, ℕ, [], None, length, reverse, take, IfOk, IfNone, IsErrOf, IsTrue, OnOk};
-ghost use Rattle.definitions.specs.After as after;
+ghost use Rattle.definitions.specs.Target as wanted;
 ghost use Rattle.definitions.specs.Tree.{Tree};
 ghost use Rattle.call_laws.specs.Lengths.{height};
 ghost use Rattle.definitions.specs.Plans.{Turn, reload_tree};
@@ -153,7 +153,7 @@ pub fn plan_reload(
     ensures sides { IfOk result (λ plan. sides_told plan ≡ scene.now.sides) }
     ensures text { IfOk result (λ plan. text_of plan ≡ []) }
     ensures few { IfOk result (λ plan. length (trees_in plan) ≤ length scene.now.ready + 4 * settings.now.workers + length old.now + 2 * length settings.now.listeners + 2 * (1 + 4 * scene.now.rounds) + 1) }
-    ensures numbered { IsErrOf result PlanRefusal.NoGeneration ↔ (after.next_config scene.now.crew.generation ≡ None) }
+    ensures numbered { IsErrOf result PlanRefusal.NoGeneration ↔ (wanted.next_config scene.now.crew.generation ≡ None) }
     ensures not_large { IsErrOf result PlanRefusal.TooLarge → ⊥ }
     ensures planned { IsErrOf result PlanRefusal.Unplanned → ⊥ }
 {

@@ -6,7 +6,8 @@ use Rattle.vocabulary.specs.declared.calls.Reply.{Reply}
 use Rattle.vocabulary.specs.declared.plans.End.{End}
 use Rattle.vocabulary.specs.declared.plans.End.TheVariants.{Done, RolledBack, ShortOld, ShortTarget, Split, JoinReady, JoinBack, Join}
 use Rattle.vocabulary.specs.declared.plans.PidNote.{PidNote}
-use Rattle.definitions.specs.Tree.{Tree, Branches, Ends, Does, branch, reply_of}
+use Rattle.call_laws.specs.Pieces.{branch}
+use Rattle.definitions.specs.Tree.{Tree, Branches, Ends, Does, reply_of}
 use Rattle.rollback_plan.specs.Following.{follow}
 use Rattle.definitions.specs.Plans.{Turn, New, Old, graft, graft_all, beside_all, weave, weave_all}
 use Rattle.plan_steps.specs.declared.parts.Parts.{Parts}

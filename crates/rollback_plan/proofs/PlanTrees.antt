@@ -6,7 +6,8 @@ use Rattle.vocabulary.specs.declared.calls.Reply.{Reply}
 use Rattle.vocabulary.specs.declared.calls.Answer.{Answer}
 use Rattle.vocabulary.specs.declared.plans.PidNote.{PidNote}
 use Rattle.vocabulary.specs.declared.plans.End.TheVariants.{Done}
-use Rattle.definitions.specs.Tree.{Tree, Ends, Does, Branch, branch, among, reply_of}
+use Rattle.call_laws.specs.Pieces.{branch}
+use Rattle.definitions.specs.Tree.{Tree, Ends, Does, Branch, among, reply_of}
 use Rattle.rollback_plan.specs.Following.{follow}
 use Rattle.plan_steps.specs.declared.step.Step.{Step}
 use Rattle.plan_steps.specs.declared.step.PlanEdge.{PlanEdge}

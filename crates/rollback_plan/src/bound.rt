@@ -1,7 +1,7 @@
 //! The last census of each master, which names the workers of a settle.
 ghost use Rattle.std.specs.Prelude.{◌≡◌, []};
 ghost use Rattle.definitions.specs.Tree.{call_of};
-ghost use Rattle.definitions.specs.Tree as tree;
+ghost use Rattle.call_laws.specs.Pieces as pieces;
 ghost use Rattle.definitions.specs.Run.{ready_after, lacked_by, lacked_last, lacked_after};
 ghost use Rattle.definitions.specs.Run as run;
 ghost use Rattle.rollback_plan.specs.Bounds.{newest_of, lacked_in};
@@ -49,7 +49,7 @@ impl Bound {
 
     /// The newest census of another master.
     fn beside(&self, by: Actor) -> Option<Lack>
-        ensures { newest_of result [] ≡ run.beside by (lacked_in self.now) }
+        ensures { newest_of result [] ≡ run.newest_of_others by (lacked_in self.now) }
     {
         of_another(self.newest, by).or(of_another(self.older, by))
     }
@@ -69,7 +69,7 @@ impl Bound {
 
     /// The lowest number that the last census of this master lacked.
     fn lowest(&self, by: Actor) -> u32
-        ensures { result ≡ tree.lowest (lacked_by by (lacked_in self.now)) }
+        ensures { result ≡ pieces.lowest (lacked_by by (lacked_in self.now)) }
     {
         self.lacked_by(by).lowest().unwrap_or(0)
     }
@@ -105,7 +105,7 @@ impl Bound {
 
 /// What a census lacked, unless it is this master's.
 fn of_another(lack: Option<Lack>, by: Actor) -> Option<Lack>
-    ensures { newest_of result [] ≡ run.beside by (newest_of lack []) }
+    ensures { newest_of result [] ≡ run.newest_of_others by (newest_of lack []) }
 {
     match lack {
         Some(other) if other.by != by => Some(other),

@@ -18,9 +18,9 @@ use Rattle.definitions.specs.Exits.{after_exits}
 use Rattle.definitions.specs.Calls.{gives, each_row, drop_where, is_exited_of, census_of, step_by, step_with, Handed}
 use Rattle.table_laws.proofs.Views.{eqb-refl}
 use Rattle.definitions.specs.Run.{Lack, lacked_by, lacked_after, went_wrong}
-use Rattle.definitions.specs.Tree.{Tree, Branches, Ends, Does, Nothing, Branch, among, reply_of, full_or_short, call_of, lowest}
+use Rattle.definitions.specs.Tree.{Tree, Branches, Ends, Does, Nothing, Branch, among, reply_of, full_or_short, call_of}
 use Rattle.definitions.specs.Plans.{settle, round, full_end, short_end, await_any_edges, then_edge}
-use Rattle.call_laws.specs.Pieces.{fork_edges, census_edges, census, first_cause}
+use Rattle.call_laws.specs.Pieces.{fork_edges, census_edges, census, first_cause, lowest}
 use Rattle.definitions.specs.Manner.{is_leave_call}
 use Rattle.definitions.specs.Crew.{Crew, fds_of, fork_of}
 use Rattle.definitions.specs.Run.{Progress, Ending, At, Lost, noted, after_call, after_moment, answered}

@@ -19,10 +19,11 @@ use Rattle.definitions.specs.Exits.{is_active_worker, change, losses_of, all_exi
 use Rattle.vocabulary.specs.declared.calls.Call.{Call}
 use Rattle.vocabulary.specs.declared.calls.Call.TheVariants.{AwaitGone, Fork, AwaitReady, Quit, Kill, Census, CloseAt, OpenAt, Usr1}
 use Rattle.vocabulary.specs.declared.calls.Answer.TheVariants.{IsReady, Gone, Opened, Counted as Told}
-use Rattle.definitions.specs.Tree.{Tree, Branches, Ends, Does, Nothing, full_or_short, lowest, call_of, reply_of}
+use Rattle.definitions.specs.Tree.{Tree, Branches, Ends, Does, Nothing, full_or_short, call_of, reply_of}
 use Rattle.listener_set.specs.Numbers.{is_in, lacks}
 use Rattle.definitions.specs.Plans.{awaits_gone, on, forks_any}
-use Rattle.call_laws.specs.Pieces.{gone_edges, usr1s, kills, fork_edges, await_edges, census_edges, census, quits, first_cause}
+use Rattle.call_laws.specs.Pieces.{gone_edges, usr1s, kills, fork_edges, await_edges, census_edges, census, quits}
+use Rattle.call_laws.specs.Pieces.{first_cause, lowest}
 use Rattle.definitions.specs.Plans.{awaits_any, then_edge, does, forks}
 use Rattle.definitions.specs.Plans.{awaits, starts, settle, round, full_end, short_end, await_any_edges}
 use Rattle.vocabulary.specs.declared.plans.Side.{Side}
@@ -36,7 +37,7 @@ use Rattle.definitions.specs.Crew.{Crew, fds_of, fork_of}
 use Rattle.run_laws.proofs.Refusals.{is_leave}
 use Rattle.vocabulary.specs.declared.calls.Reply.TheVariants as reply
 use Rattle.definitions.specs.Run.{Progress, Return, after_moment, after_call, Ending, At, answered, lacked_last}
-use Rattle.definitions.specs.Run.{went_wrong, Lack, lacked_by, beside, lacked_after}
+use Rattle.definitions.specs.Run.{went_wrong, Lack, lacked_by, newest_of_others, lacked_after}
 use Rattle.table_laws.proofs.Rows.{one, weigh, weigh-le-all, count-weigh, both-true, or-left, or-right}
 use Rattle.call_laws.proofs.Choices.{and-left, and-right}
 use Rattle.table_laws.proofs.Views.{HoldsShare, Names, named, View, Once, Looks, live_any, ready_in, finds, eqb-is, eqb-refl, eqb-off}
@@ -115,10 +116,10 @@ also g x t h k = t h k || bears g x h k
 pub own-lacked : (image : ℕ) (set ns : List ℕ) (lacked : List Lack) → lacked_by image (lacked_after image set (Told ns) lacked) ≡ lacks set ns
 own-lacked image set ns lacked = rw (eqb-refl image image refl) refl
 
-beside-none : (image other : ℕ) (lacked : List Lack) → other ≢ image → lacked_by image lacked ≡ [] → lacked_by image (beside other lacked) ≡ []
+beside-none : (image other : ℕ) (lacked : List Lack) → other ≢ image → lacked_by image lacked ≡ [] → lacked_by image (newest_of_others other lacked) ≡ []
 beside-none image other [] ne h = refl
 beside-none image other (lack ∷ lacked) ne h =
-    elim (lack.by == other) as (λ b. lack.by == other ≡ b → lacked_by image (if b then beside other lacked else lack ∷ []) ≡ []) [
+    elim (lack.by == other) as (λ b. lack.by == other ≡ b → lacked_by image (if b then newest_of_others other lacked else lack ∷ []) ≡ []) [
       | true ↦ λ same.
           let off : (lack.by == image) ≡ false = eqb-off lack.by image (λ e. ne (sym (eqb-is lack.by other same) ∙ e)) in
           beside-none image other lacked ne (subst (λ (b : Bool). (if b then lack.numbers else lacked_by image lacked) ≡ []) off h)

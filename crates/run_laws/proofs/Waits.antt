@@ -21,7 +21,7 @@ use Rattle.definitions.specs.Tree.{Tree, Nothing, among, reply_of, full_or_short
 use Rattle.definitions.specs.Plans.{on, does, then_edge, awaits_gone}
 use Rattle.call_laws.specs.Pieces.{gone_edges, quits}
 use Rattle.definitions.specs.Run.{Progress, Lost, after_call}
-use Rattle.definitions.specs.Manner.{is_quit_of, is_wait_of, is_late, is_leave_call, was_late, was_waited_for}
+use Rattle.definitions.specs.Manner.{is_quit, is_wait, is_late, is_leave_call, was_late, was_waited_for}
 use Rattle.definitions.specs.Manner.{IsKillDue, KillsAreDue, before_leave}
 use Rattle.definitions.specs.Claims.{names_any}
 use Rattle.table_laws.proofs.Rows.{both-true}
@@ -61,7 +61,7 @@ is-late set answer.MasterGone e = absurd (cc e)
 
 -- what was done: told to quit, and waited for
 abbrev pub Told : Generation → ℕ → List Entry → Type 0
-Told g k past = list_any (λ e. is_quit_of g k e.call) past ≡ true
+Told g k past = list_any (λ e. is_quit (bears g k) e.call) past ≡ true
 
 abbrev pub Waited : Generation → ℕ → List Entry → Type 0
 Waited g k past = was_waited_for g k past ≡ true
@@ -71,10 +71,10 @@ abbrev pub AllWaited : Generation → List ℕ → List Entry → Type 0
 AllWaited g ready past = (k : ℕ) → is_in ready k ≡ true → Waited g k past
 
 pub told-on : (g : Generation) (k : ℕ) → Growing (Told g k)
-told-on g k past e h = any-more (λ e. is_quit_of g k e.call) past e h
+told-on g k past e h = any-more (λ e. is_quit (bears g k) e.call) past e h
 
 pub waited-on : (g : Generation) (k : ℕ) → Growing (Waited g k)
-waited-on g k past e h = then-more (λ e. is_quit_of g k e.call) (λ e. is_wait_of g k e.call) past e h
+waited-on g k past e h = then-more (λ e. is_quit (bears g k) e.call) (λ e. is_wait (bears g k) e.call) past e h
 
 pub all-waited-on : (g : Generation) (ready : List ℕ) → Growing (AllWaited g ready)
 all-waited-on g ready past e h = λ k on. waited-on g k past e (h k on)
@@ -107,7 +107,7 @@ module _ (by : ℕ) (g : Generation) (due : Asking) (post : Finally) (mild : Exi
           tt,
         )
         (past ++ e ∷ []) (reply_of [] st.answer) (after_call by (Make (Quit g x)) [] st q)
-        (grows past e k, any-last (λ e. is_quit_of g x e.call) past e (bears-refl g x))
+        (grows past e k, any-last (λ e. is_quit (bears g x) e.call) past e (bears-refl g x))
         (keeps co.handed x fate q.table h)) past p known h
 
     -- what follows a wait, where the answer tells which
@@ -154,14 +154,14 @@ module _ (by : ℕ) (g : Generation) (due : Asking) (post : Finally) (mild : Exi
         let st = step_with co.handed by (AwaitGone g x) fate1 q1.table in
         let e = entry_of by (AwaitGone g x) st.answer in
         let told_x = told past1 k1 x (in-here x x ks refl) in
-        let waited : Waited g x (past1 ++ e ∷ []) = then-last (λ e. is_quit_of g x e.call) (λ e. is_wait_of g x e.call) past1 e told_x (bears-refl g x) in
+        let waited : Waited g x (past1 ++ e ∷ []) = then-last (λ e. is_quit (bears g x) e.call) (λ e. is_wait (bears g x) e.call) past1 e told_x (bears-refl g x) in
         let known' : K' (past1 ++ e ∷ []) = (grows past1 e k1, waited) in
         let q' = after_call by (Make (AwaitGone g x)) [] st q1 in
         let h' = keeps co.handed x fate1 q1.table h1 in
         gone-behind more killing (past1 ++ e ∷ []) st.answer q' (goes_on (past1 ++ e ∷ []) q' known' h')
         (λ is.
         let was : was_late g x (past1 ++ e ∷ []) ≡ true =
-        then-last (λ e. is_quit_of g x e.call) (λ e. is_wait_of g x e.call && is_late e.answer) past1 e told_x
+        then-last (λ e. is_quit (bears g x) e.call) (λ e. is_wait (bears g x) e.call && is_late e.answer) past1 e told_x
         (both-true (bears g x g x) (is_late st.answer) (bears-refl g x) (ap is_late is)) in
         good-step due post mild co lost F (λ l. K' l × (was_late g x l ≡ true)) by (Kill g x) [] (then_edge more) refl
         exits (λ past t k h. asks_kill past x t k.1 h)

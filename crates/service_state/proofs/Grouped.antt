@@ -6,8 +6,8 @@ use Rattle.worker_groups.specs.declared.groups.Group.{Group}
 use Rattle.listener_set.specs.AddressList.{has}
 use Rattle.vocabulary.specs.declared.table.Listener.{Listener}
 use Rattle.definitions.specs.Table.{Address}
-use Rattle.definitions.specs.After.{listens_on}
-use Rattle.definitions.specs.Crew.{descriptors_at, descriptors_by, addresses_of_group, Posts, posts_of}
+use Rattle.definitions.specs.After.{listens_on, descriptors_at, descriptors_by, posts_of}
+use Rattle.definitions.specs.Crew.{addresses_of_group, Posts}
 
 -- what is listened on is an address of a listener
 pub listens-has : (ls : List Listener) (a : Address) → listens_on ls a ≡ has (map (λ (l : Listener). l.address) ls) a

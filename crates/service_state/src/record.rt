@@ -3,7 +3,9 @@ ghost use Rattle.std.specs.Prelude.{◌≡◌, ◌<◌, ◌≤◌, Option, Some,
 ghost use Rattle.std.specs.List.{AllByRecursion};
 ghost use Rattle.call_laws.specs.Start.{started};
 ghost use Rattle.definitions.specs.Record.{Record as Known};
-ghost use Rattle.definitions.specs.After.{renewed, upgraded, next_image, target_record, old_record, named_record, reported, keeps_rules, record_from, record_after};
+ghost use Rattle.definitions.specs.Target.{next_image};
+ghost use Rattle.definitions.specs.After.{renewed, upgraded, target_record, old_record, named_record, reported};
+ghost use Rattle.definitions.specs.After.{keeps_rules, record_from, record_after};
 ghost use Rattle.service_state.specs.Setups.{basis_of, on_basis};
 
 use crate::setup::{Setup, next_config, next_image};

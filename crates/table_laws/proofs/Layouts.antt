@@ -11,7 +11,8 @@ use Rattle.listener_set.specs.Numbers.{RisesFrom, is_in}
 use Rattle.vocabulary.specs.declared.table.Listener.{Listener}
 use Rattle.definitions.specs.Table.{Address, Hold, has_address}
 use Rattle.definitions.specs.Calls.{lacks_address, shared}
-use Rattle.definitions.specs.Crew.{Posts, Group, group_of, fds_in, share, descriptors_at, descriptors_by, posts_of, layout_in, addresses_of_group}
+use Rattle.definitions.specs.After.{descriptors_at, descriptors_by, posts_of}
+use Rattle.definitions.specs.Crew.{Posts, Group, group_of, fds_in, share, layout_in, addresses_of_group}
 use Rattle.definitions.specs.Record.{listener_of}
 use Rattle.table_laws.proofs.Rows.{every-both, every-more}
 use Rattle.table_laws.proofs.Views.{eqb-refl, eqb-off}

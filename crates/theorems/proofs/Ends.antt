@@ -17,9 +17,8 @@ use Rattle.definitions.specs.Crew.{share, Layout, served, short_at, shortfalls_o
 use Rattle.definitions.specs.Record.{Record, IsRecord, Agrees, FilesAre, addresses_of, layout_of}
 use Rattle.vocabulary.specs.declared.targets.Target.{Target}
 use Rattle.listener_set.specs.AddressList.{has}
-use Rattle.definitions.specs.Target.{reload_generation, upgrade_generation}
-use Rattle.definitions.specs.After.{next_config, next_image, has_next, named_record, reported, record_from}
-use Rattle.definitions.specs.After.{record_after, keeps_rules, master_of}
+use Rattle.definitions.specs.Target.{reload_generation, upgrade_generation, next_config, next_image, has_next}
+use Rattle.definitions.specs.After.{named_record, reported, record_from, record_after, keeps_rules, master_of}
 use Rattle.std.specs.Bool.{then_some}
 use Rattle.vocabulary.specs.Settings.{HasSuffixRoom}
 use Rattle.definitions.specs.Run.{Ending, Progress, outcome_of, Sides, lacked_last}

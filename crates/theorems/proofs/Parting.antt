@@ -4,9 +4,10 @@ use Rattle.std.proofs.Common.{arith, ◌∙◌, ◌⊎◌, subst, inl, inr, ⊎_
 use Rattle.std.proofs.lemmas.Bool.Decides.{nat_tests}
 use Rattle.vocabulary.specs.declared.calls.Answer.{Answer}
 use Rattle.vocabulary.specs.declared.calls.Answer.TheVariants as answer
-use Rattle.definitions.specs.Tree.{Tree, Branches, Ends, Does, Nothing, Branch, End, PidNote, Order, Reply, among, branch, reply_of, call_of}
+use Rattle.definitions.specs.Tree.{Tree, Branches, Ends, Does, Nothing, Branch, End, PidNote, Order, Reply, among}
+use Rattle.definitions.specs.Tree.{reply_of, call_of}
 use Rattle.definitions.specs.Run.{Entry, Lack, lacked_by, lacked_after}
-use Rattle.call_laws.specs.Pieces.{lacking_after}
+use Rattle.call_laws.specs.Pieces.{lacking_after, branch}
 use Rattle.definitions.specs.Run as run
 use Rattle.definitions.specs.Plans.{Turn, New, Old, graft, graft_all, beside, beside_all, weave, weave_all}
 use Rattle.theorems.specs.Apart.{turns_used, rest_of, IsOf, AreOf, Walks, WalksAll, AreCountsOf, of_master, Plays}
@@ -44,7 +45,7 @@ own-after a set answer.Back lacked = refl
 own-after a set answer.MasterGone lacked = refl
 
 -- the newest of another master is the last count of the other of two
-beside-other : (a b : ℕ) → a ≢ b → (lacked : List Lack) → AreCountsOf a b lacked → lacked_by b (run.beside a lacked) ≡ lacked_by b lacked
+beside-other : (a b : ℕ) → a ≢ b → (lacked : List Lack) → AreCountsOf a b lacked → lacked_by b (run.newest_of_others a lacked) ≡ lacked_by b lacked
 beside-other a b ne [] theirs = refl
 beside-other a b ne (lack ∷ lacked) theirs =
     ⊎_elim
@@ -81,10 +82,10 @@ swapped : (a b : ℕ) (lacked : List Lack) → AreCountsOf a b lacked → AreCou
 swapped a b [] theirs = tt
 swapped a b (lack ∷ lacked) theirs = (⊎_elim (λ e. inr e) (λ e. inl e) theirs.0, swapped a b lacked theirs.1)
 
-beside-theirs : (a b m : ℕ) (lacked : List Lack) → AreCountsOf a b lacked → AreCountsOf a b (run.beside m lacked)
+beside-theirs : (a b m : ℕ) (lacked : List Lack) → AreCountsOf a b lacked → AreCountsOf a b (run.newest_of_others m lacked)
 beside-theirs a b m [] theirs = tt
 beside-theirs a b m (lack ∷ lacked) theirs =
-    elim (lack.by == m) as (λ x. AreCountsOf a b (if x then run.beside m lacked else lack ∷ [])) [
+    elim (lack.by == m) as (λ x. AreCountsOf a b (if x then run.newest_of_others m lacked else lack ∷ [])) [
       | true ↦ beside-theirs a b m lacked theirs.1
       | false ↦ (theirs.0, tt)
     ]

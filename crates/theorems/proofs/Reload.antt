@@ -8,15 +8,15 @@ use Rattle.listener_set.specs.declared.generation.Generation.{Generation}
 use Rattle.definitions.specs.Calls.{lacks_address, put_hold}
 use Rattle.definitions.specs.Tree.{Tree}
 use Rattle.listener_set.specs.Numbers.{RisesFrom, is_in, numbers_below}
-use Rattle.definitions.specs.Plans.{plan_tree, reload_on, reload_tree, starts, settle, opens, reload_back}
+use Rattle.definitions.specs.Plans.{plan_tree, reload_on, reload_tree, starts, settle, opens, reload_back, only_in}
 use Rattle.call_laws.specs.Pieces.{closes, census, census_edges}
 use Rattle.listener_set.specs.AddressList.{has}
-use Rattle.definitions.specs.Crew.{Posts, Crew, Layout, share, group_of, posts_of, layout_in, short_at, shortfalls_of}
-use Rattle.definitions.specs.Target.{Sides, only_in, reload_generation, want, wanted_at, sides_of}
+use Rattle.definitions.specs.Crew.{Posts, Crew, Layout, share, group_of, layout_in, short_at, shortfalls_of}
+use Rattle.definitions.specs.Target.{Sides, reload_generation, want, wanted_at, sides_of, next_config}
 use Rattle.vocabulary.specs.declared.targets.Target.TheVariants.{Reload}
 use Rattle.vocabulary.specs.Settings.{Settings, IsInRange}
-use Rattle.definitions.specs.After.{crew_wanted, posts_wanted, named_record, reported, renewed, reloaded}
-use Rattle.definitions.specs.After.{with_added, all_opened, still_wanted, next_config}
+use Rattle.definitions.specs.After.{crew_wanted, posts_wanted, named_record, reported, renewed, reloaded, with_added}
+use Rattle.definitions.specs.After.{all_opened, still_wanted, posts_of}
 use Rattle.table_laws.proofs.Listeners.{fds, opens-on, all_closed, closed-kept, added-is, fds-listed, some-held}
 use Rattle.table_laws.proofs.Layouts.{told, share-lacks-none, share-listens}
 use Rattle.table_laws.proofs.Shares.{share-lacks, shortfalls-sum}

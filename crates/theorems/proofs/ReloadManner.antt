@@ -9,10 +9,10 @@ use Rattle.vocabulary.specs.Settings.{Settings}
 use Rattle.definitions.specs.Table.{Address, Table, bears, same_generation}
 use Rattle.definitions.specs.Crew.{Crew}
 use Rattle.definitions.specs.Record.{Record, addresses_of, crew_of}
-use Rattle.definitions.specs.Target.{only_in, reload_generation, sides_of}
+use Rattle.definitions.specs.Target.{reload_generation, sides_of}
 use Rattle.definitions.specs.After.{crew_wanted}
 use Rattle.definitions.specs.Tree.{Tree}
-use Rattle.definitions.specs.Plans.{plan_tree, reload_tree, reload_on, reload_back, settle}
+use Rattle.definitions.specs.Plans.{plan_tree, reload_tree, reload_on, reload_back, settle, only_in}
 use Rattle.call_laws.specs.Pieces.{closes}
 use Rattle.definitions.specs.Run.{Pattern, Progress, Ending, At, start_at, outcome_of, lacked_last}
 use Rattle.definitions.specs.Manner.{has_ready, is_old_side}

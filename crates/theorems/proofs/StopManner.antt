@@ -17,7 +17,7 @@ use Rattle.definitions.specs.Tree.{Tree, Branches, Ends, Does, Nothing, Branch, 
 use Rattle.definitions.specs.Plans.{then_edge, note_edges, plan_tree, stop_tree, awaits_gone, removes, remove_oldbin_too, has_oldbin, stopped}
 use Rattle.call_laws.specs.Pieces.{kills}
 use Rattle.definitions.specs.Run.{Lost, Pattern, Progress, Ran, run_with, goes_with, noted, after_call, after_moment, answered, start_at}
-use Rattle.definitions.specs.Manner.{is_quit_call, is_leave_call, was_late, IsKillDue}
+use Rattle.definitions.specs.Manner.{is_quit, is_leave_call, was_late, IsKillDue}
 use Rattle.definitions.specs.Claims.{names_any}
 use Rattle.theorems.proofs.Headlines.{InManner}
 use Rattle.table_laws.proofs.Small.{in-reverse}
@@ -75,19 +75,19 @@ mutual
         | false ↦ there
       ]
 
-never-kills : (by : ℕ) (g : Generation) (ks : List ℕ) (rest : Tree) → NeverCalls is_quit_call rest → NeverCalls is_quit_call (kills by g ks rest)
+never-kills : (by : ℕ) (g : Generation) (ks : List ℕ) (rest : Tree) → NeverCalls (is_quit (λ g k. true)) rest → NeverCalls (is_quit (λ g k. true)) (kills by g ks rest)
 never-kills by g [] rest h = h
 never-kills by g (x ∷ ks) rest h = (refl, (never-kills by g ks rest h, tt))
 
 never-removes :
-    (by : ℕ) (path : Option FilePath) (note : PidNote) (rest : Tree) → NeverCalls is_quit_call rest →
-    NeverCalls is_quit_call (removes by path note rest)
+    (by : ℕ) (path : Option FilePath) (note : PidNote) (rest : Tree) → NeverCalls (is_quit (λ g k. true)) rest →
+    NeverCalls (is_quit (λ g k. true)) (removes by path note rest)
 never-removes by None note rest h = h
 never-removes by (Some path) note rest h =
     let more = too (has_oldbin note) in
     (refl, (more, (more, tt)))
   where
-    too : (b : Bool) → NeverCalls is_quit_call (remove_oldbin_too by path b rest)
+    too : (b : Bool) → NeverCalls (is_quit (λ g k. true)) (remove_oldbin_too by path b rest)
     too true = (refl, (h, (h, tt)))
     too false = h
 
@@ -179,7 +179,7 @@ leave-due g ready past _ t e h = absurd (cc e)
 
 pub stop_manner : (quick : Bool) → InManner (Stop quick)
 stop_manner true t r turns pattern a =
-    never-called is_quit_call None (plan_tree r (Stop true) []) pattern (start_at t r.note)
+    never-called (is_quit (λ g k. true)) None (plan_tree r (Stop true) []) pattern (start_at t r.note)
     (never-kills r.generation.image r.generation r.ready (removes r.generation.image r.pid_path r.note (stopped r.generation.image)) (never-removes r.generation.image r.pid_path r.note (stopped r.generation.image) (refl, (tt, tt))))
 stop_manner false t r turns pattern a =
     let tree = plan_tree r (Stop false) [] in

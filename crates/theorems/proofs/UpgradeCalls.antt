@@ -13,12 +13,11 @@ use Rattle.definitions.specs.Table.{Address, FilePath, File, Hold, bears, same_g
 use Rattle.definitions.specs.Calls.{each_row, drop_where, with_file, put_hold, lacks_address, is_exited_of, census_of}
 use Rattle.definitions.specs.Crew.{fork_of}
 use Rattle.definitions.specs.Record.{FilesAre, oldbin, listener_of}
-use Rattle.definitions.specs.Target.{only_in}
 use Rattle.vocabulary.specs.declared.plans.End.{End}
 use Rattle.vocabulary.specs.declared.plans.End.TheVariants.{JoinReady, JoinBack}
 use Rattle.vocabulary.specs.declared.plans.Turn.{Turn}
 use Rattle.definitions.specs.Tree.{Tree, Ends, full_or_short}
-use Rattle.definitions.specs.Plans.{joined, weave, graft, tries, tries_all, pid_calls, new_part, back_from}
+use Rattle.definitions.specs.Plans.{joined, weave, graft, tries, tries_all, pid_calls, new_part, back_from, only_in}
 use Rattle.vocabulary.specs.declared.calls.Answer.TheVariants as answer
 use Rattle.definitions.specs.Run.{went_wrong, lacked_by, lacked_after, Progress}
 use Rattle.call_laws.specs.Pieces.{first_cause}

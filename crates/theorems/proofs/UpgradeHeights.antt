@@ -16,13 +16,11 @@ use Rattle.definitions.specs.Crew.{Crew, fork_of}
 use Rattle.definitions.specs.Tree.{Tree, Ends, Done, Split, JoinReady, JoinBack}
 use Rattle.call_laws.specs.Lengths.{height}
 use Rattle.definitions.specs.Record.{Listener, addresses_of, crew_of}
-use Rattle.definitions.specs.Target.{only_in}
 use Rattle.definitions.specs.After.{crew_wanted}
-use Rattle.definitions.specs.Plans.{does, tries, tries_all, pid_calls, awaits_gone, forks_any, awaits_any}
+use Rattle.definitions.specs.Plans.{does, tries, tries_all, pid_calls, awaits_gone, forks_any, awaits_any, starts_any}
+use Rattle.definitions.specs.Plans.{asks, retire, relieve, hand_over, remove_oldbin, back_serving, back_late, back_from}
+use Rattle.definitions.specs.Plans.{back_alone, move_back, move_aside, settle, new_calls, old_part, only_in}
 use Rattle.call_laws.specs.Pieces.{quits, spawn_edges}
-use Rattle.definitions.specs.Plans.{starts_any, asks, retire, relieve, hand_over, remove_oldbin, back_serving}
-use Rattle.definitions.specs.Plans.{back_late, back_from, back_alone, move_back, move_aside, settle}
-use Rattle.definitions.specs.Plans.{new_calls, old_part}
 use Rattle.call_laws.specs.Lengths.{upgrade_length}
 use Rattle.run_laws.specs.Lengths.{UpgradesAreShort}
 use Rattle.table_laws.proofs.Sets.{below-length}

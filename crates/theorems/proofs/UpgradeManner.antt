@@ -29,8 +29,8 @@ use Rattle.definitions.specs.Tree.{Tree, Branches, Ends, Does, Nothing, Branch, 
 use Rattle.definitions.specs.Plans.{upgrade_tree, settle, awaits_gone, then_edge, does}
 use Rattle.call_laws.specs.Pieces.{quits, gone_edges}
 use Rattle.definitions.specs.Run.{Progress, Lost, start_at, outcome_of, noted, after_call, ready_after, lacked_last}
-use Rattle.definitions.specs.Manner.{has_ready, is_lost, is_old_side, is_process_of, is_quit_of, is_wait_of}
-use Rattle.definitions.specs.Manner.{is_wait_call, is_late, is_leave_call, was_late, IsKillDue, KillsAreDue, Manner}
+use Rattle.definitions.specs.Manner.{has_ready, is_lost, is_old_side, is_process_of, is_quit, is_wait}
+use Rattle.definitions.specs.Manner.{is_late, is_leave_call, was_late, IsKillDue, KillsAreDue, Manner}
 use Rattle.definitions.specs.Claims.{names_any}
 use Rattle.theorems.proofs.Headlines.{InManner}
 use Rattle.run_laws.proofs.Refusals.{is_leave}
@@ -89,7 +89,7 @@ module _ (c : Given) (p k : ℕ) (on : has_ready c.t p k ≡ true) where
 
   -- it stands at an end on the old side, unless its master had waited for it to go
   abbrev stays : Finally
-  stays past e q = is_old_side (outcome_of (sides_of c.rec (Upgrade c.st)) e (lacked_last q.lacked)) ≡ true → list_any (λ e. is_wait_call e.call) past ≡ false → F q.table
+  stays past e q = is_old_side (outcome_of (sides_of c.rec (Upgrade c.st)) e (lacked_last q.lacked)) ≡ true → list_any (λ e. is_wait (λ g k. true) e.call) past ≡ false → F q.table
 
   abbrev no_asking : Asking
   no_asking past call t = ⊤
@@ -111,7 +111,7 @@ module _ (c : Given) (p k : ℕ) (on : has_ready c.t p k ≡ true) where
 
   -- someone was waited for
   abbrev Waits : List Entry → Type 0
-  Waits past = list_any (λ e. is_wait_call e.call) past ≡ true
+  Waits past = list_any (λ e. is_wait (λ g k. true) e.call) past ≡ true
 
   abbrev edges : List ℕ → Tree → ℕ → Branches
   edges xs rest x = let more = awaits_gone c.rec.generation.image (g c) xs rest in gone_edges more (does c.rec.generation.image (Kill (g c) x) (then_edge more))
@@ -125,11 +125,11 @@ module _ (c : Given) (p k : ℕ) (on : has_ready c.t p k ≡ true) where
       (λ past q' fate known h.
       let st = step_with (co c).handed c.rec.generation.image (AwaitGone (g c) x) fate q'.table in
       robust-behind no_asking stays (Unlost p) (λ t. ⊤) Waits (λ es t h. tt) (λ handed by call fate t h. tt)
-      (λ past e w. any-more (λ e. is_wait_call e.call) past e w) (λ past call t w h. tt)
+      (λ past e w. any-more (λ e. is_wait (λ g k. true) e.call) past e w) (λ past call t w h. tt)
       (λ past e q w h old none. absurd (cc (w, none))) (co c) (edges xs rest x)
       (past ++ entry_of c.rec.generation.image (AwaitGone (g c) x) st.answer ∷ []) (reply_of [] st.answer)
       (after_call c.rec.generation.image (Make (AwaitGone (g c) x)) [] st q')
-      (any-last (λ e. is_wait_call e.call) past (entry_of c.rec.generation.image (AwaitGone (g c) x) st.answer) refl) tt) past q tt tt)
+      (any-last (λ e. is_wait (λ g k. true) e.call) past (entry_of c.rec.generation.image (AwaitGone (g c) x) st.answer) refl) tt) past q tt tt)
 
   first-of : (l : List ℕ) → is_in l k ≡ true → (x : ℕ) × (xs : List ℕ) × (l ≡ x ∷ xs)
   first-of [] e = absurd (cc e)
@@ -299,7 +299,7 @@ module _ (c : Given) (p k : ℕ) (on : has_ready c.t p k ≡ true) where
       (gone-cases (co c).handed by (record { number = c.rec.pid; holds = hs }) (g c) x fate q'.table P
       (let late = entry_of by (AwaitGone (g c) x) answer.Late in
       let was : was_late (g c) x (past ++ late ∷ []) ≡ true =
-      then-last (λ e. is_quit_of (g c) x e.call) (λ e. is_wait_of (g c) x e.call && is_late e.answer) past late
+      then-last (λ e. is_quit (bears (g c) x) e.call) (λ e. is_wait (bears (g c) x) e.call && is_late e.answer) past late
       (told' x (in-here x x ks refl)) (both-true (bears (g c) x (g c) x) true (bears-refl (g c) x) refl) in
       good-step LateFirst anyway Anyhow (co c) not-lost Loose
       (λ l. (was_late (g c) x l ≡ true) × ((j : ℕ) → is_in ks j ≡ true → Told (g c) j l)) by (Kill (g c) x) []
@@ -311,12 +311,12 @@ module _ (c : Given) (p k : ℕ) (on : has_ready c.t p k ≡ true) where
       (λ (st : Stepped). TracedBehind LateFirst anyway Anyhow (co c) (past2 ++ entry_of by (Kill (g c) x) st.answer ∷ []) (then_edge more) (reply_of [] st.answer) (after_call c.rec.generation.image (Make (Kill (g c) x)) [] st q2))
       (sym is)
       (after (past2 ++ entry_of by (Kill (g c) x) answer.Fine ∷ []) (after_call c.rec.generation.image (Make (Kill (g c) x)) [] (gives answer.Fine (Cut x q2.table)) q2) q2.table
-      (λ j e. any-more (λ e. is_quit_of (g c) j e.call) past2 (entry_of by (Kill (g c) x) answer.Fine) (k2.1 j e)) h2 refl))
+      (λ j e. any-more (λ e. is_quit (bears (g c) j) e.call) past2 (entry_of by (Kill (g c) x) answer.Fine) (k2.1 j e)) h2 refl))
       (past ++ late ∷ []) (after_call c.rec.generation.image (Make (AwaitGone (g c) x)) [] (gives answer.Late q'.table) q')
-      (was, λ j e. any-more (λ e. is_quit_of (g c) j e.call) past late (told' j (in-there x j ks e))) h')
+      (was, λ j e. any-more (λ e. is_quit (bears (g c) j) e.call) past late (told' j (in-there x j ks e))) h')
       (let gone = entry_of by (AwaitGone (g c) x) answer.Gone in
       after (past ++ gone ∷ []) (after_call c.rec.generation.image (Make (AwaitGone (g c) x)) [] (gives answer.Gone (Cut x q'.table)) q') q'.table
-      (λ j e. any-more (λ e. is_quit_of (g c) j e.call) past gone (told' j (in-there x j ks e))) h' refl)))
+      (λ j e. any-more (λ e. is_quit (bears (g c) j) e.call) past gone (told' j (in-there x j ks e))) h' refl)))
       past q told h
 
   relieved-close :
@@ -509,7 +509,7 @@ manner-of c turns spared =
         let ran = run_in (co c) tree at in
         refused_in (co c) tree at ≡ None →
         is_old_side (outcome_of (sides_of c.rec (Upgrade c.st)) ran.ending (lacked_last ran.last.lacked)) ≡ true →
-        list_any (λ e. is_wait_call e.call) ran.entries ≡ false → (b : Bool) → is_lost p ran.passed ≡ b →
+        list_any (λ e. is_wait (λ g k. true) e.call) ran.entries ≡ false → (b : Bool) → is_lost p ran.passed ≡ b →
         (has_ready ran.last.table p k ≡ true) ⊎ (is_lost p ran.passed ≡ true)
     stays-it c p k on spared old none true e = inr e
     stays-it c p k on spared old none false e =
@@ -517,7 +517,7 @@ manner-of c turns spared =
         let at = start_at c.t c.rec.note in
         let all =
         from-traced (λ past call t. ⊤)
-        (λ past e q. is_old_side (outcome_of (sides_of c.rec (Upgrade c.st)) e (lacked_last q.lacked)) ≡ true → list_any (λ e. is_wait_call e.call) past ≡ false → Stands c.rec.pid c.rec.generation.image p c.rec.generation k (first-low c.t c.rec c.start p k on) q.table)
+        (λ past e q. is_old_side (outcome_of (sides_of c.rec (Upgrade c.st)) e (lacked_last q.lacked)) ≡ true → list_any (λ e. is_wait (λ g k. true) e.call) past ≡ false → Stands c.rec.pid c.rec.generation.image p c.rec.generation k (first-low c.t c.rec c.start p k on) q.table)
         (Unlost p) (co c) [] tree at (stays-traced c p k on turns) spared (are-unlost p (co c) tree at e) in
         inl
         (stands-ready c.rec.pid c.rec.generation.image p c.rec.generation k (first-low c.t c.rec c.start p k on) (run_in (co c) tree at).last.table (all.last old none))

@@ -22,12 +22,13 @@ use Rattle.definitions.specs.Exits.{after_exits}
 use Rattle.definitions.specs.Calls.{Stepped, step_by, step_with, Handed}
 use Rattle.definitions.specs.Crew.{fork_of}
 use Rattle.definitions.specs.Manner.{is_leave_call}
-use Rattle.definitions.specs.Tree.{Tree, Branches, Ends, Does, Nothing, Branch, among, full_or_short, lowest, reply_of, plain_reply, replies_to}
+use Rattle.definitions.specs.Tree.{Tree, Branches, Ends, Does, Nothing, Branch, among, full_or_short, reply_of}
+use Rattle.definitions.specs.Tree.{plain_reply, replies_to}
 use Rattle.definitions.specs.Plans.{beside, graft, weave, joined}
 use Rattle.definitions.specs.Run.{Lack, lacked_by, lacked_after, Progress, Lost, noted, after_call}
 use Rattle.run_laws.proofs.Rules.{own-lacked}
 use Rattle.definitions.specs.Plans.{on, round, await_any_edges, then_edge, tries, tries_all}
-use Rattle.call_laws.specs.Pieces.{census, census_edges, fork_edges}
+use Rattle.call_laws.specs.Pieces.{census, census_edges, fork_edges, lowest}
 use Rattle.definitions.specs.Claims.{names_any}
 use Rattle.run_laws.proofs.Logic.{Exiting}
 use Rattle.call_laws.proofs.Cases.{fork-cases, await-cases, open-cases, adopt-cases, unfailing}

@@ -12,10 +12,10 @@ use Rattle.vocabulary.specs.declared.plans.End.TheVariants.{Done, RolledBack, Sh
 use Rattle.vocabulary.specs.Settings.{Settings, IsInRange}
 use Rattle.definitions.specs.Table.{Address, File, Hold, Process, Table, same_generation, has_address, is_worker, is_ready}
 use Rattle.definitions.specs.Service.{Service, service}
-use Rattle.definitions.specs.Crew.{Posts, Crew, Layout, share, group_of, posts_of, layout_in, short_at, shortfalls_of}
+use Rattle.definitions.specs.Crew.{Posts, Crew, Layout, share, group_of, layout_in, short_at, shortfalls_of}
 use Rattle.definitions.specs.Record.{Record, Agrees, FilesAre, addresses_of, crew_of, layout_of, listener_of}
-use Rattle.definitions.specs.Target.{Sides, upgrade_generation, want, wanted_at, sides_of, handover_for}
-use Rattle.definitions.specs.After.{crew_wanted, posts_wanted, named_record, reported, renewed, upgraded, next_image}
+use Rattle.definitions.specs.Target.{Sides, upgrade_generation, want, wanted_at, sides_of, handover_for, next_image}
+use Rattle.definitions.specs.After.{crew_wanted, posts_wanted, named_record, reported, renewed, upgraded, posts_of}
 use Rattle.definitions.specs.Tree.{Tree}
 use Rattle.definitions.specs.Run.{Pattern, Progress, Return, faults_since, Ending, At, outcome_of, lacked_last}
 use Rattle.definitions.specs.Claims.{AgreesAfter, IsStart, has_socket, Says, IsPaid, Kept, IsCommon, IsBlamed, HasCause, HasDescriptors, ready_with}

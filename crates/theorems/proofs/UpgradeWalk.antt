@@ -18,15 +18,13 @@ use Rattle.definitions.specs.Calls.{step_with, Handed}
 use Rattle.definitions.specs.Manner.{is_leave_call}
 use Rattle.vocabulary.specs.declared.calls.Reply.TheVariants as reply
 use Rattle.definitions.specs.Tree.{Tree, Branches, Nothing, Does, plain_reply, replies_to}
-use Rattle.definitions.specs.Plans.{on, then_edge, note_edges, settle, back_alone, back_from, move_back}
-use Rattle.definitions.specs.Plans.{move_aside, tries, tries_all, new_calls, new_part, old_part, taken_over, pid_calls}
-use Rattle.definitions.specs.Plans.{awaits_gone, asks, retire, back_serving, relieve, upgrade_tree}
+use Rattle.definitions.specs.Plans.{on, then_edge, note_edges, settle, back_alone, back_from, move_back, move_aside}
+use Rattle.definitions.specs.Plans.{tries, tries_all, new_calls, new_part, old_part, taken_over, pid_calls, awaits_gone}
+use Rattle.definitions.specs.Plans.{asks, retire, back_serving, relieve, upgrade_tree, does, weave, joined, only_in}
 use Rattle.call_laws.specs.Pieces.{quits, spawn_edges}
-use Rattle.definitions.specs.Plans.{does, weave, joined}
 use Rattle.definitions.specs.Run.{Progress, Lost}
 use Rattle.definitions.specs.Crew.{fork_of}
 use Rattle.definitions.specs.Record.{oldbin}
-use Rattle.definitions.specs.Target.{only_in}
 use Rattle.definitions.specs.Claims.{names_any}
 use Rattle.run_laws.proofs.Logic.{Exiting}
 use Rattle.run_laws.proofs.Processes.{AnyCall}

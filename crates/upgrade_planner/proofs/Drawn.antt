@@ -2,13 +2,12 @@
 use Rattle.std.proofs.Common.{◌≡◌, ◌<◌, false, List, length, refl, ◌∙◌, ap, arith}
 use Rattle.std.specs.Prelude.{nat_lt}
 use Rattle.std.proofs.lemmas.Bool.{lt-ltb}
-use Rattle.definitions.specs.Plans.{Turn, graft, pid_calls, relieve, upgrade_tree}
+use Rattle.definitions.specs.Plans.{Turn, graft, pid_calls, relieve, upgrade_tree, only_in}
 use Rattle.call_laws.specs.Lengths.{upgrade_length}
 use Rattle.definitions.specs.Tree.{Tree, Ends, JoinReady, JoinBack}
 use Rattle.plan_steps.specs.Fit.{is_fit}
 use Rattle.definitions.specs.Calls.{Census, WritePid}
 use Rattle.definitions.specs.Table.{Address}
-use Rattle.definitions.specs.Target.{only_in}
 use Rattle.plan_steps.specs.declared.step.Place.{Place}
 use Rattle.plan_steps.specs.Steps.{at_place}
 use Rattle.plan_steps.specs.Stretches.{AreParts, ends_at, ends_new, ends_old, is_last, is_onward, longest_at, longest_of, to_split}

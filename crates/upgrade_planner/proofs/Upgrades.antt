@@ -10,14 +10,16 @@ use Rattle.vocabulary.specs.declared.targets.Target.TheVariants as target
 use Rattle.vocabulary.specs.declared.plans.End.{End}
 use Rattle.definitions.specs.Crew.{Posts, Crew, fork_of}
 use Rattle.definitions.specs.Record.{Record, addresses_of, crew_of}
-use Rattle.definitions.specs.Target.{only_in, upgrade_generation, numbers_wanted, addresses_wanted, handover_for}
-use Rattle.definitions.specs.After.{next_image, has_next, posts_wanted, crew_wanted}
+use Rattle.definitions.specs.Target.{upgrade_generation, numbers_wanted, addresses_wanted, handover_for, next_image}
+use Rattle.definitions.specs.Target.{has_next}
+use Rattle.definitions.specs.After.{posts_wanted, crew_wanted}
 use Rattle.definitions.specs.Calls.{Call, OpenAt, CloseAt, AwaitReady, Adopt, Census, WritePid}
 use Rattle.definitions.specs.Tree.{Tree, Ends, Done, RolledBack, ShortOld, ShortTarget, Split, JoinReady, JoinBack, Join}
 use Rattle.call_laws.specs.Lengths.{height}
-use Rattle.definitions.specs.Plans.{Turn, graft, asks, awaits_gone, back_from, back_serving, retire}
+use Rattle.definitions.specs.Plans.{Turn, graft, asks, awaits_gone, back_from, back_serving, retire, move_aside}
+use Rattle.definitions.specs.Plans.{new_calls, new_part, pid_calls, plan_tree, relieve, taken_over, tries, tries_all}
+use Rattle.definitions.specs.Plans.{upgrade_tree, only_in}
 use Rattle.call_laws.specs.Pieces.{quits}
-use Rattle.definitions.specs.Plans.{move_aside, new_calls, new_part, pid_calls, plan_tree, relieve, taken_over, tries, tries_all, upgrade_tree}
 use Rattle.call_laws.specs.Lengths.{plan_length, upgrade_length}
 use Rattle.plan_steps.specs.Stretches.{is_last, aside, longest_of}
 use Rattle.plan_steps.specs.Woven.{part_end}

@@ -2,7 +2,7 @@ use Rattle.std.proofs.Common.{◌≡◌, ◌+◌, ◌∙◌, length, set, take, 
 use Rattle.std.proofs.lemmas.List.{length-set}
 use Rattle.vocabulary.specs.Settings.{Settings}
 use Rattle.worker_groups.specs.Crews.{Posts}
-use Rattle.definitions.specs.Crew.{descriptors_at}
+use Rattle.definitions.specs.After.{descriptors_at}
 use Rattle.service_state.proofs.Grouped.{posted-more, posted-all}
 use Rattle.service_state.proofs.posting.posts_of.Goals as goal
 

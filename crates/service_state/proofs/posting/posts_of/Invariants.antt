@@ -1,5 +1,5 @@
 use Rattle.std.proofs.Common.{◌≡◌, length, take}
-use Rattle.definitions.specs.Crew.{descriptors_by}
+use Rattle.definitions.specs.After.{descriptors_by}
 use Rattle.service_state.proofs.posting.posts_of.Given as goal
 
 abbrev pub invariant-loop-place : goal.invariant-loop-place

@@ -8,9 +8,9 @@ use Rattle.definitions.specs.Crew.{Crew}
 use Rattle.definitions.specs.Record.{Record, addresses_of, crew_of}
 use Rattle.definitions.specs.After.{posts_wanted}
 use Rattle.vocabulary.specs.declared.targets.Target.TheVariants as target
-use Rattle.definitions.specs.Target.{handover_for, only_in, upgrade_generation}
+use Rattle.definitions.specs.Target.{handover_for, upgrade_generation}
 use Rattle.handover_text.specs.Reading.{Hands}
-use Rattle.definitions.specs.Plans.{Turn, plan_tree}
+use Rattle.definitions.specs.Plans.{Turn, plan_tree, only_in}
 use Rattle.call_laws.specs.Lengths.{plan_length}
 use Rattle.rollback_plan.specs.Plans.{tree_under, length_of, text_of}
 use Rattle.reload_planner.proofs.Sets.{filter_few, length-below}

@@ -1,5 +1,5 @@
 use Rattle.std.proofs.Common.{◌≡◌, take}
-use Rattle.definitions.specs.Crew.{descriptors_at}
+use Rattle.definitions.specs.After.{descriptors_at}
 use Rattle.master_listeners.proofs.listeners.Listeners.descriptors_at.Given as goal
 
 abbrev pub invariant-loop-listener : goal.invariant-loop-listener
