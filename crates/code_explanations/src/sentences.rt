@@ -83,7 +83,9 @@ first block on.",
 The number of the block, counted from 1, and the difference follow: Y1 to
 Y4. First check that --from, --to, --workers, --bare and --held are those of
 the master that wrote the blocks (--bare for `supervise`), and that the
-input begins with that master's first block.",
+input begins with that master's first block. Of a master that went over to
+two different configurations, the blocks from the second one on can't be
+compared.",
     },
     Explanation {
         code: "file",
@@ -418,8 +420,8 @@ the master and start it anew. No command line is known to print this.",
         code: "V1",
         meaning: "the master has stopped",
         remedy: "\
-An earlier word was QUIT, INT or TERM, so nothing is left to act on. Give
-the word before the stop, or start a master anew.",
+An earlier word was QUIT, INT or TERM, or it was lost, so nothing is left to
+act on. Give the word before the stop, or start a master anew.",
     },
     Explanation {
         code: "X1",
@@ -648,10 +650,11 @@ that failed, whose failure the plan made up for.",
         code: "rolled-back",
         meaning: "the service that ran before runs again",
         remedy: "\
-The outcome of a word that failed; no worker is missing. The cause is the
-number of the call that failed: its answer in the block says why. Correct
-that and send the word again. Until then restore files that you replaced:
-workers that are started later use what is on the disk.",
+The outcome of a word that failed. The service is as it was before the word:
+workers that were missing then still are. The cause is the number of the
+call that failed: its answer in the block says why. Correct that and send
+the word again. Until then restore files that you replaced: workers that are
+started later use what is on the disk.",
     },
     Explanation {
         code: "degraded",
@@ -719,7 +722,7 @@ may soon be that of another process.",
         code: "no-file",
         meaning: "there is no pid file",
         remedy: "\
-The configuration names none. For one set the key pid, and start anew: a
-running master does not change its pid file.",
+The configuration names none, or a stop has removed it. To have one, set the
+key pid and start anew: a running master does not change its pid file.",
     },
 ];

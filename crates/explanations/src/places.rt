@@ -251,6 +251,16 @@ pub fn tell_unread<E: Write>(kind: ErrorKind, errors: &mut E) {
     };
 }
 
+/// Why there is no pid file, on the rest of the line: one is written at the start, if that can be.
+fn tell_unwritten<E: Write>(kind: ErrorKind, errors: &mut E) {
+    match kind {
+        ErrorKind::NotFound => {
+            let _ = writeln!(errors, ": it is not there: its folder may be missing");
+        }
+        kind => tell_unread(kind, errors),
+    }
+}
+
 /// The pid file of a configuration, if there is none to be read.
 fn tell_pid_file<R: AllocGlobal + Files, E: Write>(rt: &R, path: Option<&str>, errors: &mut E) {
     let Some(pid) = pid_file_in(rt, path) else {
@@ -261,7 +271,7 @@ fn tell_pid_file<R: AllocGlobal + Files, E: Write>(rt: &R, path: Option<&str>, e
     };
     if let Err(error) = fs::read(rt, name) {
         let _ = write!(errors, "  the pid file {name}");
-        tell_unread(error.kind(), errors);
+        tell_unwritten(error.kind(), errors);
     }
 }
 
