@@ -20,15 +20,14 @@ static int keeper_connection(void) {
     return connection;
 }
 
-/* Asks for an address on the connection that holds the others. If the keeper has ended since they were asked for, the
- * next one is asked: the others stay as they are. */
+/* Asks for an address on the connection that holds the others. If that has ended, with the keeper or since nothing was
+ * said on it for too long, it asks once more on another one: the others stay as they are. */
 static void ask(struct addresses *addresses, const char *text, char *answer, size_t room, int *listener) {
-    bool is_first = addresses->hold < 0;
-    if (is_first)
+    if (addresses->hold < 0)
         addresses->hold = keeper_connection();
     errno = 0;
     ssize_t length = ask_keeper(addresses->hold, text, answer, room, listener);
-    if (length <= 0 && !is_first && errno != ETIMEDOUT) {
+    if (length <= 0 && errno != ETIMEDOUT) {
         close(addresses->hold);
         addresses->hold = keeper_connection();
         length = ask_keeper(addresses->hold, text, answer, room, listener);

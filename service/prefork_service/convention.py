@@ -69,10 +69,10 @@ class Hold:
 
     def take(self, address: str) -> socket.socket:
         """The listening socket of an address, which is held from then on."""
-        is_first = self.connection is None
         said, given = self.ask(address)
-        if not said and not is_first:
-            # The keeper has ended since, and another one is there or comes. What was taken before stays as it is.
+        if not said:
+            # The keeper has ended, and another one is there or comes; or nothing was said on the connection for too
+            # long. What was taken before stays as it is.
             self.close()
             said, given = self.ask(address)
         if said != b"ok" or not given:

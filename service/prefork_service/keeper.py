@@ -16,7 +16,7 @@ Unix sockets get the mode and the group that are named, and otherwise those that
 
 `errors` in place of an address is answered with the keeper's own standard error, where a worker's messages belong.
 
-A client that says nothing for 5 seconds is dropped, and so is the oldest of more than 64 such clients, or where no
+A client that says nothing for 5 seconds is dropped, and so is the oldest of more than 1,024 such clients, or where no
 descriptor is left for another one.
 
 It ends with its standard input: with the process that started it.
@@ -52,6 +52,8 @@ LINGER = 2.0
 # How long workers that hold a socket, and are not known to, may take to close it once they finish.
 FINISH_SECONDS = 10.0
 QUEUE = 1024
+# How many clients may have connected and not asked yet: all workers that there can be may start at a time.
+MOST_SILENT = 1024
 LONGEST_ADDRESS = 200
 # How long a connection without a byte is held back; the system counts in its own steps.
 DEFER_SECONDS = 1
@@ -184,7 +186,7 @@ class Keeper:
         # Whether a holder has gone that prefork-serve was not told of.
         self.has_lost = False
         self.events = selectors.DefaultSelector()
-        self.door = Door(self.events, door, self.begin_to_hear, say)
+        self.door = Door(self.events, door, self.begin_to_hear, say, MOST_SILENT)
 
     def run(self) -> None:
         if self.channel:

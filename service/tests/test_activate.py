@@ -62,6 +62,21 @@ class ReadyTest(WorkerTest):
             talk.say("quit")
             self.assertEqual(talk.hear(), "gone")
 
+    def test_a_connection_that_is_dropped_before_it_is_answered(self) -> None:
+        """As a keeper does with one on which nothing was said for too long: the worker asks once more."""
+        place, (host, port) = self.room / "other.sock", free_address().split(":")
+        with socket.socket(socket.AF_UNIX, socket.SOCK_SEQPACKET) as door, socket.create_server((host, int(port))) as listener:
+            door.bind(str(place))
+            door.listen()
+            door.settimeout(60)
+            talk = self.started(ACTIVATE, "--", PAGE, "{fd}", addresses=(f"{host}:{port}",), PREFORK_KEEPER=str(place))
+            door.accept()[0].close()
+            hold, _ = door.accept()
+            with hold:
+                self.assertEqual(hold.recv(200).decode(), f"{host}:{port}")
+                socket.send_fds(hold, [b"ok"], [listener.fileno()])
+                self.assertEqual(talk.hear(), "ready")
+
     def test_names_are_filled_in(self) -> None:
         one, two = free_address(), free_address()
         script = 'test "$A" = "%s 3;4; %s=3,%s=4 {other} $R" -a -d "$R" && exec %s 3 4' % (two, one, two, PAGE)

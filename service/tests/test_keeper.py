@@ -56,6 +56,18 @@ class KeeperTest(unittest.TestCase):
         with self.assertRaises(BlockingIOError):
             other.accept()
 
+    def test_all_workers_may_connect_before_the_first_of_them_asks(self) -> None:
+        """On a busy machine each of many that start at a time may lose its processor right after it has connected."""
+        place, workers = str(self.room / "site.sock"), []
+        for _ in range(200):
+            worker = socket.socket(socket.AF_UNIX, socket.SOCK_SEQPACKET)
+            self.addCleanup(worker.close)
+            worker.connect(str(self.path))
+            workers.append(worker)
+        # (the answer to a later one tells that all of them were let in)
+        self.asked(place)
+        self.assertEqual([self.asked(place, worker)[0] for worker in workers], ["ok"] * len(workers))
+
     def test_a_unix_socket_has_the_mode_and_the_group(self) -> None:
         self.end()
         self.start("--socket-mode", "620", "--socket-group", str(os.getegid()))
