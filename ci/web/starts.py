@@ -73,7 +73,7 @@ def a_bad_start(site: Site) -> None:
         refused(site, f"{program}: {why}")
     site.program = ["no-such-program"]
     site.configure()
-    refused(site, "no-such-program: it is in no folder of PATH\n")
+    refused(site, "PROGRAM: no-such-program: it is in no folder of PATH\n")
     site.program = []
     site.configure()
     site.options = ["--folder", str(file)]
@@ -81,10 +81,11 @@ def a_bad_start(site: Site) -> None:
     site.options = ()
     for program, why in (
         (str(site.room / "missing"), "No such file or directory\n"), (str(file), "Permission denied\n"),
-        ("/bin/true", "does not start as the master: it has ended with status 0"),
     ):
         site.prefork = program
-        refused(site, f"{program}{' ' if why.startswith('does') else ': '}{why}")
+        refused(site, f"--prefork: {program}: {why}")
+    site.prefork = "/bin/true"
+    refused(site, "/bin/true does not start as the master: it has ended with status 0")
 
 
 def refused(site: Site, why: str) -> None:

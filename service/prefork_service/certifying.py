@@ -73,7 +73,8 @@ def certified(life: Life, prefork: str) -> tuple[str, int]:
         return f"{head}: block {number}, {block.splitlines()[0]}, is not accepted: {said[2]}", NOT_ACCEPTED
     if found.returncode:
         return f"{head}: nothing was compared: {found.stderr.strip()}", NOT_COMPARED
-    told = f"{head}: {len(blocks)} blocks are accepted, from the first on"
+    accepted = "1 block is" if len(blocks) == 1 else f"{len(blocks)} blocks are"
+    told = f"{head}: {accepted} accepted, from the first on"
     left = len(life.blocks) - len(blocks)
     if left:
         word = life.blocks[len(blocks)].splitlines()[0]

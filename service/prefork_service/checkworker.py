@@ -16,6 +16,7 @@ import signal
 import socket
 import struct
 import subprocess
+import sys
 import tempfile
 import threading
 import time
@@ -24,6 +25,7 @@ from typing import Any
 
 from . import places
 from .conversation import END, MARK, RUNS, Conversation, marked
+from .options import fault_of
 
 # How long a worker may take to load and to finish, and at most to answer a line or a request.
 PATIENCE, ANSWER_SECONDS = 45.0, 10.0
@@ -294,6 +296,9 @@ def arguments() -> argparse.Namespace:
 
 def main() -> int:
     given = arguments()
+    if fault := fault_of(given.command[0]):
+        print(f"prefork-checkworker: {fault}", file=sys.stderr)
+        return 2
     with tempfile.TemporaryDirectory(prefix="checkworker-") as room:
         bench = Bench(given, pathlib.Path(room))
         try:

@@ -60,6 +60,9 @@ def commands_of(given: argparse.Namespace, folder: Folder) -> Commands | None:
 
 def is_fit(given: argparse.Namespace, commands: Commands) -> bool:
     """Whether the configuration can be served; why not is said."""
+    if fault := fault_of(given.prefork):
+        say(f"--prefork: {fault}")
+        return False
     if not commands.now.exists():
         # It could not be read, and that was said.
         return False
@@ -67,13 +70,14 @@ def is_fit(given: argparse.Namespace, commands: Commands) -> bool:
     is_adapted, sites = commands.has_adapter(), bool(given.page) + bool(given.metrics)
     faults = [refusal] if refusal else shortages(needs_of(text, processes_each(given), sites, is_adapted))
     faults += [PID_OF_MASTER] if commands.names_master() else []
-    program = program_of(given, None if is_adapted else commands.current)
-    # A service that was killed starts again without it: the program may be back before long.
-    if program and not refusal and not commands.accepted.exists():
-        faults += [fault] if (fault := fault_of(program)) else []
     for fault in faults:
         say(f"{given.config}: {fault}")
-    return bool(commands.current) and not faults
+    program = program_of(given, None if is_adapted else commands.current)
+    # A service that was killed starts again without it: the program may be back before long.
+    missing = fault_of(program) if program and not refusal and not commands.accepted.exists() else None
+    if missing:
+        say(f"{'PROGRAM' if is_adapted else given.config}: {missing}")
+    return bool(commands.current) and not faults and not missing
 
 
 def serve(given: argparse.Namespace, folder: Folder, commands: Commands, stored: dict[str, socket.socket]) -> None:

@@ -128,7 +128,7 @@ def shown(status: Status) -> str:
     lines = [
         f"service     process {service['process']}, for {service['seconds']} s, in {service['folder']}",
         f"addresses   {' '.join(status['addresses']) or 'none'}",
-        f"generation  {status['generation'] or 'none'}, {len(status['workers'])} workers",
+        f"generation  {status['generation'] or 'none'}, {workers(len(status['workers']))}",
         *map(shown_worker, status["workers"]),
         *shown_masters(status["masters"], status["master_restarts"]),
         f"keeper      process {keeper['process'] or 'none'}, started again {times(keeper['restarts'])}",
@@ -163,3 +163,7 @@ def shown_doing(status: Status) -> str:
 
 def times(count: int) -> str:
     return "once" if count == 1 else f"{count} times"
+
+
+def workers(count: int) -> str:
+    return "1 worker" if count == 1 else f"{count} workers"

@@ -46,6 +46,14 @@ class CheckTest(unittest.TestCase):
     def setUpClass(cls) -> None:
         built()
 
+    def test_a_command_that_is_no_program(self) -> None:
+        for command in (["/no/such/worker"], [PROGRAMS]):
+            with self.subTest(command):
+                words = [BIN / "prefork-checkworker", *command]
+                found = subprocess.run(words, capture_output=True, stdin=subprocess.DEVNULL, text=True)
+                self.assertEqual((found.returncode, found.stdout), (2, ""))
+                self.assertRegex(found.stderr, r"^prefork-checkworker: /\S+: [A-Z][a-z ]+\n$")
+
     def test_workers_and_wrong_ones(self) -> None:
         """All at a time: most of the time they wait."""
         wrong = {fault: [PYTHON, PROGRAMS / "wrong.py", fault] for fault in WRONG}
