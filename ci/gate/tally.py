@@ -1,6 +1,7 @@
 """What the scripts that try the program share: which program they try, and what they count."""
 import dataclasses
 import pathlib
+import sys
 from collections.abc import Iterable
 
 ROOT = pathlib.Path(__file__).resolve().parent.parent.parent
@@ -10,8 +11,11 @@ MOST_LINES = 40
 
 
 def program_path(named: str | pathlib.Path | None = None) -> str:
-    """The program that is tried: the one that is named, or else the proved one."""
-    return str(pathlib.Path(named).resolve() if named else PROGRAM)
+    """The program to try: the named one, or else the proved one. Ends the script if that file is missing."""
+    program = pathlib.Path(named or PROGRAM).resolve()
+    if not program.is_file():
+        sys.exit(f"{program}: no such program; ci/test proves and builds one")
+    return str(program)
 
 
 @dataclasses.dataclass
@@ -36,7 +40,7 @@ class Tally:
         self.wrong += other.wrong
 
     def end(self) -> int:
-        """Prints what is wrong and the counts, and gives the exit status: 1 where a check failed or there was none."""
+        """Prints what is wrong and the counts, and gives the exit status: 1 if a check failed or no check was made."""
         for line in self.wrong[:MOST_LINES]:
             print(line)
         if len(self.wrong) > MOST_LINES:

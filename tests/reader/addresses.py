@@ -2,6 +2,7 @@
 from collections.abc import Iterable
 
 Address = str
+Addresses = tuple[Address, ...]
 FilePath = str
 
 

@@ -1,16 +1,15 @@
-"""What a master's record becomes once a plan has ended (After.antt)."""
-from reader.addresses import Address, has
-from reader.crew import Addresses, Listeners
+"""What a master's record becomes once a plan has ended (After.antt). `listener_at` is Listener itself."""
+from reader.addresses import Address, Addresses, has
 from reader.crews import Crew, Posts
 from reader.groups import Groups
+from reader.master import (
+    Attended, Record, Reload, Stop, Target, Upgrade, Workers, generation_wanted, has_next, reload_generation,
+    upgrade_generation,
+)
 from reader.numbers import Numbers, first_from
-from reader.record import Record
 from reader.settings import Settings
 from reader.table import Table, live_master
-from reader.target import (
-    Attended, Reload, Stop, Target, Upgrade, Workers, generation_wanted, next_config, next_image,
-)
-from reader.vocabulary import AnyOutcome, Degraded, Generation, Listener, Outcome, Report, Side
+from reader.vocabulary import AnyOutcome, Degraded, Generation, Listener, Listeners, Outcome, Report, Side
 
 # Listeners that open and close
 
@@ -47,6 +46,7 @@ def still_wanted(addresses: Addresses, ls: Listeners) -> Listeners:
 
 
 def with_added(addresses: Addresses, ls: Listeners) -> Listeners | None:
+    """The listeners, with what is added."""
     return all_opened(added(addresses, ls), ls)
 
 
@@ -107,6 +107,16 @@ def crew_wanted(r: Record, t: Target) -> Crew:
 
 
 # The record of a service
+
+
+def next_config(g: Generation) -> Generation | None:
+    """The generation of a reload."""
+    return reload_generation(g) if has_next(g.config) else None
+
+
+def next_image(g: Generation) -> Generation | None:
+    """The generation of an upgrade."""
+    return upgrade_generation(g) if has_next(g.image) and has_next(g.config) else None
 
 
 def renewed(r: Record, s: Settings, posts: Posts, ls: Listeners | None, g: Generation | None) -> Record | None:

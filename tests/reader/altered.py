@@ -3,12 +3,11 @@ import random
 from collections.abc import Callable, Iterator
 from typing import NamedTuple
 
-from reader.claims import common, is_ready_with, leasts_of
+from reader.claims import IsCommon, least_of
+from reader.master import Mend, Reopen, Stop, Workers, want
 from reader.run import Progress, faults_since
-from reader.service import service
-from reader.table import File, Master, Process, Table, Worker, is_ready, with_rows
-from reader.target import Mend, Reopen, Stop, Workers, want
-from reader.vocabulary import Answer, Degraded, Entry, Generation, Kill, Outcome, PidNote
+from reader.table import File, Master, Process, Table, Worker, is_serving, same_stance, service
+from reader.vocabulary import Answer, Degraded, Entry, Generation, Kill, Outcome, PidNote, Stance
 from reader.words import Run
 
 
@@ -32,11 +31,11 @@ def with_last_table(run: Run, table: Table) -> Run:
 def with_row(t: Table, old: Process, new: tuple[Process, ...]) -> Table:
     """A row that becomes these, one or none."""
     place = t.rows.index(old)
-    return with_rows(t, (*t.rows[:place], *new, *t.rows[place + 1:]))
+    return t._replace(rows=(*t.rows[:place], *new, *t.rows[place + 1:]))
 
 
 def ready_rows(t: Table) -> list[Worker]:
-    return [p for p in t.rows if isinstance(p, Worker) and is_ready(p.stance)]
+    return [p for p in t.rows if isinstance(p, Worker) and same_stance(Stance.Ready, p.stance)]
 
 
 def lost_workers(run: Run) -> Iterator[Altered]:
@@ -52,7 +51,8 @@ def lost_workers(run: Run) -> Iterator[Altered]:
 def other_sockets(run: Run) -> Iterator[Altered]:
     """A master holds an address of both services on another socket at the end."""
     t = run.ran.last.table
-    kept = common(service(run.table), want(run.record, run.target))
+    old, wanted = service(run.table), want(run.record, run.target)
+    kept = [a for a in old if IsCommon(old, wanted, a)]
     for p in t.rows:
         if isinstance(p, Master) and p.live and any(h.address in kept for h in p.holds):
             holds = tuple(h._replace(socket=h.socket + 99) if h.address in kept else h for h in p.holds)
@@ -72,14 +72,14 @@ def low_floors(run: Run) -> Iterator[Altered]:
     """The workers that hold an address of both services are gone in a table on the way."""
     if isinstance(run.target, Mend | Stop):
         return
-    passed, leasts = run.ran.passed, leasts_of(run.table, run.record, run.target)
+    passed, leasts = run.ran.passed, least_of(run.table, run.record, run.target)
     for place in range(0, len(passed) - 1, 5):
         p = passed[place]
         excused = p.losses + faults_since(2, p.returns, p.faults)
         for least in leasts:
             if excused < least.workers:
-                rows = tuple(row for row in p.table.rows if not is_ready_with(least.address, row))
-                low = p._replace(table=with_rows(p.table, rows))
+                rows = tuple(row for row in p.table.rows if not is_serving(least.address, lambda g: True, row))
+                low = p._replace(table=p.table._replace(rows=rows))
                 ran = run.ran._replace(passed=(*passed[:place], low, *passed[place + 1:]))
                 yield Altered("nobody is ready on the way", "floor", run._replace(ran=ran))
 

@@ -4,10 +4,10 @@ from typing import NamedTuple
 
 from reader import names as name
 from reader.groups import Group
+from reader.master import Record
 from reader.names import Name
 from reader.numbers import numbers_below
 from reader.plans import Turns
-from reader.record import Record
 from reader.run import Moment
 from reader.settings import Settings
 from reader.start import booted, started

@@ -1,30 +1,186 @@
-"""What the run of a plan keeps, and how it ends (Claims.antt).
+"""What the run of a plan keeps, and how it ends: the headline (Claims.antt).
 
 A claim about all addresses, generations or processes is looked at for those that there are in the tables and in the
-services: of any other both sides say the same."""
+services: of any other both sides say the same. `refusal_of` and `IsAccepted` take the run, which the definitions
+compute again. KeepsPromise says of each of its clauses whether it is so."""
+from collections.abc import Callable
+from functools import partial
 from typing import NamedTuple
 
 from reader import names as name
 from reader.addresses import Address, FilePath, has
 from reader.after import next_record
-from reader.crew import Layout, short_at
+from reader.calls import is_active_worker
 from reader.lengths import plan_length
-from reader.manner import Manner, is_leave_call
+from reader.master import (
+    Agrees, Attended, IsRecord, Layout, Mend, Record, Reload, Reopen, Stop, Target, Upgrade, Workers, addresses_wanted,
+    handover_for, has_next, layout_of, layout_wanted, numbers_wanted, oldbin, short_at, sides_of, upgrade_generation,
+    want, wanted_at,
+)
 from reader.names import Name
 from reader.numbers import IsRising, Numbers, RisesFrom, is_in
 from reader.plans import Turns, plan_tree
-from reader.record import Agrees, IsRecord, Record, layout_of, oldbin
 from reader.run import Pattern, Progress, Ran, faults_since, report_of, run_with, start_at
-from reader.service import Counts, IsSame, Service, is_live_with, service
 from reader.settings import IsInRange
-from reader.table import Holds, IsFormed, Process, Table, Worker, has_address, is_own, is_ready, owner_at
-from reader.target import (
-    Attended, Mend, Reload, Stop, Target, Upgrade, Workers, addresses_wanted, handover_for, layout_wanted,
-    next_config, next_image, numbers_wanted, sides_of, upgrade_generation, want, wanted_at,
+from reader.table import (
+    Counts, IsFormed, IsSame, Master, Process, Service, Table, Worker, bears, is_live_where, is_own, is_serving,
+    is_worker_where, number_of, owner_at, same_stance, service,
 )
 from reader.vocabulary import (
-    Answer, AnyAnswer, AnyOutcome, Call, Degraded, Entries, Outcome, PidNote, RemovePid, Report, Side,
+    Answer, AnyAnswer, AnyOutcome, AwaitGone, Call, Degraded, Entries, Entry, Generation, Kill, Leave, Outcome, PidNote,
+    Quit, RemovePid, Report, Side, Stance, Usr1,
 )
+
+# Which processes a run leaves alone, and which it ends only after they were asked to end
+
+
+def has_ready(t: Table, p: int, k: int) -> bool:
+    """The process with the number is a Ready worker with the worker number."""
+    is_ready = partial(same_stance, Stance.Ready)
+    return any(is_worker_where(is_ready, lambda n: n == p, lambda g, j: j == k, row) for row in t.rows)
+
+
+def is_lost(p: int, passed: tuple[Progress, ...]) -> bool:
+    """A process is a loss where the exits of a moment end it while it is Starting or Ready. The tables of a run come
+    in pairs, before and after the exits of a moment, and the last one."""
+
+    def is_active_in(t: Table) -> bool:
+        return any(is_active_worker(row) and number_of(row) == p for row in t.rows)
+
+    pairs = zip(passed[::2], passed[1::2])
+    return any(is_active_in(before.table) and not is_active_in(middle.table) for before, middle in pairs)
+
+
+def ready_first(first: Table) -> list[tuple[int, int]]:
+    """The process and worker numbers of those that are Ready: has_ready holds of no others."""
+    workers = (row for row in first.rows if isinstance(row, Worker))
+    return [(row.number, row.nr) for row in workers if same_stance(Stance.Ready, row.stance)]
+
+
+def Stays(first: Table, stays: Callable[[int], bool], ran: Ran) -> bool:
+    """Each process that is Ready at first, of these worker numbers, is Ready at the end or is a loss."""
+    return all(
+        has_ready(ran.last.table, p, k) or is_lost(p, ran.passed) for p, k in ready_first(first) if stays(k)
+    )
+
+
+def Goes(first: Table, goes: Callable[[int], bool], ran: Ran) -> bool:
+    """No process that was Ready at first, of these worker numbers, is in the last table."""
+    return not any(number_of(row) == p for p, k in ready_first(first) if goes(k) for row in ran.last.table.rows)
+
+
+def is_quit(test: Callable[[Generation, int], bool], call: Call) -> bool:
+    """A call to quit of a name that passes the test."""
+    return isinstance(call, Quit) and test(call.generation, call.nr)
+
+
+def is_wait(test: Callable[[Generation, int], bool], call: Call) -> bool:
+    """A wait for an end of a name that passes the test."""
+    return isinstance(call, AwaitGone) and test(call.generation, call.nr)
+
+
+def is_usr1_of(g: Generation, k: int, call: Call) -> bool:
+    return isinstance(call, Usr1) and bears(g, k, call.generation, call.nr)
+
+
+def is_leave_call(call: Call) -> bool:
+    return isinstance(call, Leave)
+
+
+def is_late(a: AnyAnswer) -> bool:
+    return a is Answer.Late
+
+
+def one_then(first: Callable[[Entry], bool], second: Callable[[Entry], bool], entries: Entries) -> bool:
+    """An entry that passes the first test, and a later one that passes the second."""
+    return any(first(e) and any(map(second, entries[place + 1:])) for place, e in enumerate(entries))
+
+
+def was_late(g: Generation, k: int, entries: Entries) -> bool:
+    """The worker was told to quit, and was late at a wait for its end."""
+    named = partial(bears, g, k)
+    return one_then(lambda e: is_quit(named, e.call), lambda e: is_wait(named, e.call) and is_late(e.answer), entries)
+
+
+def IsKillDue(first: Table, before: Entries, call: Call, t: Table) -> bool:
+    """A kill of a name that a process Ready at first bears comes after it was late."""
+    if not isinstance(call, Kill):
+        return True
+    named = partial(bears, call.generation, call.nr)
+    is_borne = any(
+        is_worker_where(lambda s: True, lambda n: n == p, named, row) for p, _ in ready_first(first) for row in t.rows
+    )
+    return not is_borne or was_late(call.generation, call.nr, before)
+
+
+def KillsAreDue(first: Table, before: Entries, entries: Entries, passed: tuple[Progress, ...]) -> bool:
+    """Each kill among these entries is due. The tables come in pairs: a call meets the second of its pair."""
+    middles = passed[1::2]
+    return len(entries) <= len(middles) and all(
+        IsKillDue(first, before + entries[:place], e.call, middles[place].table) for place, e in enumerate(entries)
+    )
+
+
+def KillsOnlyLate(first: Table, ran: Ran) -> bool:
+    return KillsAreDue(first, (), ran.entries, ran.passed)
+
+
+def before_leave(entries: Entries) -> Entries | None:
+    """The entries before a Leave, where there is one."""
+    return next((entries[:place] for place, e in enumerate(entries) if is_leave_call(e.call)), None)
+
+
+def LeavesLast(r: Record, ran: Ran) -> bool:
+    """Before a Leave, each number that was ready was told to quit and waited for."""
+
+    def told(k: int, e: Entry) -> bool:
+        return is_quit(partial(bears, r.generation, k), e.call)
+
+    def awaited(k: int, e: Entry) -> bool:
+        return is_wait(partial(bears, r.generation, k), e.call)
+
+    before = before_leave(ran.entries)
+    return before is None or all(one_then(partial(told, k), partial(awaited, k), before) for k in r.ready)
+
+
+# The manner of each target
+
+
+def is_old_side(outcome: AnyOutcome) -> bool:
+    return outcome is Outcome.RolledBack or (isinstance(outcome, Degraded) and outcome.side is Side.Old)
+
+
+def UpgradeManner(r: Record, end: AnyOutcome, first: Table, ran: Ran) -> bool:
+    """An upgrade that comes back leaves all workers, unless it had waited for them to go."""
+    waited = any(is_wait(lambda g, k: True, e.call) for e in ran.entries)
+    stay = not is_old_side(end) or waited or Stays(first, lambda k: True, ran)
+    return stay and KillsOnlyLate(first, ran) and LeavesLast(r, ran)
+
+
+def Manner(r: Record, target: Target, end: AnyOutcome, first: Table, ran: Ran) -> bool:
+    """A change of the number of workers leaves those alone whose number stays, and all on the old side; a mend leaves
+    all that aren't overdue, and ends the others; a reopening leaves and tells all; a reload that comes back leaves all.
+    Outside a mend and a quick stop a worker is killed only after it was told to quit and was late; before a master
+    leaves in peace its workers were told to quit and waited for; at a quick stop none is told to quit."""
+    match target:
+        case Workers(n):
+            return Stays(first, lambda k: is_old_side(end) or k < n, ran) and KillsOnlyLate(first, ran)
+        case Mend(overdue):
+            stay = Stays(first, lambda k: not is_in(overdue, k), ran)
+            return stay and Goes(first, partial(is_in, overdue), ran)
+        case Reopen():
+            told = all(any(is_usr1_of(r.generation, k, e.call) for e in ran.entries) for k in r.ready)
+            return Stays(first, lambda k: True, ran) and told and KillsOnlyLate(first, ran)
+        case Reload():
+            stay = not is_old_side(end) or Stays(first, lambda k: True, ran)
+            return stay and KillsOnlyLate(first, ran)
+        case Upgrade() | Attended():
+            return UpgradeManner(r, end, first, ran)
+        case Stop(False):
+            return KillsOnlyLate(first, ran) and LeavesLast(r, ran)
+        case Stop():
+            return not any(is_quit(lambda g, k: True, e.call) for e in ran.entries)
+
 
 # Where a run starts
 
@@ -38,13 +194,13 @@ def IsStart(t: Table, r: Record) -> bool:
 
 
 def names_any(images: Numbers, es: tuple[Name, ...]) -> bool:
-    """Among those who exit is the master of one of the images."""
+    """The master of one of the images is among the processes that exit."""
     return any(isinstance(e, name.Master) and is_in(images, e.image) for e in es)
 
 
 def refused_among(executing: Numbers, heirs: Numbers, pattern: Pattern, n: int, entries: Entries) -> int | None:
-    """The first moment, of those of these calls after the n-th, in which an executing master exits. Those who leave are
-    executing up to and at their Leave, and their heirs from it on."""
+    """Of these calls, which follow the n-th, finds the first at whose moment an executing master exits. A master that
+    leaves is executing up to and at its Leave, and its heir from it on."""
     for e in entries:
         n += 1
         leaves = is_leave_call(e.call)
@@ -78,8 +234,7 @@ def IsFewerAt(m: int, full: Counts | None, less: Counts | None) -> bool:
     if full is None or less is None:
         return full is None and less is None
     # (any generation of which both have none will do where m is 0)
-    fewer = {g: full.get(g, 0) - less.get(g, 0) for g in full.keys() | less.keys()}
-    differing = [count for count in fewer.values() if count]
+    differing = [full[g] - less[g] for g in full.keys() | less.keys() if full[g] != less[g]]
     return differing == ([m] if m else [])
 
 
@@ -148,9 +303,9 @@ def StopNote(note: PidNote, path: FilePath | None, first: Table, ran: Ran) -> bo
             return False
 
 
-def IsSucceeded(r: Record, target: Target, report: Report, first: Table, ran: Ran) -> bool:
+def IsSucceeded(r: Record, target: Target, first: Table, ran: Ran) -> bool:
     """What a run leaves: after a stop there is no record, and no master and no worker."""
-    last = ran.last.table
+    report, last = report_of(sides_of(r, target), ran), ran.last.table
     if isinstance(target, Stop):
         is_gone = next_record(r, target, report, last) is None and not any(map(is_own, last.rows))
         return is_gone and StopNote(ran.last.note, r.pid_path, first, ran)
@@ -160,40 +315,30 @@ def IsSucceeded(r: Record, target: Target, report: Report, first: Table, ran: Ra
 # What is kept throughout
 
 
-def common(old: Service, target: Service) -> list[Address]:
-    """(IsCommon) The keys of both services."""
-    return [a for a in old if a in target]
+def IsCommon(old: Service, target: Service, a: Address) -> bool:
+    """A key of both services."""
+    return a in old and a in target
 
 
-def has_socket(a: Address, socket: int, hs: Holds) -> bool:
-    return any(h.address == a and h.socket == socket for h in hs)
-
-
-def sockets_of(first: Table, a: Address) -> set[int]:
-    """The sockets of the address that a live master holds."""
-    masters = (p for p in first.rows if is_live_with(lambda _: True, p))
-    return {h.socket for p in masters for h in p.holds if h.address == a}
-
-
-def sockets_kept(old: Service, target: Service, first: Table) -> list[tuple[Address, int]]:
-    """Each address that both services name, with the socket that it had in the first table."""
-    return [(a, socket) for a in common(old, target) for socket in sockets_of(first, a)]
+def sockets_of(first: Table, old: Service, target: Service) -> list[tuple[Address, int]]:
+    """Each address that both services name, with each socket that a live master holds it on: Kept asks for no
+    others."""
+    masters = (p for p in first.rows if isinstance(p, Master) and p.live)
+    return [(h.address, h.socket) for p in masters for h in p.holds if IsCommon(old, target, h.address)]
 
 
 def Kept(sockets: list[tuple[Address, int]], t: Table) -> bool:
-    """Each of them is held by a live master."""
-    return all(
-        any(is_live_with(lambda hs: has_socket(a, socket, hs), p) for p in t.rows) for a, socket in sockets
-    )
+    """Each address that both services name is held by a live master, on the socket that it had in the first table."""
 
+    def is_open(a: Address, socket: int, p: Process) -> bool:
+        return is_live_where(lambda n, hs: any(h.address == a and h.socket == socket for h in hs), p)
 
-def is_ready_with(a: Address, p: Process) -> bool:
-    return isinstance(p, Worker) and is_ready(p.stance) and has_address(a, p.holds)
+    return all(any(is_open(a, socket, p) for p in t.rows) for a, socket in sockets)
 
 
 def ready_with(a: Address, t: Table) -> int:
     """How many Ready workers hold an address."""
-    return sum(is_ready_with(a, p) for p in t.rows)
+    return sum(is_serving(a, lambda g: True, p) for p in t.rows)
 
 
 class Least(NamedTuple):
@@ -204,21 +349,16 @@ class Least(NamedTuple):
     workers: int
 
 
-def least_of(old: Service, target: Service, first: Table, wanted: dict[Address, int]) -> list[Least]:
-    return [Least(a, min(ready_with(a, first), wanted[a])) for a in common(old, target)]
+def least_of(t: Table, r: Record, target: Target) -> list[Least]:
+    """What Floor asks for at each address that both services name; it is the same for all tables of a run."""
+    old, wanted = service(t), want(r, target)
+    return [Least(a, min(ready_with(a, t), wanted_at(r, target, a))) for a in old if IsCommon(old, wanted, a)]
 
 
-def Floor(least: list[Least], p: Progress) -> bool:
-    """At each such address the Ready workers that hold it, and the losses so far, are at least as many."""
-    return all(each.workers <= ready_with(each.address, p.table) + p.losses for each in least)
-
-
-def AttendedFloor(least: list[Least], p: Progress) -> bool:
-    """The same for an attended upgrade, except that once the operator went back at the second question, when the old
-    workers were gone, the faults since then count beside the losses: each may have kept an old worker from being
-    started again."""
-    excused = p.losses + faults_since(2, p.returns, p.faults)
-    return all(each.workers <= ready_with(each.address, p.table) + excused for each in least)
+def Floor(excused: Callable[[Progress], int], least: list[Least], p: Progress) -> bool:
+    """At each address that both services name the Ready workers that hold it, the losses so far and what is excused are
+    at least as many as in the first table or as are wanted, whichever is fewer."""
+    return all(each.workers <= ready_with(each.address, p.table) + p.losses + excused(p) for each in least)
 
 
 # The accounts
@@ -252,28 +392,6 @@ def IsPaid(retries: int, outcome: AnyOutcome, p: Progress) -> bool:
 
 # The headline
 
-# what is claimed of a run, and whether it is so
-Claims = dict[str, bool]
-
-
-def distinct(passed: tuple[Progress, ...]) -> list[Progress]:
-    """(A moment without exits is there twice, before and after them.)"""
-    return [p for place, p in enumerate(passed) if place == 0 or p is not passed[place - 1]]
-
-
-def EndsAsReported(t: Table, r: Record, target: Target, ran: Ran) -> Claims:
-    """The run of a target's plan ends as its report says, and keeps what it has to."""
-    report = report_of(sides_of(r, target), ran)
-    sockets = sockets_kept(service(t), want(r, target), t)
-    return {
-        "says": Says(r, target, report.outcome, t, ran.last.table),
-        "after": IsSucceeded(r, target, report, t, ran),
-        "kept": all(Kept(sockets, p.table) for p in distinct(ran.passed)),
-        "blamed": all(IsBlamed(p) for p in distinct(ran.passed)),
-        "cause": HasCause(report.outcome, ran.last.cause),
-        "paid": IsPaid(r.retries, report.outcome, ran.last),
-    }
-
 
 def HasDescriptors(t: Table, r: Record) -> bool:
     """Descriptors rise, from 3 on, and a process may have at most 64."""
@@ -281,49 +399,61 @@ def HasDescriptors(t: Table, r: Record) -> bool:
 
 
 def Accepts(t: Table, r: Record, target: Target) -> bool:
-    """What is asked beside a start of the target."""
+    """What is asked of the target, beside a start."""
+    g = r.generation
     match target:
         case Workers(n):
             return n <= 1024
         case Reload(s):
-            return IsInRange(s) and HasDescriptors(t, r) and next_config(r.generation) is not None
+            return IsInRange(s) and HasDescriptors(t, r) and has_next(g.config)
         case Upgrade(s) | Attended(s):
-            return IsInRange(s) and HasDescriptors(t, r) and next_image(r.generation) is not None
+            return IsInRange(s) and HasDescriptors(t, r) and has_next(g.image) and has_next(g.config)
         case _:
             return True
 
 
 def IsAccepted(t: Table, r: Record, target: Target, pattern: Pattern, ran: Ran) -> bool:
-    """And the pattern must not name an executing master."""
+    """The pattern must not name an executing master."""
     return IsStart(t, r) and Accepts(t, r, target) and refusal_of(r, target, pattern, ran) is None
 
 
-def leasts_of(t: Table, r: Record, target: Target) -> list[Least]:
-    wanted = {a: wanted_at(r, target, a) for a in addresses_wanted(r, target)}
-    return least_of(service(t), want(r, target), t, wanted)
+def distinct(passed: tuple[Progress, ...]) -> list[Progress]:
+    """(A moment without exits is there twice, before and after them: it is looked at once.)"""
+    return [p for place, p in enumerate(passed) if place == 0 or p is not passed[place - 1]]
 
 
 def HasFloor(t: Table, r: Record, target: Target, ran: Ran) -> bool:
-    """The floor holds at each table of the run where a target quits nobody, or only when others are ready. A mend kills
-    first, and a stop leaves none."""
-    least = leasts_of(t, r, target)
+    """Each target but two has a floor at each table of the run: a mend kills first, and a stop leaves no worker. Once
+    the operator of an attended upgrade went back at the second question, when the old workers were gone, the faults
+    since then are excused: each may have kept an old worker from being started again."""
+    least = least_of(t, r, target)
     match target:
         case Attended():
-            return all(AttendedFloor(least, p) for p in distinct(ran.passed))
+            return all(Floor(lambda p: faults_since(2, p.returns, p.faults), least, p) for p in distinct(ran.passed))
         case Mend() | Stop():
             return True
         case _:
-            return all(Floor(least, p) for p in distinct(ran.passed))
+            return all(Floor(lambda p: 0, least, p) for p in distinct(ran.passed))
+
+
+# what is claimed of a run, and whether it is so
+Claims = dict[str, bool]
 
 
 def KeepsPromise(t: Table, r: Record, target: Target, ran: Ran) -> Claims:
-    """What is promised of a run (Headline): it ends as its report says and keeps what it has to, the floor too, in the
-    target's manner."""
+    """What is promised of a run (Headline): it ends as its report says and keeps what it has to, in the target's
+    manner."""
     outcome = report_of(sides_of(r, target), ran).outcome
+    sockets = sockets_of(t, service(t), want(r, target))
     return {
-        **EndsAsReported(t, r, target, ran),
+        "says": Says(r, target, outcome, t, ran.last.table),
+        "after": IsSucceeded(r, target, t, ran),
+        "kept": all(Kept(sockets, p.table) for p in distinct(ran.passed)),
         "floor": HasFloor(t, r, target, ran),
         "manner": Manner(r, target, outcome, t, ran),
+        "blamed": all(IsBlamed(p) for p in distinct(ran.passed)),
+        "cause": HasCause(outcome, ran.last.cause),
+        "paid": IsPaid(r.retries, outcome, ran.last),
     }
 
 

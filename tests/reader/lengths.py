@@ -1,12 +1,11 @@
 """How many steps plans have (call_laws/specs/Lengths.antt)."""
+from reader.addresses import Addresses
 from reader.after import crew_wanted
-from reader.crew import Addresses
 from reader.crews import Crew
+from reader.master import Attended, Record, Target, Upgrade, addresses_of, crew_of
 from reader.pieces import spawn_edges
 from reader.plans import back_from, does, move_aside, new_part, old_part, plan_tree, taken_over
-from reader.record import Record, addresses_of, crew_of
-from reader.target import Attended, Target, Upgrade
-from reader.tree import Branches, Ends, Tree, shown
+from reader.run import Branches, Ends, Tree, shown
 from reader.vocabulary import End, SpawnMaster
 
 # the trees that were measured, each with its height

@@ -2,11 +2,12 @@
 rollback_plan/specs/Following.antt)."""
 from typing import NamedTuple
 
+from reader.master import Sides
 from reader.numbers import Numbers
-from reader.pieces import branch, first_cause
-from reader.run import lacked_after, lacked_by, lacked_last, outcome_of, ready_after, went_wrong
-from reader.target import Sides
-from reader.tree import Branch, Does, Ends, Tree, call_of, reply_of, shown
+from reader.pieces import branch, first_cause, lacked_last, went_wrong
+from reader.run import (
+    Branch, Does, Ends, Tree, call_of, lacked_after, lacked_by, outcome_of, ready_after, reply_of, shown,
+)
 from reader.vocabulary import Answer, AnyAnswer, AnyOutcome, Entries, Entry, Lacks, Outcome, PidNote, Report
 
 

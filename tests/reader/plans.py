@@ -1,21 +1,20 @@
-"""The tree of each target, from named pieces (Plans.antt)."""
+"""The tree of each target, from named pieces (Plans.antt). `round` is round_of, since Python has a round."""
 from collections.abc import Callable
 from functools import partial
 
-from reader.addresses import FilePath
+from reader.addresses import Addresses, FilePath
 from reader.after import crew_wanted
-from reader.crew import Addresses, fork_of
 from reader.crews import Crew
+from reader.master import (
+    Attended, Mend, Record, Reload, Reopen, Stop, Target, Upgrade, Workers, addresses_of, crew_of, fork_of, oldbin,
+)
 from reader.numbers import Numbers, is_in, numbers_below
-from reader.record import Record, addresses_of, crew_of, oldbin
-from reader.target import Attended, Mend, Reload, Reopen, Stop, Target, Upgrade, Workers
-from reader.tree import (
-    AwaitLacking, Branch, Branches, Does, Ends, ForkLacking, KillLacking, Later, Make, Tree, plain_reply, replies_to,
-    shown,
+from reader.run import (
+    AwaitLacking, Branch, Branches, Does, Ends, ForkLacking, KillLacking, Later, Make, Tree, plain_reply, shown,
 )
 from reader.vocabulary import (
-    Adopt, Alive, Ask, AwaitGone, AwaitReady, Call, Census, CloseAt, End, Generation, Kill, Leave, MovePid, OpenAt,
-    PidNote, Quit, RemovePid, Reply, Side, SpawnMaster, TermMaster, Turn, Usr1, WritePid,
+    Adopt, Alive, Ask, AwaitGone, AwaitReady, Call, Census, CloseAt, End, Fork, Generation, Kill, Leave, MovePid,
+    OpenAt, PidNote, Quit, RemovePid, Reply, Side, SpawnMaster, TermMaster, Turn, Usr1, WritePid,
 )
 
 Turns = tuple[Turn, ...]
@@ -24,10 +23,31 @@ Turns = tuple[Turn, ...]
 
 Replies = tuple[Reply, ...]
 
+# the replies to a call but the plain one, where there are such
+FAILED: dict[type, Replies] = {
+    OpenAt: (Reply.InUse, Reply.TooMany, Reply.Denied, Reply.NoMemory),
+    Fork: (Reply.Again, Reply.NoMemory),
+    AwaitReady: (Reply.Gone, Reply.Late),
+    Census: (Reply.Short,),
+    AwaitGone: (Reply.Late,),
+    SpawnMaster: (Reply.Again, Reply.NoMemory, Reply.NoImage),
+    Adopt: (Reply.Refused,),
+    WritePid: (Reply.IoFault,),
+    MovePid: (Reply.IoFault,),
+    RemovePid: (Reply.IoFault,),
+    Alive: (Reply.Gone,),
+    Ask: (Reply.Back,),
+}
+
 
 def only_in(addresses: Addresses, others: Addresses) -> Addresses:
     """What the first list has and the second lacks."""
     return tuple(a for a in addresses if a not in others)
+
+
+def failed_replies(call: Call) -> Replies:
+    """The replies to a call but the plain one; besides, each may be answered that the master is gone."""
+    return FAILED.get(type(call), ())
 
 
 def on(replies: Replies, rest: Tree, more: Branches = ()) -> Branches:
@@ -55,7 +75,7 @@ def does(by: int, call: Call, branches: Branches) -> Tree:
 
 def either(by: int, call: Call, numbers: Numbers, ok: Tree, bad: Tree) -> Tree:
     """A call, with the set of a census: the plain reply goes on, and any other elsewhere."""
-    return Does(by, Make(call), numbers, on((plain_reply(call),), ok, on(replies_to(call)[1:], bad)))
+    return Does(by, Make(call), numbers, on((plain_reply(call),), ok, on(failed_replies(call), bad)))
 
 
 def tells(by: int, calls: tuple[Call, ...], rest: Tree) -> Tree:
@@ -77,8 +97,8 @@ def short_end(side: Side) -> End:
 
 
 def round_of(by: int, crew: Crew, rest: Tree) -> Tree:
-    """(round) One round: start the lowest number that is lacking, and go on whatever was answered. A failed fork goes
-    straight on."""
+    """One round: start the lowest number that is lacking, and go on whatever was answered. A failed fork goes straight
+    on."""
     kill = Does(by, KillLacking(crew.generation), (), then_edge(rest))
     wait = Does(by, AwaitLacking(crew.generation), (), await_any_edges(rest, kill))
     return Does(by, ForkLacking(crew), (), on((Reply.Forked,), wait, on((Reply.Again, Reply.NoMemory), rest)))
@@ -316,7 +336,7 @@ def joined(ready: Tree, back: Tree, end: End) -> Tree:
 
 def tries(by: int, call: Call, numbers: Numbers, rest: Tree, back: Tree) -> Tree:
     """A step of the new master: the plain reply goes on; any other, and that the master is gone, goes back."""
-    failed = on((*replies_to(call)[1:], Reply.MasterGone), back)
+    failed = on((*failed_replies(call), Reply.MasterGone), back)
     return Does(by, Make(call), numbers, on((plain_reply(call),), rest, failed))
 
 

@@ -1,10 +1,10 @@
 """How a kernel starts with a master (call_laws/specs/Start.antt)."""
-from reader.addresses import FilePath
-from reader.crew import Addresses, share
+from reader.addresses import Addresses, FilePath
 from reader.crews import Posts, first_posts
 from reader.groups import Groups
+from reader.master import Agrees, Record
 from reader.numbers import Numbers, numbers_below
-from reader.record import Agrees, Record
+from reader.pieces import share
 from reader.settings import Settings, listeners_from
 from reader.table import File, Hold, Holds, Master, Process, Rows, Table, Worker
 from reader.vocabulary import Generation, Limits, PidNote, Stance

@@ -6,9 +6,8 @@ from reader.names import Name
 from reader.numbers import Numbers
 from reader.plans import Turns
 from reader.run import Moment
-from reader.service import service
 from reader.settings import Settings
-from reader.table import Foreign, Holds, Master, Process, Table, holds_of
+from reader.table import Foreign, Holds, Master, Process, Table, holds_of, service
 from reader.vocabulary import (
     Adopt, Alive, AnyAnswer, AnyOutcome, Ask, AwaitGone, AwaitReady, Call, Census, CloseAt, Counted, Degraded, Entries,
     Entry, Fork, Generation, Kill, Leave, MovePid, OpenAt, Opened, Quit, RemovePid, Report, SpawnMaster, TermMaster,

@@ -7,9 +7,9 @@ from collections import Counter
 from reader.altered import altered
 from reader.chance import any_moments, any_start, any_turns, any_word
 from reader.claims import Claims, IsAccepted, KeepsPromise, is_short
+from reader.master import sides_of
 from reader.path import KeepsPathLaw
 from reader.plans import plan_tree
-from reader.target import sides_of
 from reader.texts import configuration_text, outcome_text, section_text, table_text
 from reader.words import Heard, Run, graver, heard, status_of
 

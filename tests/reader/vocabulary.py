@@ -30,6 +30,9 @@ class Listener(NamedTuple):
     address: Address
 
 
+Listeners = tuple[Listener, ...]
+
+
 @dataclass(frozen=True, slots=True)
 class OpenAt:
     address: Address

@@ -4,17 +4,17 @@ service_state/specs/Targets.antt)."""
 from collections.abc import Callable
 from typing import NamedTuple
 
-from reader.after import next_record
+from reader.after import next_config, next_image, next_record
 from reader.claims import refusal_of, run_of
+from reader.master import (
+    Agrees, Attended, Mend, Record, Reload, Reopen, Stop, Target, Upgrade, Workers, sides_of,
+)
 from reader.numbers import Numbers, is_in
+from reader.pieces import quiet
 from reader.plans import Turns
-from reader.record import Agrees, Record
-from reader.run import Moment, Pattern, Ran, quiet, report_of
+from reader.run import Moment, Pattern, Ran, report_of
 from reader.settings import Settings
 from reader.table import Table, same_generation
-from reader.target import (
-    Attended, Mend, Reload, Reopen, Stop, Target, Upgrade, Workers, next_config, next_image, sides_of,
-)
 from reader.texts import Moments, block_text
 from reader.vocabulary import Answer, AnyOutcome, Degraded, Fork, Outcome, Report
 

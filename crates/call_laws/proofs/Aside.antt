@@ -9,10 +9,10 @@ use Rattle.vocabulary.specs.declared.calls.Call.{Call}
 use Rattle.vocabulary.specs.declared.calls.Call.TheVariants.{OpenAt, CloseAt, Fork, AwaitReady, Quit, Kill, Census, Adopt}
 use Rattle.vocabulary.specs.declared.calls.Fate.{Fate}
 use Rattle.definitions.specs.Table.{Hold, Generation, Process, Master, Worker, Foreign, Table, Caller, live_master}
-use Rattle.definitions.specs.Table.{is_worker, is_active, is_starting, is_exited, is_any}
-use Rattle.definitions.specs.Exits.{change}
-use Rattle.definitions.specs.Calls.{Stepped, is_of, is_row, with_holds, put_hold, lacks_address, lowest_free, shared}
-use Rattle.definitions.specs.Calls.{drop_where, made_ready, made_draining, is_exited_of, step_by, Handed}
+use Rattle.definitions.specs.Table.{is_worker, is_active}
+use Rattle.call_laws.specs.Pieces.{is_starting, is_exited, is_any, is_row, lacks_address, made_ready, made_draining}
+use Rattle.definitions.specs.Calls.{change, Stepped, is_of, with_holds, put_hold, lowest_free, shared, drop_where}
+use Rattle.definitions.specs.Calls.{is_exited_of, step_by, Handed}
 use Rattle.call_laws.specs.Aside.{is_own_call, aside_of, LeavesAlone, CallsLeaveAlone}
 use Rattle.call_laws.proofs.Choices.{and-left, and-right}
 use Rattle.call_laws.proofs.Cases.{fork-cases, await-cases, open-cases, adopt-cases, unfailing}

@@ -2,16 +2,17 @@
 use Rattle.std.proofs.Common.{◌≡◌, List, ℕ, Bool, true, false, Option, Some, None, refl, nat_lt, length}
 use Rattle.std.specs.Prelude.{⊤, if◌then◌else◌}
 use Rattle.std.specs.List.{list_any}
-use Rattle.definitions.specs.Table.{is_any, is_draining, FilePath, owner_at, Master, Worker, Table, Caller, is_worker}
-use Rattle.definitions.specs.Table.{is_active, is_starting, is_exited, Address, is_held}
+use Rattle.definitions.specs.Table.{FilePath, owner_at, Master, Worker, Table, Caller, is_worker, is_active, Address}
+use Rattle.definitions.specs.Table.{is_held}
+use Rattle.call_laws.specs.Pieces.{is_any, is_draining, is_starting, is_exited, moved_if, with_files, fault_or_own}
+use Rattle.call_laws.specs.Pieces.{with_new_socket, made_ready}
 use Rattle.vocabulary.specs.declared.table.Stance.TheVariants.{Starting}
 use Rattle.listener_set.specs.declared.generation.Generation.{Generation}
-use Rattle.definitions.specs.Calls.{suits, is_image, with_file, moved_if, with_files, without_file, Stepped, gives}
-use Rattle.definitions.specs.Calls.{step_by, fault_or_own, own_step, with_new_row, shared, each_row}
+use Rattle.definitions.specs.Calls.{is_image, with_file, without_file, Stepped, gives, suits, step_by, own_step}
+use Rattle.definitions.specs.Calls.{with_new_row, shared, each_row, has_process_room, drop_where, lowest_free, Handed}
+use Rattle.definitions.specs.Calls.{change}
 use Rattle.std.specs.Bool.{then_some}
-use Rattle.definitions.specs.Calls.{has_process_room, drop_where, made_ready, lowest_free, with_new_socket, Handed}
 use Rattle.vocabulary.specs.declared.calls.Fate.{Fate}
-use Rattle.definitions.specs.Exits.{change}
 use Rattle.vocabulary.specs.declared.calls.Call.TheVariants.{SpawnMaster, Adopt, WritePid, MovePid, Alive, TermMaster}
 use Rattle.vocabulary.specs.declared.calls.Call.TheVariants.{AwaitGone, RemovePid, Usr1, Leave, CloseAt, Fork}
 use Rattle.vocabulary.specs.declared.calls.Call.TheVariants.{AwaitReady, Quit, Kill, Census, OpenAt, Ask}

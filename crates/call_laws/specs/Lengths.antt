@@ -11,12 +11,11 @@ use Rattle.vocabulary.specs.declared.targets.Target.TheVariants.{Upgrade, Attend
 use Rattle.worker_groups.specs.Crews.{Crew}
 use Rattle.definitions.specs.Table.{Address, FilePath}
 use Rattle.definitions.specs.Calls.{SpawnMaster}
-use Rattle.definitions.specs.Record.{Record, addresses_of, crew_of}
-use Rattle.definitions.specs.Tree.{Tree, Branches, Ends, Does, Nothing, Branch}
+use Rattle.definitions.specs.Master.{Record, addresses_of, crew_of}
+use Rattle.definitions.specs.Run.{Tree, Branches, Ends, Does, Nothing, Branch}
 use Rattle.definitions.specs.After.{crew_wanted}
-use Rattle.definitions.specs.Plans.{plan_tree, settle, does, move_aside, new_part, old_part, taken_over}
+use Rattle.definitions.specs.Plans.{plan_tree, settle, does, move_aside, new_part, old_part, taken_over, back_from}
 use Rattle.call_laws.specs.Pieces.{spawn_edges}
-use Rattle.definitions.specs.Plans.{back_from}
 
 -- The number of steps on the longest path.
 abbrev mutual

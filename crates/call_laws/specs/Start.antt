@@ -11,8 +11,8 @@ use Rattle.vocabulary.specs.declared.plans.PidNote.TheVariants.{InPlace, NoFile}
 use Rattle.definitions.specs.Table.{Address, FilePath, Generation, Hold, Ready, Limits, Process, Master, Worker, File}
 use Rattle.definitions.specs.Table.{Table}
 use Rattle.worker_groups.specs.Crews.{first_posts}
-use Rattle.definitions.specs.Crew.{Posts, Group, share}
-use Rattle.definitions.specs.Record.{Record, Agrees}
+use Rattle.definitions.specs.Master.{Posts, Group, Record, Agrees}
+use Rattle.call_laws.specs.Pieces.{share}
 
 abbrev pub first_note : Option FilePath → PidNote
 first_note None = NoFile

@@ -7,7 +7,8 @@ use Rattle.vocabulary.specs.declared.calls.Reply.{Reply}
 use Rattle.vocabulary.specs.declared.calls.Reply.TheVariants as reply
 use Rattle.vocabulary.specs.declared.plans.Order.{Order}
 use Rattle.vocabulary.specs.declared.plans.Order.TheVariants.{Make, ForkLacking, AwaitLacking, KillLacking}
-use Rattle.definitions.specs.Tree.{among, reply_of, replies_to}
+use Rattle.call_laws.specs.Pieces.{among, replies_to}
+use Rattle.definitions.specs.Run.{reply_of}
 
 abbrev pub order_replies : Order → List Reply
 order_replies (Make call) = replies_to call

@@ -1,6 +1,7 @@
 //! What an edge tells apart of an answer.
 ghost use Rattle.std.specs.Prelude.{◌≡◌};
-ghost use Rattle.definitions.specs.Tree as tree;
+ghost use Rattle.call_laws.specs.Pieces as pieces;
+ghost use Rattle.definitions.specs.Run as tree;
 
 use listener_set::Numbers;
 use vocabulary::{Answer, Reply};
@@ -36,7 +37,7 @@ pub fn reply_to(answer: &Answer, set: &Numbers) -> Reply
 
 /// A census that lacks nothing of its set is full.
 fn full_or_short(lacking: &Numbers) -> Reply
-    ensures { result ≡ tree.full_or_short lacking.now }
+    ensures { result ≡ pieces.full_or_short lacking.now }
 {
     match lacking.lowest() {
         None => Reply::Full,

@@ -1,7 +1,9 @@
 //! Which replies a call can have.
-ghost use Rattle.std.specs.Prelude.{◌≡◌, ◌++◌, ◌∷◌, [], drop};
+ghost use Rattle.std.specs.Prelude.{◌≡◌, ◌++◌, ◌∷◌, []};
 ghost use Rattle.vocabulary.specs.declared.calls.Reply.TheVariants.{MasterGone};
-ghost use Rattle.definitions.specs.Tree as tree;
+ghost use Rattle.call_laws.specs.Pieces as pieces;
+ghost use Rattle.definitions.specs.Plans as plans;
+ghost use Rattle.definitions.specs.Run as tree;
 ghost use Rattle.call_replies.specs.Replies.{order_replies};
 
 use vocabulary::{Call, Order, Reply};
@@ -48,7 +50,7 @@ const LIVING: [Reply; 3] = [Reply::IsAlive, Reply::Gone, Reply::MasterGone];
 
 /// The replies to a call, the plain one first and that the master is gone last.
 pub fn replies_to(call: &Call) -> &'static [Reply]
-    ensures { result.now ≡ tree.replies_to call.now ++ MasterGone ∷ [] }
+    ensures { result.now ≡ pieces.replies_to call.now ++ MasterGone ∷ [] }
 {
     match call {
         Call::OpenAt(_) => &OPENING,
@@ -98,14 +100,14 @@ pub fn plain_replies(call: &Call) -> &'static [Reply]
 
 /// The other replies to a call, and last that the master is gone.
 pub fn other_replies(call: &Call) -> &'static [Reply]
-    ensures { result.now ≡ drop 1 (tree.replies_to call.now) ++ MasterGone ∷ [] }
+    ensures { result.now ≡ plans.failed_replies call.now ++ MasterGone ∷ [] }
 {
     &replies_to(call)[1..]
 }
 
 /// The other replies to a call, while its master lives.
 pub fn failed_replies(call: &Call) -> &'static [Reply]
-    ensures { result.now ≡ drop 1 (tree.replies_to call.now) }
+    ensures { result.now ≡ plans.failed_replies call.now }
 {
     let others = other_replies(call);
     &others[..others.len() - 1]
@@ -113,7 +115,7 @@ pub fn failed_replies(call: &Call) -> &'static [Reply]
 
 /// All replies to a call, while its master lives.
 pub fn all_replies(call: &Call) -> &'static [Reply]
-    ensures { result.now ≡ tree.replies_to call.now }
+    ensures { result.now ≡ pieces.replies_to call.now }
 {
     let replies = replies_to(call);
     &replies[..replies.len() - 1]

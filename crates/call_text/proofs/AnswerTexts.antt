@@ -9,7 +9,8 @@ use Rattle.vocabulary.specs.declared.calls.Answer.TheVariants as answer
 use Rattle.vocabulary.specs.declared.calls.Reply.{Reply}
 use Rattle.vocabulary.specs.declared.calls.Reply.TheVariants.{MasterGone}
 use Rattle.vocabulary.specs.declared.calls.Reply.TheVariants as reply
-use Rattle.definitions.specs.Tree.{replies_to, same_reply, among}
+use Rattle.call_laws.specs.Pieces.{replies_to, among}
+use Rattle.definitions.specs.Run.{same_reply}
 use Rattle.call_replies.specs.Replies.{is_listed}
 use Rattle.plain_text.specs.NumberText.{number_within}
 use Rattle.call_text.specs.SetText.{set_text}
@@ -97,7 +98,10 @@ find_passes {A = A} p (w ∷ ws) v e = at (p w) refl e (λ k. find_passes p ws v
 about_found : (word rest : List ℕ) (a : Answer) → answer_about word rest ≡ Some a → IsAnswer a × (word ++ 32 ∷ rest ≡ answer_text a)
 about_found word rest a e = at (bytes_eq word (codes "opened")) refl (bytes_eq word (codes "counted")) refl e
   where
-    at : (b : Bool) → bytes_eq word (codes "opened") ≡ b → (d : Bool) → bytes_eq word (codes "counted") ≡ d → cond b (option_map (λ fd. answer.Opened fd) (number_within 3 66 rest)) (cond d (option_map (λ ns. answer.Counted ns) (set_of rest)) None) ≡ Some a → IsAnswer a × (word ++ 32 ∷ rest ≡ answer_text a)
+    at : (b : Bool) → bytes_eq word (codes "opened") ≡ b → (d : Bool) → bytes_eq word (codes "counted") ≡ d →
+        cond b (option_map (λ fd. answer.Opened fd) (number_within 3 66 rest))
+        (cond d (option_map (λ ns. answer.Counted ns) (set_of rest)) None) ≡ Some a → IsAnswer a ×
+        (word ++ 32 ∷ rest ≡ answer_text a)
     at true k d l e =
         let fd = mapped (λ fd. answer.Opened fd) (number_within 3 66 rest) a e in
         let got = (within_reads 3 66 (omega arith)).found rest fd.0 fd.1 in

@@ -61,7 +61,8 @@ verb_lacks verb.Ask = refl
 -- ---- a call that is read
 -- what was read behind a verb
 module _ {A : Type 0} (P : A → Type 0) (f : A → List ℕ) (r : List ℕ → Option A) (h : IsReader P f r) (make : A → Call) where
-  arm : (head : List ℕ) → ((a : A) → P a → IsCall (make a) × (head ++ f a ≡ call_text (make a))) → (rest : List ℕ) (c : Call) → option_map make (r rest) ≡ Some c → IsCall c × (head ++ rest ≡ call_text c)
+  arm : (head : List ℕ) → ((a : A) → P a → IsCall (make a) × (head ++ f a ≡ call_text (make a))) →
+      (rest : List ℕ) (c : Call) → option_map make (r rest) ≡ Some c → IsCall c × (head ++ rest ≡ call_text c)
   arm head made rest c e =
       let from = mapped make (r rest) c e in
       let got = h.found rest from.0 from.1 in
@@ -69,7 +70,11 @@ module _ {A : Type 0} (P : A → Type 0) (f : A → List ℕ) (r : List ℕ → 
       let C : Call → Type 0 = λ c. IsCall c × (head ++ rest ≡ call_text c) in
       subst C from.2 (good.0, ap (λ t. head ++ t) got.1 ∙ good.1)
 
-named : (make : Generation → ℕ → Call) (head : List ℕ) → ((g : Generation) (nr : ℕ) → IsWorker g nr → IsCall (make g nr) × (head ++ worker_text g nr ≡ call_text (make g nr))) → (rest : List ℕ) (c : Call) → option_map (λ (w : Generation × ℕ). make w.0 w.1) (worker_of rest) ≡ Some c → IsCall c × (head ++ rest ≡ call_text c)
+named : (make : Generation → ℕ → Call) (head : List ℕ) →
+    ((g : Generation) (nr : ℕ) → IsWorker g nr → IsCall (make g nr) ×
+    (head ++ worker_text g nr ≡ call_text (make g nr))) → (rest : List ℕ) (c : Call) →
+    option_map (λ (w : Generation × ℕ). make w.0 w.1) (worker_of rest) ≡ Some c → IsCall c ×
+    (head ++ rest ≡ call_text c)
 named make head made rest c e =
     arm (λ (w : Generation × ℕ). IsWorker w.0 w.1) (λ (w : Generation × ℕ). worker_text w.0 w.1) worker_of worker_reads (λ (w : Generation × ℕ). make w.0 w.1) head (λ w h. made w.0 w.1 h) rest c e
 
@@ -131,7 +136,8 @@ behind_verb v rest o e =
     ap (call_from (verb_text v ++ 32 ∷ rest)) (cut_at 32 (verb_text v) rest (verb_lacks v))
     ∙ ap (option_and_then (λ w. about w rest)) (verb_again v) ∙ e
 
-worker_only : (make : Generation → ℕ → Call) (g : Generation) (nr : ℕ) → IsWorker g nr → option_map (λ (w : Generation × ℕ). make w.0 w.1) (worker_of (worker_text g nr)) ≡ Some (make g nr)
+worker_only : (make : Generation → ℕ → Call) (g : Generation) (nr : ℕ) → IsWorker g nr →
+    option_map (λ (w : Generation × ℕ). make w.0 w.1) (worker_of (worker_text g nr)) ≡ Some (make g nr)
 worker_only make g nr h = ap (option_map (λ (w : Generation × ℕ). make w.0 w.1)) (worker_reads.only (g, nr) h)
 
 call_only : (c : Call) → IsCall c → call_of (call_text c) ≡ Some c

@@ -1,5 +1,6 @@
 -- Forks are read as they are written.
-use Rattle.std.proofs.Common.{◌≡◌, ℕ, ◌+◌, ◌<◌, ◌≤◌, leb, ltb, Bool, true, false, List, [], ◌∷◌, ◌++◌, Option, Some, None, refl, sym, ap, subst, ◌∙◌, arith, append_assoc, true≢false}
+use Rattle.std.proofs.Common.{◌≡◌, ℕ, ◌+◌, ◌<◌, ◌≤◌, leb, ltb, Bool, true, false, List, [], ◌∷◌, ◌++◌, Option, Some}
+use Rattle.std.proofs.Common.{None, refl, sym, ap, subst, ◌∙◌, arith, append_assoc, true≢false}
 use Rattle.std.specs.Prelude.{codes, option_map, option_and_then, IfSome, IsSome, ◌↔◌}
 use Rattle.std.specs.Fmt.{decimal}
 use Rattle.std.specs.List.{All, list_all}
@@ -97,7 +98,8 @@ spaceless nr h = let small : nr < 1024 = h in number_lacks 32 nr refl (omega (ar
 named_reads : IsReader IsNamed (λ (p : ℕ × Option (List ℕ)). named_text p.0 p.1) named_of
 named_reads = record { found = λ text p e. at text p (cut 32 text) refl e; only = λ p h. again p.0 p.1 h }
   where
-    at : (text : List ℕ) (p : ℕ × Option (List ℕ)) (o : Option (List ℕ × List ℕ)) → cut 32 text ≡ o → named_from text o ≡ Some p → IsNamed p × (text ≡ named_text p.0 p.1)
+    at : (text : List ℕ) (p : ℕ × Option (List ℕ)) (o : Option (List ℕ × List ℕ)) → cut 32 text ≡ o →
+        named_from text o ≡ Some p → IsNamed p × (text ≡ named_text p.0 p.1)
     at text p None k e =
         let all : Option (List ℕ) = None in
         let nr = mapped (λ nr. (nr, all)) (worker_number text) p e in
@@ -129,7 +131,9 @@ named_reads = record { found = λ text p e. at text p (cut 32 text) refl e; only
 abbrev pub IsForked : Generation × (ℕ × Option (List ℕ)) → Type 0
 IsForked p = IsGeneration p.0 × IsNamed p.1
 
-pub forked_reads : IsReader IsForked (λ (p : Generation × (ℕ × Option (List ℕ))). generation_text p.0 ++ 32 ∷ named_text p.1.0 p.1.1) (joined 32 generation_of named_of)
+pub forked_reads : IsReader IsForked
+    (λ (p : Generation × (ℕ × Option (List ℕ))). generation_text p.0 ++ 32 ∷ named_text p.1.0 p.1.1)
+    (joined 32 generation_of named_of)
 forked_reads = joined_reads IsGeneration IsNamed generation_text (λ (p : ℕ × Option (List ℕ)). named_text p.0 p.1) generation_of named_of 32 (generation_lacks 32 refl refl) generation_reads named_reads
 
 pub forked_text_is : (g : Generation) (nr : ℕ) (share : Option (List ℕ)) → generation_text g ++ 32 ∷ named_text nr share ≡ forked_text g nr share
@@ -140,7 +144,8 @@ forked_text_is g nr (Some fds) = sym (append_assoc (generation_text g) (32 ∷ d
 pub set_made : (ns : List ℕ) (o : Option (List ℕ)) → IfSome o (λ set. set ≡ ns) → (IsSome o ↔ All IsDescriptor ns) → o ≡ all_descriptors ns
 set_made ns o is made = at (list_all is_descriptor ns) refl o is made
   where
-    at : (b : Bool) → list_all is_descriptor ns ≡ b → (o : Option (List ℕ)) → IfSome o (λ set. set ≡ ns) → (IsSome o ↔ All IsDescriptor ns) → o ≡ all_descriptors ns
+    at : (b : Bool) → list_all is_descriptor ns ≡ b → (o : Option (List ℕ)) → IfSome o (λ set. set ≡ ns) →
+        (IsSome o ↔ All IsDescriptor ns) → o ≡ all_descriptors ns
     at true e None is made = absurd (true≢false (sym (made.1 (λ k d lt. descriptor _ (AllPass-from_list_all is_descriptor ns e k d lt)))))
     at true e (Some set) is made = ap Some is ∙ sym (ap (λ b. some_if b ns) e)
     at false e None is made = sym (ap (λ b. some_if b ns) e)

@@ -24,7 +24,8 @@ two_reads : IsReader (λ (p : ℕ × ℕ). IsNumber p.0 × IsWorkerNumber p.1) (
 two_reads =
     joined_reads IsNumber IsWorkerNumber decimal decimal number_of worker_number 46 (λ n lt. number_lacks 46 n refl lt) number_reads worker_number_reads
 
-three_reads : IsReader (λ (p : ℕ × (ℕ × ℕ)). IsNumber p.0 × (IsNumber p.1.0 × IsWorkerNumber p.1.1)) (λ (p : ℕ × (ℕ × ℕ)). decimal p.0 ++ 46 ∷ (decimal p.1.0 ++ 46 ∷ decimal p.1.1)) three_of
+three_reads : IsReader (λ (p : ℕ × (ℕ × ℕ)). IsNumber p.0 × (IsNumber p.1.0 × IsWorkerNumber p.1.1))
+    (λ (p : ℕ × (ℕ × ℕ)). decimal p.0 ++ 46 ∷ (decimal p.1.0 ++ 46 ∷ decimal p.1.1)) three_of
 three_reads =
     joined_reads IsNumber (λ (p : ℕ × ℕ). IsNumber p.0 × IsWorkerNumber p.1) decimal (λ (p : ℕ × ℕ). decimal p.0 ++ 46 ∷ decimal p.1) number_of (joined 46 number_of worker_number) 46
     (λ n lt. number_lacks 46 n refl lt) number_reads two_reads
@@ -42,7 +43,11 @@ name_found : (text : List ℕ) (x : Name) → name_of text ≡ Some x → IsName
 name_found [] x e = let none : Option Name = None in let no : none ≡ Some x = e in absurd cc
 name_found (c ∷ cs) x e = at (c == 119) refl (c == 100) refl (c == 109) refl e
   where
-    worker : (make : Generation → ℕ → Name) (kind : ℕ) → c ≡ kind → ((g : Generation) (k : ℕ) → IsWorker g k → IsName (make g k) × (kind ∷ worker_name g k ≡ name_text (make g k))) → option_map (λ (w : Generation × ℕ). make w.0 w.1) (worker_name_of cs) ≡ Some x → IsName x × (c ∷ cs ≡ name_text x)
+    worker : (make : Generation → ℕ → Name) (kind : ℕ) → c ≡ kind →
+        ((g : Generation) (k : ℕ) → IsWorker g k → IsName (make g k) ×
+        (kind ∷ worker_name g k ≡ name_text (make g k))) →
+        option_map (λ (w : Generation × ℕ). make w.0 w.1) (worker_name_of cs) ≡ Some x → IsName x ×
+        (c ∷ cs ≡ name_text x)
     worker make kind is made e =
         let w = mapped (λ (w : Generation × ℕ). make w.0 w.1) (worker_name_of cs) x e in
         let got = worker_name_reads.found cs w.0 w.1 in
@@ -50,7 +55,10 @@ name_found (c ∷ cs) x e = at (c == 119) refl (c == 100) refl (c == 109) refl e
         let W : Name → Type 0 = λ x. IsName x × (c ∷ cs ≡ name_text x) in
         subst W w.2 (good.0, ap (λ b. b ∷ cs) is ∙ ap (λ t. kind ∷ t) got.1 ∙ good.1)
 
-    at : (p : Bool) → (c == 119) ≡ p → (q : Bool) → (c == 100) ≡ q → (r : Bool) → (c == 109) ≡ r → cond p (option_map (λ (w : Generation × ℕ). name.Worker w.0 w.1) (worker_name_of cs)) (cond q (option_map (λ (w : Generation × ℕ). name.Draining w.0 w.1) (worker_name_of cs)) (cond r (option_map (λ i. name.Master i) (number_of cs)) None)) ≡ Some x → IsName x × (c ∷ cs ≡ name_text x)
+    at : (p : Bool) → (c == 119) ≡ p → (q : Bool) → (c == 100) ≡ q → (r : Bool) → (c == 109) ≡ r →
+        cond p (option_map (λ (w : Generation × ℕ). name.Worker w.0 w.1) (worker_name_of cs))
+        (cond q (option_map (λ (w : Generation × ℕ). name.Draining w.0 w.1) (worker_name_of cs))
+        (cond r (option_map (λ i. name.Master i) (number_of cs)) None)) ≡ Some x → IsName x × (c ∷ cs ≡ name_text x)
     at true k q l r m e = worker (λ g k. name.Worker g k) 119 (byte_is c 119 k) (λ g k h. (h, refl)) e
     at false k true l r m e = worker (λ g k. name.Draining g k) 100 (byte_is c 100 l) (λ g k h. (h, refl)) e
     at false k false l true m e =

@@ -1,5 +1,6 @@
 -- Generations, workers, addresses and paths are read as they are written.
-use Rattle.std.proofs.Common.{◌≡◌, ℕ, ◌+◌, ◌-◌, leb, Bool, true, false, cond, ◌&&◌, List, ◌∷◌, ◌++◌, length, take, drop, Option, Some, None, Result, Ok, Err, refl, sym, ap, ◌∙◌, arith, inl, inr}
+use Rattle.std.proofs.Common.{◌≡◌, ℕ, ◌+◌, ◌-◌, leb, Bool, true, false, cond, ◌&&◌, List, ◌∷◌, ◌++◌, length, take, drop}
+use Rattle.std.proofs.Common.{Option, Some, None, Result, Ok, Err, refl, sym, ap, ◌∙◌, arith, inl, inr}
 use Rattle.std.specs.Prelude.{codes, bytes_eq, is_ok}
 use Rattle.std.specs.Fmt.{decimal}
 use Rattle.std.specs.List.{list_all}
@@ -17,7 +18,8 @@ use Rattle.plain_text.proofs.NumberTextLemmas.{both}
 use Rattle.listener_set.specs.GenerationText.{generation_text}
 use Rattle.call_text.specs.CallText.{worker_text}
 use Rattle.call_text.specs.Ranges.{IsNumber, IsWorkerNumber, IsGeneration, IsWorker, IsPath}
-use Rattle.call_text.specs.Reading.{some_if, joined, worker_number, generation_from, generation_of, worker_of, accepted, address_of, is_suffixed, suffixed_of, path_of, paths_of}
+use Rattle.call_text.specs.Reading.{some_if, joined, worker_number, generation_from, generation_of, worker_of, accepted}
+use Rattle.call_text.specs.Reading.{address_of, is_suffixed, suffixed_of, path_of, paths_of}
 use Rattle.plain_text.proofs.CutTexts.{lacks, lacks-append, lacks-all, lacks-decimal}
 use Rattle.call_text.proofs.Readers.{IsReader, joined_reads, mapped_reads, chosen, number_reads, worker_number_reads, same_bytes}
 
@@ -99,7 +101,8 @@ path_reads = record {
         (inl (sym (ap is_path is) ∙ k), is)
     at text path false k e = suffixed_found text path (sym (ap (λ b. cond b (Some text) (suffixed_of text)) k) ∙ e)
 
-    suffixed : (path stem : List ℕ) → is_path stem ≡ true → path ≡ stem ++ codes ".oldbin" → (b : Bool) → is_path path ≡ b → cond (is_path path) (Some path) (suffixed_of path) ≡ Some path
+    suffixed : (path stem : List ℕ) → is_path stem ≡ true → path ≡ stem ++ codes ".oldbin" → (b : Bool) →
+        is_path path ≡ b → cond (is_path path) (Some path) (suffixed_of path) ≡ Some path
     suffixed path stem h e true k = ap (λ b. cond b (Some path) (suffixed_of path)) k
     suffixed path stem h e false k =
         ap (λ b. cond b (Some path) (suffixed_of path)) k

@@ -4,13 +4,15 @@ use Rattle.vocabulary.specs.declared.calls.Answer.{Answer}
 use Rattle.vocabulary.specs.declared.calls.Answer.TheVariants as answer
 use Rattle.vocabulary.specs.declared.calls.Reply.{Reply}
 use Rattle.vocabulary.specs.declared.calls.Reply.TheVariants as reply
-use Rattle.definitions.specs.Tree.{reply_of}
+use Rattle.definitions.specs.Run.{reply_of}
 use Rattle.call_text.specs.CallText.{answer_word}
 use Rattle.call_text.specs.Words.{reply_text}
 use Rattle.call_text.specs.Reading.{◌>>=◌}
 use Rattle.call_text.specs.AnswerReading.{is_answer, plain_answers, plain_of, plain_answer, plain_replies, tells}
 
-step : (text : List ℕ) (r : Reply) (a : Answer) (rs : List Reply) (more : List Answer) → plain_answer r ≡ Some a → tells text r ≡ is_answer text a → (find (tells text) rs >>= plain_answer) ≡ find (is_answer text) more → (find (tells text) (r ∷ rs) >>= plain_answer) ≡ find (is_answer text) (a ∷ more)
+step : (text : List ℕ) (r : Reply) (a : Answer) (rs : List Reply) (more : List Answer) → plain_answer r ≡ Some a →
+    tells text r ≡ is_answer text a → (find (tells text) rs >>= plain_answer) ≡ find (is_answer text) more →
+    (find (tells text) (r ∷ rs) >>= plain_answer) ≡ find (is_answer text) (a ∷ more)
 step text r a rs more one same rest =
     subst (λ (b : Bool). (cond b (Some r) (find (tells text) rs) >>= plain_answer) ≡ cond (is_answer text a) (Some a) (find (is_answer text) more)) (sym same)
     (elim (is_answer text a) as (λ b. (cond b (Some r) (find (tells text) rs) >>= plain_answer) ≡ cond b (Some a) (find (is_answer text) more)) [

@@ -44,7 +44,8 @@ bytes_same xs = (bytes_decides xs xs).1 refl
 
 -- ---- two parts with a byte between them
 module _ {A B : Type 0} (P : A → Type 0) (Q : B → Type 0) (f : A → List ℕ) (g : B → List ℕ) (r : List ℕ → Option A) (s : List ℕ → Option B) where
-  pub joined_reads : (b : ℕ) → ((v : A) → P v → lacks b (f v) ≡ true) → IsReader P f r → IsReader Q g s → IsReader (λ (p : A × B). P p.0 × Q p.1) (λ (p : A × B). f p.0 ++ b ∷ g p.1) (joined b r s)
+  pub joined_reads : (b : ℕ) → ((v : A) → P v → lacks b (f v) ≡ true) → IsReader P f r → IsReader Q g s →
+      IsReader (λ (p : A × B). P p.0 × Q p.1) (λ (p : A × B). f p.0 ++ b ∷ g p.1) (joined b r s)
   joined_reads b apart hr hs = record {
     found = λ text p e.
         let parts = then (λ (q : List ℕ × List ℕ). option_and_then (λ v. option_and_then (λ w. Some (v, w)) (s q.1)) (r q.0)) (cut b text) p e in
@@ -56,13 +57,16 @@ module _ {A B : Type 0} (P : A → Type 0) (Q : B → Type 0) (f : A → List �
         let P' : A × B → Type 0 = λ p. (P p.0 × Q p.1) × (text ≡ f p.0 ++ b ∷ g p.1) in
         subst P' pair ((one.0, two.0), cut_found b text parts.0 parts.1 ∙ ap (λ t. t ++ b ∷ parts.0.1) one.1 ∙ ap (λ t. f left.0 ++ b ∷ t) two.1);
     only = λ p h.
-        ap (option_and_then (λ (q : List ℕ × List ℕ). option_and_then (λ v. option_and_then (λ w. Some (v, w)) (s q.1)) (r q.0))) (cut_at b (f p.0) (g p.1) (apart p.0 h.0))
+        ap (option_and_then (λ (q : List ℕ × List ℕ). option_and_then (λ v. option_and_then (λ w. Some (v, w)) (s q.1))
+        (r q.0))) (cut_at b (f p.0) (g p.1) (apart p.0 h.0))
         ∙ ap (option_and_then (λ v. option_and_then (λ w. Some (v, w)) (s (g p.1)))) (hr.only p.0 h.0)
         ∙ ap (option_and_then (λ w. Some (p.0, w))) (hs.only p.1 h.1);
   }
 
 -- ---- a value made of what is read
-pub mapped_reads : {A B : Type 0} (P : A → Type 0) (Q : B → Type 0) (f : A → List ℕ) (g : B → List ℕ) (r : List ℕ → Option A) (to : A → B) (back : B → A) → ((v : A) → P v → Q (to v) × (f v ≡ g (to v))) → ((w : B) → Q w → P (back w) × (to (back w) ≡ w)) → IsReader P f r → IsReader Q g (λ text. option_map to (r text))
+pub mapped_reads : {A B : Type 0} (P : A → Type 0) (Q : B → Type 0) (f : A → List ℕ) (g : B → List ℕ)
+    (r : List ℕ → Option A) (to : A → B) (back : B → A) → ((v : A) → P v → Q (to v) × (f v ≡ g (to v))) →
+    ((w : B) → Q w → P (back w) × (to (back w) ≡ w)) → IsReader P f r → IsReader Q g (λ text. option_map to (r text))
 mapped_reads {B = B} P Q f g r to back there again h = record {
   found = λ text w e.
       let from = mapped to (r text) w e in
@@ -93,7 +97,8 @@ module _ {A : Type 0} (f : A → List ℕ) where
   find_found text [] v e = let none : Option A = None in let no : none ≡ Some v = e in absurd cc
   find_found text (w ∷ ws) v e = at (bytes_eq (f w) text) refl e (λ k. find_found text ws v k)
     where
-      at : (b : Bool) → bytes_eq (f w) text ≡ b → cond b (Some w) (find (λ w. bytes_eq (f w) text) ws) ≡ Some v → (find (λ w. bytes_eq (f w) text) ws ≡ Some v → text ≡ f v) → text ≡ f v
+      at : (b : Bool) → bytes_eq (f w) text ≡ b → cond b (Some w) (find (λ w. bytes_eq (f w) text) ws) ≡ Some v →
+          (find (λ w. bytes_eq (f w) text) ws ≡ Some v → text ≡ f v) → text ≡ f v
       at true is e again = let one : Some w ≡ Some v = e in let same : w ≡ v = cc in sym (same_bytes (f w) text is) ∙ ap f same
       at false is e again = again e
 

@@ -16,7 +16,9 @@ use Rattle.call_text.specs.Reads.{Reads}
 use Rattle.call_text.specs.Ranges.{AreShortfalls, IsCause, IsOutcome, IsReport}
 use Rattle.plain_text.specs.Cuts.{cut}
 use Rattle.call_text.specs.Reading.{joined, behind}
-use Rattle.call_text.specs.ReportReading.{all_notes, note_of, both_sides, side_of, plain_outcome, cause_of, noted_of, Ending, ending_of, shortfalls_of, degraded_from, degraded_of, plain_report, parts_of, report_from, report_of}
+use Rattle.call_text.specs.ReportReading.{all_notes, note_of, both_sides, side_of, plain_outcome, cause_of, noted_of}
+use Rattle.call_text.specs.ReportReading.{Ending, ending_of, shortfalls_of, degraded_from, degraded_of, plain_report}
+use Rattle.call_text.specs.ReportReading.{parts_of, report_from, report_of}
 use Rattle.plain_text.proofs.CutTexts.{lacks, cut_found, cut_at}
 use Rattle.call_text.proofs.Readers.{IsReader, reads, mapped, then, joined_reads, mapped_reads, behind_found, behind_at, find_found, number_reads, same_bytes}
 use Rattle.call_text.proofs.PartTexts.{number_lacks}
@@ -45,7 +47,9 @@ side_reads : IsReader (λ (s : Side). ⊤) side_text side_of
 side_reads = record { found = λ text s e. (tt, find_found side_text text both_sides s e); only = λ s _. side_again s }
 
 -- ---- a reader behind a word
-behind_reads : {A : Type 0} (word : List ℕ) (P : A → Type 0) (f : A → List ℕ) (r : List ℕ → Option A) → lacks 32 word ≡ true → IsReader P f r → IsReader P (λ v. word ++ 32 ∷ f v) (λ text. option_and_then r (behind word text))
+behind_reads : {A : Type 0} (word : List ℕ) (P : A → Type 0) (f : A → List ℕ) (r : List ℕ → Option A) →
+    lacks 32 word ≡ true → IsReader P f r →
+    IsReader P (λ v. word ++ 32 ∷ f v) (λ text. option_and_then r (behind word text))
 behind_reads word P f r apart h = record {
   found = λ text v e.
       let rest = then r (behind word text) v e in
@@ -61,7 +65,8 @@ noted_reads = behind_reads (codes "pid") (λ (n : PidNote). ⊤) note_text note_
 cause_found : (text : List ℕ) (c : Option ℕ) → cause_of text ≡ Some c → IsCause c × (text ≡ cause_text c)
 cause_found text c e = at (bytes_eq text (codes "none")) refl e
   where
-    at : (b : Bool) → bytes_eq text (codes "none") ≡ b → cond b (Some None) (option_map (λ n. Some n) (number_of text)) ≡ Some c → IsCause c × (text ≡ cause_text c)
+    at : (b : Bool) → bytes_eq text (codes "none") ≡ b →
+        cond b (Some None) (option_map (λ n. Some n) (number_of text)) ≡ Some c → IsCause c × (text ≡ cause_text c)
     at true k e =
         let nothing : Option ℕ = None in
         let same : Some nothing ≡ Some c = e in
@@ -114,11 +119,14 @@ IsWhole p = IsOutcome p.0 × IsEnding p.1
 abbrev whole_text : Outcome × Ending → List ℕ
 whole_text p = outcome_text p.0 ++ 32 ∷ text_of_ending p.1
 
-short_reads : IsReader (λ (p : List ℕ × Ending). AreShortfalls p.0 × IsEnding p.1) (λ (p : List ℕ × Ending). shortfalls_text p.0 ++ 32 ∷ text_of_ending p.1) (joined 32 shortfalls_of ending_of)
+short_reads : IsReader (λ (p : List ℕ × Ending). AreShortfalls p.0 × IsEnding p.1)
+    (λ (p : List ℕ × Ending). shortfalls_text p.0 ++ 32 ∷ text_of_ending p.1) (joined 32 shortfalls_of ending_of)
 short_reads =
     joined_reads AreShortfalls IsEnding shortfalls_text text_of_ending shortfalls_of ending_of 32 (λ ns h. shortfalls_lack 32 refl refl ns h.within) shortfalls_reads ending_reads
 
-three_reads : IsReader (λ (p : Side × (List ℕ × Ending)). ⊤ × (AreShortfalls p.1.0 × IsEnding p.1.1)) (λ (p : Side × (List ℕ × Ending)). side_text p.0 ++ 32 ∷ (shortfalls_text p.1.0 ++ 32 ∷ text_of_ending p.1.1)) (joined 32 side_of (joined 32 shortfalls_of ending_of))
+three_reads : IsReader (λ (p : Side × (List ℕ × Ending)). ⊤ × (AreShortfalls p.1.0 × IsEnding p.1.1))
+    (λ (p : Side × (List ℕ × Ending)). side_text p.0 ++ 32 ∷ (shortfalls_text p.1.0 ++ 32 ∷ text_of_ending p.1.1))
+    (joined 32 side_of (joined 32 shortfalls_of ending_of))
 three_reads =
     joined_reads (λ (s : Side). ⊤) (λ (p : List ℕ × Ending). AreShortfalls p.0 × IsEnding p.1) side_text (λ (p : List ℕ × Ending). shortfalls_text p.0 ++ 32 ∷ text_of_ending p.1) side_of (joined 32 shortfalls_of ending_of) 32
     (λ s _. side_lacks s) side_reads short_reads
@@ -130,20 +138,25 @@ degraded_found rest p e =
     let W : Outcome × Ending → Type 0 = λ p. IsWhole p × (codes "degraded " ++ rest ≡ whole_text p) in
     subst W q.2 ((got.0.1.0, got.0.1.1), ap (λ t. codes "degraded " ++ t) got.1 ∙ sym (regroup q.0.0 q.0.1.0 (text_of_ending q.0.1.1)))
   where
-    regroup : (s : Side) (ns t : List ℕ) → outcome_text (outcome.Degraded s ns) ++ 32 ∷ t ≡ codes "degraded " ++ (side_text s ++ 32 ∷ (shortfalls_text ns ++ 32 ∷ t))
+    regroup : (s : Side) (ns t : List ℕ) → outcome_text (outcome.Degraded s ns) ++ 32
+        ∷ t ≡ codes "degraded " ++ (side_text s ++ 32 ∷ (shortfalls_text ns ++ 32 ∷ t))
     regroup side.Old ns t = refl
     regroup side.Target ns t = refl
 
 plain_found : (word : List ℕ) (o : Outcome) → plain_outcome word ≡ Some o → IsOutcome o × (word ≡ outcome_text o)
 plain_found word o e = at (bytes_eq word (codes "done")) refl (bytes_eq word (codes "rolled-back")) refl (bytes_eq word (codes "lost")) refl e
   where
-    made : (v : Outcome) (text : List ℕ) → IsOutcome v × (text ≡ outcome_text v) → bytes_eq word text ≡ true → Some v ≡ Some o → IsOutcome o × (word ≡ outcome_text o)
+    made : (v : Outcome) (text : List ℕ) → IsOutcome v × (text ≡ outcome_text v) → bytes_eq word text ≡ true →
+        Some v ≡ Some o → IsOutcome o × (word ≡ outcome_text o)
     made v text h k e =
         let is : v ≡ o = cc in
         let W : Outcome → Type 0 = λ o. IsOutcome o × (word ≡ outcome_text o) in
         subst W is (h.0, same_bytes word text k ∙ h.1)
 
-    at : (a : Bool) → bytes_eq word (codes "done") ≡ a → (b : Bool) → bytes_eq word (codes "rolled-back") ≡ b → (d : Bool) → bytes_eq word (codes "lost") ≡ d → cond a (Some outcome.Done) (cond b (Some outcome.RolledBack) (cond d (Some outcome.Lost) None)) ≡ Some o → IsOutcome o × (word ≡ outcome_text o)
+    at : (a : Bool) → bytes_eq word (codes "done") ≡ a → (b : Bool) → bytes_eq word (codes "rolled-back") ≡ b →
+        (d : Bool) → bytes_eq word (codes "lost") ≡ d →
+        cond a (Some outcome.Done) (cond b (Some outcome.RolledBack) (cond d (Some outcome.Lost) None)) ≡ Some o →
+        IsOutcome o × (word ≡ outcome_text o)
     at true k b l d m e = made outcome.Done (codes "done") (tt, refl) k e
     at false k true l d m e = made outcome.RolledBack (codes "rolled-back") (tt, refl) l e
     at false k false l true m e = made outcome.Lost (codes "lost") (tt, refl) m e
@@ -154,7 +167,8 @@ parts_found text p e =
     let cuts = then (λ (q : List ℕ × List ℕ). cond (bytes_eq q.0 (codes "degraded")) (degraded_of q.1) (plain_report q.0 q.1)) (cut 32 text) p e in
     at cuts.0 cuts.1 (bytes_eq cuts.0.0 (codes "degraded")) refl cuts.2
   where
-    at : (q : List ℕ × List ℕ) → cut 32 text ≡ Some q → (b : Bool) → bytes_eq q.0 (codes "degraded") ≡ b → cond b (degraded_of q.1) (plain_report q.0 q.1) ≡ Some p → IsWhole p × (text ≡ whole_text p)
+    at : (q : List ℕ × List ℕ) → cut 32 text ≡ Some q → (b : Bool) → bytes_eq q.0 (codes "degraded") ≡ b →
+        cond b (degraded_of q.1) (plain_report q.0 q.1) ≡ Some p → IsWhole p × (text ≡ whole_text p)
     at q k true l e =
         let got = degraded_found q.1 p e in
         (got.0, cut_found 32 text q k ∙ ap (λ t. t ++ 32 ∷ q.1) (same_bytes q.0 (codes "degraded") l) ∙ got.1)
@@ -168,14 +182,18 @@ parts_found text p e =
         let W : Outcome × Ending → Type 0 = λ p. IsWhole p × (text ≡ whole_text p) in
         subst W is ((one.0, two.0), cut_found 32 text q k ∙ ap (λ t. t ++ 32 ∷ q.1) one.1 ∙ ap (λ t. outcome_text o.0 ++ 32 ∷ t) two.1)
 
-plain_only : (o : Outcome) (word : List ℕ) (e : Ending) → lacks 32 word ≡ true → bytes_eq word (codes "degraded") ≡ false → plain_outcome word ≡ Some o → IsEnding e → parts_of (word ++ 32 ∷ text_of_ending e) ≡ Some (o, e)
+plain_only : (o : Outcome) (word : List ℕ) (e : Ending) → lacks 32 word ≡ true →
+    bytes_eq word (codes "degraded") ≡ false → plain_outcome word ≡ Some o → IsEnding e →
+    parts_of (word ++ 32 ∷ text_of_ending e) ≡ Some (o, e)
 plain_only o word e apart other is h =
     ap (option_and_then (λ (q : List ℕ × List ℕ). cond (bytes_eq q.0 (codes "degraded")) (degraded_of q.1) (plain_report q.0 q.1))) (cut_at 32 word (text_of_ending e) apart)
     ∙ ap (λ b. cond b (degraded_of (text_of_ending e)) (plain_report word (text_of_ending e))) other
     ∙ ap (option_and_then (λ o. option_and_then (λ x. Some (o, x)) (ending_of (text_of_ending e)))) is
     ∙ ap (option_and_then (λ x. Some (o, x))) (ending_reads.only e h)
 
-degraded_only : (s : Side) (ns : List ℕ) (e : Ending) → AreShortfalls ns → IsEnding e → parts_of (codes "degraded " ++ (side_text s ++ 32 ∷ (shortfalls_text ns ++ 32 ∷ text_of_ending e))) ≡ Some (outcome.Degraded s ns, e)
+degraded_only : (s : Side) (ns : List ℕ) (e : Ending) → AreShortfalls ns → IsEnding e →
+    parts_of (codes "degraded " ++ (side_text s ++ 32 ∷ (shortfalls_text ns ++ 32 ∷ text_of_ending e)))
+    ≡ Some (outcome.Degraded s ns, e)
 degraded_only s ns e h k =
     ap (option_and_then (λ (q : List ℕ × List ℕ). cond (bytes_eq q.0 (codes "degraded")) (degraded_of q.1) (plain_report q.0 q.1))) (cut_at 32 (codes "degraded") (side_text s ++ 32 ∷ (shortfalls_text ns ++ 32 ∷ text_of_ending e)) refl)
     ∙ ap (option_map degraded_from) (three_reads.only (s, (ns, e)) (tt, (h, k)))

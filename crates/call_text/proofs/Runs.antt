@@ -1,5 +1,6 @@
 -- Sets of numbers and their maximal runs.
-use Rattle.std.proofs.Common.{◌≡◌, ℕ, zero, suc, ◌+◌, ◌-◌, ◌≤◌, ◌<◌, ◌==◌, eqb, Bool, true, false, cond, List, [], ◌∷◌, ◌++◌, refl, sym, ap, subst, ◌∙◌, arith, append_assoc, append-nil}
+use Rattle.std.proofs.Common.{◌≡◌, ℕ, zero, suc, ◌+◌, ◌-◌, ◌≤◌, ◌<◌, ◌==◌, eqb, Bool, true, false, cond, List, [], ◌∷◌}
+use Rattle.std.proofs.Common.{◌++◌, refl, sym, ap, subst, ◌∙◌, arith, append_assoc, append-nil}
 use Rattle.std.specs.List.{join_with_byte}
 use Rattle.std.proofs.lemmas.Bool.Decides.{nat_tests}
 use Rattle.listener_set.specs.Numbers.{with_number, RisesFrom, AreBelow, AreNumbers}
@@ -106,7 +107,8 @@ one_run first last tail le =
     let count : last + 1 - first ≡ suc (last - first) = omega (arith, le) in
     ap (λ k. set_text (up_from first k ++ tail)) count ∙ run_on (last - first) first first last tail (omega (arith, le))
 
-next_run : (f m first last : ℕ) (tail : List ℕ) → m + 2 ≤ first → first ≤ last → runs_text f m (up_from first (last + 1 - first) ++ tail) ≡ run_text f m ++ 44 ∷ runs_text first last tail
+next_run : (f m first last : ℕ) (tail : List ℕ) → m + 2 ≤ first → first ≤ last →
+    runs_text f m (up_from first (last + 1 - first) ++ tail) ≡ run_text f m ++ 44 ∷ runs_text first last tail
 next_run f m first last tail apart le =
     let count : last + 1 - first ≡ suc (last - first) = omega (arith, le) in
     let other : eqb first (m + 1) ≡ false = grind (arith, nat_tests) in
@@ -133,7 +135,9 @@ join_more : (x : List ℕ) (ns : List ℕ) (f l : ℕ) → join_with_byte 44 (x 
 join_more x [] f l = refl
 join_more x (n ∷ ns) f l = at (n == l + 1) (join_more x ns f n)
   where
-    at : (b : Bool) → join_with_byte 44 (x ∷ run_texts (runs_of f n ns)) ≡ x ++ 44 ∷ joined_runs (runs_of f n ns) → join_with_byte 44 (x ∷ run_texts (cond b (runs_of f n ns) ((f, l) ∷ runs_of n n ns))) ≡ x ++ 44 ∷ joined_runs (cond b (runs_of f n ns) ((f, l) ∷ runs_of n n ns))
+    at : (b : Bool) → join_with_byte 44 (x ∷ run_texts (runs_of f n ns)) ≡ x ++ 44 ∷ joined_runs (runs_of f n ns) →
+        join_with_byte 44 (x ∷ run_texts (cond b (runs_of f n ns) ((f, l) ∷ runs_of n n ns))) ≡ x ++ 44
+        ∷ joined_runs (cond b (runs_of f n ns) ((f, l) ∷ runs_of n n ns))
     at true ih = ih
     at false ih = refl
 
@@ -141,7 +145,10 @@ pub runs_text-runs_of : (ns : List ℕ) (f l : ℕ) → runs_text f l ns ≡ joi
 runs_text-runs_of [] f l = refl
 runs_text-runs_of (n ∷ ns) f l = at (n == l + 1) (runs_text-runs_of ns f n) (runs_text-runs_of ns n n)
   where
-    at : (b : Bool) → runs_text f n ns ≡ joined_runs (runs_of f n ns) → runs_text n n ns ≡ joined_runs (runs_of n n ns) → cond b (runs_text f n ns) (run_text f l ++ 44 ∷ runs_text n n ns) ≡ joined_runs (cond b (runs_of f n ns) ((f, l) ∷ runs_of n n ns))
+    at : (b : Bool) → runs_text f n ns ≡ joined_runs (runs_of f n ns) →
+        runs_text n n ns ≡ joined_runs (runs_of n n ns) →
+        cond b (runs_text f n ns) (run_text f l ++ 44 ∷ runs_text n n ns)
+        ≡ joined_runs (cond b (runs_of f n ns) ((f, l) ∷ runs_of n n ns))
     at true one two = one
     at false one two = ap (λ t. run_text f l ++ 44 ∷ t) two ∙ sym (join_more (run_text f l) ns n n)
 
@@ -152,7 +159,9 @@ AreRuns-runs_of (n ∷ ns) f l least low in_order small up bound =
     let lt : n < 1024 = bound.0 in
     at (n == l + 1) refl (AreRuns-runs_of ns f n least low (omega (arith, in_order, ge)) lt up.1 bound.1) (λ apart. AreRuns-runs_of ns n n (l + 2) apart (omega arith) lt up.1 bound.1)
   where
-    at : (b : Bool) → (n == l + 1) ≡ b → AreRuns least (runs_of f n ns) → (l + 2 ≤ n → AreRuns (l + 2) (runs_of n n ns)) → AreRuns least (cond b (runs_of f n ns) ((f, l) ∷ runs_of n n ns))
+    at : (b : Bool) → (n == l + 1) ≡ b → AreRuns least (runs_of f n ns) →
+        (l + 2 ≤ n → AreRuns (l + 2) (runs_of n n ns)) →
+        AreRuns least (cond b (runs_of f n ns) ((f, l) ∷ runs_of n n ns))
     at true e one two = one
     at false e one two =
         let ge : l + 1 ≤ n = up.0 in
@@ -165,7 +174,9 @@ members-runs_of (n ∷ ns) f l le up =
     let ge : l + 1 ≤ n = up.0 in
     at (n == l + 1) refl (members-runs_of ns f n (omega (arith, le, ge)) up.1) (members-runs_of ns n n (omega arith) up.1)
   where
-    at : (b : Bool) → (n == l + 1) ≡ b → members (runs_of f n ns) ≡ up_from f (n + 1 - f) ++ ns → members (runs_of n n ns) ≡ up_from n (n + 1 - n) ++ ns → members (cond b (runs_of f n ns) ((f, l) ∷ runs_of n n ns)) ≡ up_from f (l + 1 - f) ++ n ∷ ns
+    at : (b : Bool) → (n == l + 1) ≡ b → members (runs_of f n ns) ≡ up_from f (n + 1 - f) ++ ns →
+        members (runs_of n n ns) ≡ up_from n (n + 1 - n) ++ ns →
+        members (cond b (runs_of f n ns) ((f, l) ∷ runs_of n n ns)) ≡ up_from f (l + 1 - f) ++ n ∷ ns
     at true e one two =
         let test : eqb n (l + 1) ≡ true = e in
         let is : n ≡ l + 1 = grind (arith, nat_tests) in

@@ -1,5 +1,7 @@
 -- Sets of numbers are read as they are written.
-use Rattle.std.proofs.Common.{◌≡◌, ℕ, ◌+◌, ◌-◌, ◌≤◌, ◌<◌, ◌==◌, eqb, leb, ltb, Bool, true, false, cond, List, [], ◌∷◌, ◌++◌, length, Option, Some, None, refl, sym, ap, subst, ◌∙◌, arith, append_assoc, append-nil}
+use Rattle.std.proofs.Common.{◌≡◌, ℕ, ◌+◌, ◌-◌, ◌≤◌, ◌<◌, ◌==◌, eqb, leb, ltb, Bool, true, false, cond, List, [], ◌∷◌}
+use Rattle.std.proofs.Common.{◌++◌, length, Option, Some, None, refl, sym, ap, subst, ◌∙◌, arith, append_assoc}
+use Rattle.std.proofs.Common.{append-nil}
 use Rattle.std.specs.Prelude.{codes, bytes_eq, option_map, option_and_then}
 use Rattle.std.specs.Fmt.{decimal}
 use Rattle.std.specs.List.{slice_split, onto_first, join_with_byte}
@@ -16,7 +18,9 @@ use Rattle.call_text.specs.SetReading.{is_comma, several_of, run_from, run_of, b
 use Rattle.plain_text.proofs.CutTexts.{with_first, cut-cons, cut_found, cut_at, cut_none, lacks, lacks-append}
 use Rattle.call_text.proofs.Readers.{IsReader, reads, mapped, then, chosen, same_bytes, worker_number_reads}
 use Rattle.call_text.proofs.PartTexts.{number_lacks}
-use Rattle.call_text.proofs.Runs.{up_from, AreRuns, members, run_texts, joined_runs, AreBelow-lower, with_run-above, AreBelow-up_from, AreNumbers-members, set_text-members, runs_of, runs_text-runs_of, AreRuns-runs_of, members-runs_of}
+use Rattle.call_text.proofs.Runs.{up_from, AreRuns, members, run_texts, joined_runs, AreBelow-lower, with_run-above}
+use Rattle.call_text.proofs.Runs.{AreBelow-up_from, AreNumbers-members, set_text-members, runs_of, runs_text-runs_of}
+use Rattle.call_text.proofs.Runs.{AreRuns-runs_of, members-runs_of}
 
 -- ---- parts at commas
 abbrev pub AreParts : List ℕ → Option (List ℕ × List ℕ) → Type 0
@@ -162,7 +166,8 @@ runs_read (part ∷ parts) s t below e =
     }
 
 -- ---- runs that were written
-runs_again : (rs : List (ℕ × ℕ)) (s : SetReader) → AreBelow s.least s.numbers → AreRuns s.least rs → option_map numbers_in (with_parts s (run_texts rs)) ≡ Some (s.numbers ++ members rs)
+runs_again : (rs : List (ℕ × ℕ)) (s : SetReader) → AreBelow s.least s.numbers → AreRuns s.least rs →
+    option_map numbers_in (with_parts s (run_texts rs)) ≡ Some (s.numbers ++ members rs)
 runs_again [] s below h = ap Some (sym (append-nil s.numbers))
 runs_again (r ∷ rs) s below h =
     let low : s.least ≤ r.0 = h.0 in
@@ -213,7 +218,9 @@ set_found text ns e = at (bytes_eq text (codes "none")) refl e
     from_runs (r ∷ rs) parts h =
         (AreNumbers-members (r ∷ rs) h, sym (join_with_byte-slice_split 44 text) ∙ ap (join_with_byte 44) parts ∙ sym (set_text-members r rs 0 h))
 
-    at : (b : Bool) → bytes_eq text (codes "none") ≡ b → cond b (Some []) (option_map numbers_in (with_parts begun (slice_split is_comma text))) ≡ Some ns → AreNumbers 1024 ns × (text ≡ set_text ns)
+    at : (b : Bool) → bytes_eq text (codes "none") ≡ b →
+        cond b (Some []) (option_map numbers_in (with_parts begun (slice_split is_comma text))) ≡ Some ns →
+        AreNumbers 1024 ns × (text ≡ set_text ns)
     at true k e =
         let nothing : List ℕ = [] in
         let same : Some nothing ≡ Some ns = e in
@@ -256,12 +263,15 @@ pub Reads-set : (text : List ℕ) → Reads (λ ns. AreNumbers 1024 ns) set_text
 Reads-set text = reads (λ ns. AreNumbers 1024 ns) set_text set_of set_reads text
 
 -- ---- a part in front
-pub parts_stop : (s : SetReader) (text run rest : List ℕ) → Some (run, rest) ≡ cut 44 text → None ≡ with_part s run → None ≡ option_map numbers_in (with_parts s (slice_split is_comma text))
+pub parts_stop : (s : SetReader) (text run rest : List ℕ) → Some (run, rest) ≡ cut 44 text → None ≡ with_part s run →
+    None ≡ option_map numbers_in (with_parts s (slice_split is_comma text))
 parts_stop s text run rest e none =
     ap (λ o. option_map numbers_in (option_and_then (λ t. with_parts t (slice_split is_comma rest)) o)) none
     ∙ ap (λ ps. option_map numbers_in (with_parts s ps)) (sym (parts_some text (run, rest) (sym e)))
 
-pub parts_go : (s t : SetReader) (text run rest : List ℕ) → Some (run, rest) ≡ cut 44 text → Some t ≡ with_part s run → option_map numbers_in (with_parts t (slice_split is_comma rest)) ≡ option_map numbers_in (with_parts s (slice_split is_comma text))
+pub parts_go : (s t : SetReader) (text run rest : List ℕ) → Some (run, rest) ≡ cut 44 text → Some t ≡ with_part s run →
+    option_map numbers_in (with_parts t (slice_split is_comma rest))
+    ≡ option_map numbers_in (with_parts s (slice_split is_comma text))
 parts_go s t text run rest e some =
     ap (λ o. option_map numbers_in (option_and_then (λ t. with_parts t (slice_split is_comma rest)) o)) some
     ∙ ap (λ ps. option_map numbers_in (with_parts s ps)) (sym (parts_some text (run, rest) (sym e)))

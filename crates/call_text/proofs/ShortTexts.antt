@@ -19,7 +19,8 @@ run_short first last up below = at (first == last) refl
         let less : first < last = grind (arith, nat_tests, e, up) in
         rw (e, length-append (decimal first) (45 ∷ decimal last)) (omega (arith, four_digits first (omega (arith, less, below)), four_digits last below, less))
 
-runs_short : (first last : ℕ) (ns : List ℕ) → first ≤ last → last < 1024 → RisesFrom (last + 1) ns → AreBelow 1024 ns → 2 * length (runs_text first last ns) + 7 * first ≤ 7175
+runs_short : (first last : ℕ) (ns : List ℕ) → first ≤ last → last < 1024 → RisesFrom (last + 1) ns → AreBelow 1024 ns →
+    2 * length (runs_text first last ns) + 7 * first ≤ 7175
 runs_short first last [] up below rising under = omega (arith, run_short first last up below, below)
 runs_short first last (n ∷ ns) up below rising under =
     at (n == last + 1) refl (runs_short first n ns (omega (arith, up, rising.0)) under.0 rising.1 under.1) (runs_short n n ns (omega arith) under.0 rising.1 under.1)

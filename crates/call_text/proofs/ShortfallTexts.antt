@@ -1,5 +1,7 @@
 -- Shortfalls are read as they are written.
-use Rattle.std.proofs.Common.{◌≡◌, ℕ, ◌-◌, ◌≤◌, ◌<◌, ◌^◌, ltb, true, false, List, [], ◌∷◌, ◌++◌, length, get_or, take, drop, map, Some, None, refl, sym, ap, subst, ◌∙◌, arith, length-append, append_assoc, append-nil}
+use Rattle.std.proofs.Common.{◌≡◌, ℕ, ◌-◌, ◌≤◌, ◌<◌, ◌^◌, ltb, true, false, List, [], ◌∷◌, ◌++◌, length, get_or, take}
+use Rattle.std.proofs.Common.{drop, map, Some, None, refl, sym, ap, subst, ◌∙◌, arith, length-append, append_assoc}
+use Rattle.std.proofs.Common.{append-nil}
 use Rattle.std.specs.Prelude.{codes, option_and_then}
 use Rattle.std.specs.Fmt.{decimal}
 use Rattle.std.specs.List.{slice_split, join_with_byte, flat_map, sum}
@@ -33,7 +35,8 @@ shortfalls_parted [] some = absurd (omega (arith, some))
 shortfalls_parted (n ∷ ns) some = ap (λ ms. decimal n ++ flat_map later_count ms) (take_all (length (n ∷ ns) - 1) ns (omega arith)) ∙ sym (shortfalls_written n ns)
 
 -- ---- a byte that the text has not
-pub shortfalls_lack : (b : ℕ) → is_ascii_digit b ≡ false → lacks b (codes ",") ≡ true → (ns : List ℕ) → AreBelow (2 ^ 32) ns → lacks b (shortfalls_text ns) ≡ true
+pub shortfalls_lack : (b : ℕ) → is_ascii_digit b ≡ false → lacks b (codes ",") ≡ true → (ns : List ℕ) →
+    AreBelow (2 ^ 32) ns → lacks b (shortfalls_text ns) ≡ true
 shortfalls_lack b off comma [] h = refl
 shortfalls_lack b off comma (n ∷ []) h = number_lacks b n off h.0
 shortfalls_lack b off comma (n ∷ m ∷ ms) h =
@@ -115,12 +118,14 @@ shortfalls_reads = record { found = found; only = only }
         ∙ ap (λ b. some_if b (n ∷ ns)) test
 
 -- ---- a number in front
-pub counts_stop : (ns text first rest : List ℕ) → Some (first, rest) ≡ cut 44 text → None ≡ with_count ns first → None ≡ with_counts ns (slice_split is_comma text)
+pub counts_stop : (ns text first rest : List ℕ) → Some (first, rest) ≡ cut 44 text → None ≡ with_count ns first →
+    None ≡ with_counts ns (slice_split is_comma text)
 counts_stop ns text first rest e none =
     ap (option_and_then (λ ms. with_counts ms (slice_split is_comma rest))) none
     ∙ ap (with_counts ns) (sym (parts_some text (first, rest) (sym e)))
 
-pub counts_go : (ns ms text first rest : List ℕ) → Some (first, rest) ≡ cut 44 text → Some ms ≡ with_count ns first → with_counts ms (slice_split is_comma rest) ≡ with_counts ns (slice_split is_comma text)
+pub counts_go : (ns ms text first rest : List ℕ) → Some (first, rest) ≡ cut 44 text → Some ms ≡ with_count ns first →
+    with_counts ms (slice_split is_comma rest) ≡ with_counts ns (slice_split is_comma text)
 counts_go ns ms text first rest e some =
     ap (option_and_then (λ ms. with_counts ms (slice_split is_comma rest))) some
     ∙ ap (with_counts ns) (sym (parts_some text (first, rest) (sym e)))

@@ -6,7 +6,8 @@ use Rattle.vocabulary.specs.declared.calls.Answer.TheVariants as answer
 use Rattle.vocabulary.specs.declared.calls.Reply.{Reply}
 use Rattle.vocabulary.specs.declared.calls.Reply.TheVariants as reply
 use Rattle.vocabulary.specs.declared.calls.Reply.TheVariants.{MasterGone}
-use Rattle.definitions.specs.Tree.{replies_to, reply_of, among}
+use Rattle.call_laws.specs.Pieces.{replies_to, among}
+use Rattle.definitions.specs.Run.{reply_of}
 use Rattle.plain_text.specs.NumberText.{number_within}
 use Rattle.call_text.specs.CallText.{answer_word}
 use Rattle.call_text.specs.Words.{reply_text}
@@ -26,7 +27,8 @@ is_answer text a = bytes_eq (answer_word a) text
 abbrev pub plain_answers : List Answer
 plain_answers =
     answer.InUse ∷ answer.TooMany ∷ answer.Denied ∷ answer.NoMemory ∷ answer.Fine ∷ answer.Forked ∷ answer.Again ∷ answer.IsReady ∷ answer.Gone
-    ∷ answer.Late ∷ answer.Spawned ∷ answer.NoImage ∷ answer.Adopted ∷ answer.Refused ∷ answer.IoFault ∷ answer.IsAlive ∷ answer.Go ∷ answer.Back ∷ answer.MasterGone ∷ []
+    ∷ answer.Late ∷ answer.Spawned ∷ answer.NoImage ∷ answer.Adopted ∷ answer.Refused ∷ answer.IoFault ∷ answer.IsAlive
+    ∷ answer.Go ∷ answer.Back ∷ answer.MasterGone ∷ []
 
 abbrev pub plain_of : List ℕ → Option Answer
 plain_of text = find (is_answer text) plain_answers

@@ -1,5 +1,6 @@
 -- What reading a text gives, part by part.
-use Rattle.std.specs.Prelude.{ℕ, ◌-◌, nat_le, Bool, ◌&&◌, List, length, take, drop, Option, Some, None, option_map, option_and_then, Result, Ok, Err, bytes_eq, codes, if◌then◌else◌}
+use Rattle.std.specs.Prelude.{ℕ, ◌-◌, nat_le, Bool, ◌&&◌, List, length, take, drop, Option, Some, None, option_map}
+use Rattle.std.specs.Prelude.{option_and_then, Result, Ok, Err, bytes_eq, codes, if◌then◌else◌}
 use Rattle.plain_text.specs.NumberText.{number_of, number_within}
 use Rattle.plain_text.specs.Cuts.{cut}
 use Rattle.listener_set.specs.AddressText.{reading}

@@ -5,8 +5,9 @@ use Rattle.vocabulary.specs.declared.reports.Outcome.{Outcome}
 use Rattle.vocabulary.specs.declared.reports.Outcome.TheVariants as outcome
 use Rattle.vocabulary.specs.declared.plans.End.TheVariants.{Done, RolledBack, ShortOld, ShortTarget, Split, JoinReady, JoinBack, Join}
 use Rattle.vocabulary.specs.declared.plans.PidNote.{PidNote}
-use Rattle.definitions.specs.Tree.{Tree, Ends, Does}
-use Rattle.definitions.specs.Run.{Entry, Report, Sides, Lack, lacked_last}
+use Rattle.definitions.specs.Run.{Tree, Ends, Does, Entry, Report, Lack}
+use Rattle.definitions.specs.Master.{Sides}
+use Rattle.call_laws.specs.Pieces.{lacked_last}
 use Rattle.plan_walk.specs.Path.{Trail, Asks, rest_after, IsOver, IsOutcome, Reports}
 
 -- an entry that is asked for as another is, is the same call by the same master
@@ -38,7 +39,8 @@ edge-leads (Some edge) there = refl
 
 ---- Reports
 
-same-outcome : (sides : Sides) (rest : Option Tree) (lacking : List ℕ) (one other : Outcome) → IsOutcome sides rest lacking one → IsOutcome sides rest lacking other → one ≡ other
+same-outcome : (sides : Sides) (rest : Option Tree) (lacking : List ℕ) (one other : Outcome) →
+    IsOutcome sides rest lacking one → IsOutcome sides rest lacking other → one ≡ other
 same-outcome sides None lacking one other h k = h ∙ sym k
 same-outcome sides (Some (Ends end)) lacking one other h k = h ∙ sym k
 same-outcome sides (Some (Does by order set branches)) lacking one other h k = absurd h
@@ -53,7 +55,8 @@ one-report sides t one other h k =
     λ i. record { outcome = outcomes i; cause = causes i; note = notes i; ready = readies i }
 
 -- a path at an end is not lost
-pub not-lost : (sides : Sides) (rest : Option Tree) (lacking : List ℕ) (o : Outcome) → is_some rest ≡ true → IsOutcome sides rest lacking o → o ≡ outcome.Lost → ⊥
+pub not-lost : (sides : Sides) (rest : Option Tree) (lacking : List ℕ) (o : Outcome) → is_some rest ≡ true →
+    IsOutcome sides rest lacking o → o ≡ outcome.Lost → ⊥
 not-lost sides None lacking o some is lost = let none : false ≡ true = some in cc
 not-lost sides (Some (Ends Done)) lacking o some is lost = let e : outcome.Done ≡ outcome.Lost = sym is ∙ lost in cc
 not-lost sides (Some (Ends Split)) lacking o some is lost = let e : outcome.Done ≡ outcome.Lost = sym is ∙ lost in cc

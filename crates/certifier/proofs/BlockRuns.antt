@@ -1,5 +1,6 @@
 -- Blocks that are explained one after another, and the first that is not.
-use Rattle.std.proofs.Common.{◌≡◌, ◌⊎◌, inl, inr, ℕ, ◌+◌, ◌-◌, ◌<◌, List, [], ◌∷◌, ◌++◌, length, take, drop, Err, Option, refl, sym, ◌∙◌, ap, subst, arith, append_assoc}
+use Rattle.std.proofs.Common.{◌≡◌, ◌⊎◌, inl, inr, ℕ, ◌+◌, ◌-◌, ◌<◌, List, [], ◌∷◌, ◌++◌, length, take, drop, Err}
+use Rattle.std.proofs.Common.{Option, refl, sym, ◌∙◌, ap, subst, arith, append_assoc}
 use Rattle.std.specs.Prelude.{◌↔◌}
 use Rattle.std.specs.Result.{IsErrOf}
 use Rattle.std.proofs.lemmas.List.{take-append-drop, length-take-le}
@@ -12,7 +13,8 @@ use Rattle.mismatches.specs.declared.Mismatch.{Mismatch}
 use Rattle.mismatches.specs.declared.Mismatch.TheVariants as mismatch
 use Rattle.certifier.specs.Blocks.{IsTaken, IsFault, AreTaken, StopsAtBlock, LeadsUpTo}
 
-pub taken-more : (settings : Option Settings) (bs : List Block) (old : Standing State) (ps : List Section) (middle : Standing State) (b : Block) (p : Section) (new : Standing State) →
+pub taken-more : (settings : Option Settings) (bs : List Block) (old : Standing State) (ps : List Section)
+    (middle : Standing State) (b : Block) (p : Section) (new : Standing State) →
     AreTaken settings bs old ps middle → IsTaken settings b middle p new → AreTaken settings (bs ++ b ∷ []) old (ps ++ p ∷ []) new
 taken-more settings [] old [] middle b p new are is = (new, subst (λ (s : Standing State). IsTaken settings b s p new) are is, refl)
 taken-more settings [] old (q ∷ ps) middle b p new are is = absurd are
@@ -21,15 +23,19 @@ taken-more settings (c ∷ bs) old (q ∷ ps) middle b p new are is = (are.0, ar
 
 -- a refused block is wrong, or memory was wanted
 pub fault-by : {T : Type 0} (settings : Option Settings) (b : Block) (s : Standing State) (why : Mismatch) →
-    ((w : Mismatch) → IsErrOf {T = T} (Err why) mismatch.Memory ⊎ (IsErrOf {T = T} (Err why) w ↔ IsFault settings b s w)) → (why ≡ mismatch.Memory) ⊎ IsFault settings b s why
+    ((w : Mismatch) → IsErrOf {T = T} (Err why) mismatch.Memory ⊎
+    (IsErrOf {T = T} (Err why) w ↔ IsFault settings b s w)) → (why ≡ mismatch.Memory) ⊎ IsFault settings b s why
 fault-by settings b s why exact = elim (exact why) [
   | inl memory ↦ inl (cc)
   | inr iff ↦ inr (iff.0 refl)
 ]
 
 -- the block at a place is the first that is wrong
-pub stops-there : (settings : Option Settings) (blocks : List Block) (old : Standing State) (place : ℕ) (b : Block) (ps : List Section) (there : Standing State) (why : Mismatch) → place < length blocks → take (place + 1) blocks ≡ take place blocks ++ b ∷ [] →
-    AreTaken settings (take place blocks) old ps there → (why ≡ mismatch.Memory) ⊎ IsFault settings b there why → StopsAtBlock settings blocks old (place + 1) why
+pub stops-there : (settings : Option Settings) (blocks : List Block) (old : Standing State) (place : ℕ) (b : Block)
+    (ps : List Section) (there : Standing State) (why : Mismatch) → place < length blocks →
+    take (place + 1) blocks ≡ take place blocks ++ b ∷ [] →
+    AreTaken settings (take place blocks) old ps there → (why ≡ mismatch.Memory) ⊎ IsFault settings b there why →
+    StopsAtBlock settings blocks old (place + 1) why
 stops-there settings blocks old place b ps there why lt longer are wrong = record {
   front = take place blocks;
   block = b;

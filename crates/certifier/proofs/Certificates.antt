@@ -2,9 +2,8 @@
 use Rattle.std.proofs.Common.{List, Result, Ok, Err, refl, sym, subst}
 use Rattle.std.specs.Prelude.{IfOk}
 use Rattle.definitions.specs.Table.{Table}
-use Rattle.definitions.specs.Record.{Record}
+use Rattle.definitions.specs.Master.{Record, handover_for, sides_of}
 use Rattle.vocabulary.specs.declared.targets.Target.{Target}
-use Rattle.definitions.specs.Target.{handover_for, sides_of}
 use Rattle.call_laws.specs.Lengths.{plan_length}
 use Rattle.definitions.specs.Run.{Entry, Report}
 use Rattle.definitions.specs.Claims.{heirs_of}
@@ -21,7 +20,8 @@ use Rattle.certifier.proofs.Explaining.{starts, begins}
 use Rattle.certifier.proofs.Complete.{IsDue}
 use Rattle.certifier.proofs.Matching.{whole, spares, certified}
 
-pub has-enacted : (first : State) (r : Record) (target : Target) (es : List Entry) (report : Report) → IsReady first.table r target → IsDue first.table r target → (result : Result Certificate Mismatch) →
+pub has-enacted : (first : State) (r : Record) (target : Target) (es : List Entry) (report : Report) →
+    IsReady first.table r target → IsDue first.table r target → (result : Result Certificate Mismatch) →
     IfOk result (λ it. Holds (handover_for r target) (heirs_of r target) (sides_of r target) (starts first.table r target) es report it.section) →
     IfOk result (λ it. IsLed (handover_for r target) (heirs_of r target) (plan_length r target) (begins first.table r target it.section.turns) es it.kernel) →
     IfOk result (HasEnacted first r target es report)

@@ -2,21 +2,19 @@
 use Rattle.std.proofs.Common.{◌≡◌, ◌⊎◌, inl, inr, ℕ, ◌+◌, true, false, List, [], ◌∷◌, Option, Some, None, Result, Ok, Err, refl, sym, ◌∙◌, ap, subst}
 use Rattle.std.specs.Prelude.{is_some, IfErr}
 use Rattle.definitions.specs.Table.{Table}
-use Rattle.definitions.specs.Record.{Record}
+use Rattle.definitions.specs.Master.{Record, handover_for, sides_of, Sides}
 use Rattle.vocabulary.specs.declared.targets.Target.{Target}
 use Rattle.vocabulary.specs.declared.plans.PidNote.{PidNote}
 use Rattle.vocabulary.specs.declared.plans.Order.{Order}
 use Rattle.vocabulary.specs.declared.calls.Reply.{Reply}
-use Rattle.definitions.specs.Calls.{Fate, Stepped, step_with, Handed}
-use Rattle.definitions.specs.Exits.{after_exits}
-use Rattle.definitions.specs.Target.{handover_for, sides_of}
+use Rattle.definitions.specs.Calls.{Fate, Stepped, step_with, Handed, after_exits}
 use Rattle.definitions.specs.Plans.{Turn, plan_tree}
-use Rattle.definitions.specs.Tree.{Tree, Ends, Does, Branches, Nothing, Branch, among, call_of, reply_of}
-use Rattle.definitions.specs.Run.{Entry, Report, Sides, lacked_by, lacked_last}
+use Rattle.definitions.specs.Run.{Tree, Ends, Does, Branches, Nothing, Branch, call_of, reply_of, Entry, Report}
+use Rattle.definitions.specs.Run.{lacked_by, Progress, Ending, Lost, Ran, start_at, run_with, goes_with, after_moment}
+use Rattle.definitions.specs.Run.{after_call, outcome_of}
+use Rattle.call_laws.specs.Pieces.{among, lacked_last, noted, answered, executing_at, executing_after, branch}
 use Rattle.plan_walk.specs.Path.{Trail, advance, trail_after, IsOver, IsOutcome, Reports}
-use Rattle.definitions.specs.Run.{Progress, Ending, Lost, Ran, start_at, run_with, goes_with, noted, after_moment, after_call, answered, outcome_of}
 use Rattle.definitions.specs.Claims.{IsStart, HasDescriptors, Says, names_any, refused_among, heirs_of, run_of}
-use Rattle.call_laws.specs.Pieces.{executing_at, executing_after, branch}
 use Rattle.plan_executor.specs.Lawful.{trail_at, ending_of}
 use Rattle.plan_executor.specs.Enacted.{EndsSo}
 use Rattle.plan_executor.specs.Refusals.{HasPlan}
@@ -48,8 +46,11 @@ module _ (handed : Handed) (heirs : List ℕ) (fates : ℕ → Option Fate) wher
       let s = answered handed by order (fates (p.calls + 1)) (after_moment [] p) in
       let q = after_call by order set s (after_moment [] p) in
       is_some (branch branches (reply_of set s.answer)) ≡ true →
-      Walks handed heirs (executing_after (call_of order (lacked_by by p.lacked)) executing heirs) (behind (branch branches (reply_of set s.answer)) q) q.table (goes_with handed branches (reply_of set s.answer) (faults_alone fates) q) →
-      Walks handed heirs executing (trail_at (Some (Does by order set branches)) p) p.table (run_with handed (Does by order set branches) (faults_alone fates) p)
+      Walks handed heirs (executing_after (call_of order (lacked_by by p.lacked)) executing heirs)
+      (behind (branch branches (reply_of set s.answer)) q) q.table
+      (goes_with handed branches (reply_of set s.answer) (faults_alone fates) q) →
+      Walks handed heirs executing (trail_at (Some (Does by order set branches)) p) p.table
+      (run_with handed (Does by order set branches) (faults_alone fates) p)
   step-walks by order set branches p executing edge walks =
       let call = call_of order (lacked_by by p.lacked) in
       let s = step_with handed by call (fates (p.calls + 1)) p.table in
@@ -68,7 +69,13 @@ module _ (handed : Handed) (heirs : List ℕ) (fates : ℕ → Option Fate) wher
             gives = ap (λ (x : Stepped). x.answer) stepped;
             spares = ap (names_any (executing_at call executing heirs)) shown.nobody;
           },
-          subst (λ (t : Table). AreNext handed heirs (record { trail = advance start e; table = t; executing = executing_after call executing heirs }) behind_it.entries) (sym (ap (λ (x : Stepped). x.table) stepped)) walks.next,
+          subst (λ (t : Table). AreNext handed heirs
+              (record {
+                trail = advance start e;
+                table = t;
+                executing = executing_after call executing heirs;
+              }) behind_it.entries)
+              (sym (ap (λ (x : Stepped). x.table) stepped)) walks.next,
         );
         rest = walks.rest;
         trail = walks.trail;
@@ -77,13 +84,17 @@ module _ (handed : Handed) (heirs : List ℕ) (fates : ℕ → Option Fate) wher
       }
 
   -- a note changes nothing of the walk
-  noted-walks : (said : Option PidNote) (rest : Tree) (q : Progress) (executing : List ℕ) → Walks handed heirs executing (trail_at (Some rest) (noted said q)) (noted said q).table (run_with handed rest (faults_alone fates) (noted said q)) →
+  noted-walks : (said : Option PidNote) (rest : Tree) (q : Progress) (executing : List ℕ) →
+      Walks handed heirs executing (trail_at (Some rest) (noted said q)) (noted said q).table
+      (run_with handed rest (faults_alone fates) (noted said q)) →
       Walks handed heirs executing (behind (Some (said, rest)) q) q.table (run_with handed rest (faults_alone fates) (noted said q))
   noted-walks None rest q executing walks = walks
   noted-walks (Some n) rest q executing walks = walks
 
   mutual
-    tree-walks : (tree : Tree) (p : Progress) (executing : List ℕ) → ((run_with handed tree (faults_alone fates) p).ending ≡ Lost → ⊥) → Walks handed heirs executing (trail_at (Some tree) p) p.table (run_with handed tree (faults_alone fates) p)
+    tree-walks : (tree : Tree) (p : Progress) (executing : List ℕ) →
+        ((run_with handed tree (faults_alone fates) p).ending ≡ Lost → ⊥) →
+        Walks handed heirs executing (trail_at (Some tree) p) p.table (run_with handed tree (faults_alone fates) p)
     tree-walks (Ends end) p executing not_lost = record { next = tt; rest = Some (Ends end); trail = refl; over = tt; ending = refl }
     tree-walks (Does by order set branches) p executing not_lost =
         let s = answered handed by order (fates (p.calls + 1)) (after_moment [] p) in
@@ -95,11 +106,16 @@ module _ (handed : Handed) (heirs : List ℕ) (fates : ℕ → Option Fate) wher
         (is_some (branch bs r) ≡ true) × Walks handed heirs executing (behind (branch bs r) q) q.table (goes_with handed bs r (faults_alone fates) q)
     edges-walk Nothing r q executing not_lost = absurd (not_lost refl)
     edges-walk (Branch replies said rest more) r q executing not_lost =
-        let here : ((run_with handed rest (faults_alone fates) (noted said q)).ending ≡ Lost → ⊥) → Walks handed heirs executing (behind (Some (said, rest)) q) q.table (run_with handed rest (faults_alone fates) (noted said q)) =
+        let here : ((run_with handed rest (faults_alone fates) (noted said q)).ending ≡ Lost → ⊥) →
+        Walks handed heirs executing (behind (Some (said, rest)) q) q.table
+        (run_with handed rest (faults_alone fates) (noted said q)) =
         λ none. noted-walks said rest q executing (tree-walks rest (noted said q) executing none) in
         let there = edges-walk more r q executing in
         elim (among replies r) as (λ b.
-        let ran : Ran = elim b as (λ c. Ran) [ true ↦ run_with handed rest (faults_alone fates) (noted said q) | false ↦ goes_with handed more r (faults_alone fates) q ] in
+        let ran : Ran = elim b as (λ c. Ran) [
+          | true ↦ run_with handed rest (faults_alone fates) (noted said q)
+          | false ↦ goes_with handed more r (faults_alone fates) q
+        ] in
         let found : Option (Option PidNote × Tree) = elim b as (λ c. Option (Option PidNote × Tree)) [ true ↦ Some (said, rest) | false ↦ branch more r ] in
         (ran.ending ≡ Lost → ⊥) → (is_some found ≡ true) × Walks handed heirs executing (behind found q) q.table ran) [
           | true ↦ λ none. (refl, here none)
@@ -108,7 +124,8 @@ module _ (handed : Handed) (heirs : List ℕ) (fates : ℕ → Option Fate) wher
 
 ---- Of a target
 
-outcome-so : (sides : Sides) (rest : Option Tree) (lacking : List ℕ) (ending : Ending) → IsOver rest → ending_of rest ≡ ending → IsOutcome sides rest lacking (outcome_of sides ending lacking)
+outcome-so : (sides : Sides) (rest : Option Tree) (lacking : List ℕ) (ending : Ending) → IsOver rest →
+    ending_of rest ≡ ending → IsOutcome sides rest lacking (outcome_of sides ending lacking)
 outcome-so sides None lacking ending over is = ap (λ e. outcome_of sides e lacking) (sym is)
 outcome-so sides (Some (Ends end)) lacking ending over is = ap (λ e. outcome_of sides e lacking) (sym is)
 outcome-so sides (Some (Does by order set branches)) lacking ending over is = absurd over
@@ -127,11 +144,13 @@ pub record IsDue (t : Table) (r : Record) (target : Target) : Type 0 where
   pub has_plan : HasPlan r target
   pub ends : EndsSo target
 
-never-lost : (t : Table) (r : Record) (target : Target) → IsDue t r target → (turns : List Turn) (fates : ℕ → Option Fate) → (run_of r target turns (faults_alone fates) t).ending ≡ Lost → ⊥
+never-lost : (t : Table) (r : Record) (target : Target) → IsDue t r target →
+    (turns : List Turn) (fates : ℕ → Option Fate) → (run_of r target turns (faults_alone fates) t).ending ≡ Lost → ⊥
 never-lost t r target due turns fates lost =
     let ran = run_of r target turns (faults_alone fates) t in
-    let kept = due.ends t r turns (faults_alone fates) due.start due.descriptors due.has_plan (none-named fates (r.generation.image ∷ []) (heirs_of r target) 0 ran.entries) in
-    subst (λ e. Says r target (outcome_of (sides_of r target) e (lacked_last ran.last.lacked)) t ran.last.table) lost kept.promise.ends.says
+    let kept = due.ends t r turns (faults_alone fates) due.start due.descriptors due.has_plan
+    (none-named fates (r.generation.image ∷ []) (heirs_of r target) 0 ran.entries) in
+    subst (λ e. Says r target (outcome_of (sides_of r target) e (lacked_last ran.last.lacked)) t ran.last.table) lost kept.promise.says
 
 -- what comes of a run under some turns and faults alone
 pub record IsGood (t : Table) (r : Record) (target : Target) (entries : List Entry) (report : Report) : Type 0 where
@@ -140,13 +159,15 @@ pub record IsGood (t : Table) (r : Record) (target : Target) (entries : List Ent
   pub over : IsOver (trail_by r target turns entries).rest
   pub reports : Reports (sides_of r target) (trail_by r target turns entries) report
 
-is-good : (t : Table) (r : Record) (target : Target) (entries : List Entry) (report : Report) → IsDue t r target → IsFaultyRun t r target entries report → IsGood t r target entries report
+is-good : (t : Table) (r : Record) (target : Target) (entries : List Entry) (report : Report) → IsDue t r target →
+    IsFaultyRun t r target entries report → IsGood t r target entries report
 is-good t r target entries report due h =
     let handed = handover_for r target in
     let heirs = heirs_of r target in
     let sides = sides_of r target in
     let ran = run_of r target h.turns (faults_alone h.fates) t in
-    let w = tree-walks handed heirs h.fates (plan_tree r target h.turns) (start_at t r.note) (r.generation.image ∷ []) (never-lost t r target due h.turns h.fates) in
+    let w = tree-walks handed heirs h.fates (plan_tree r target h.turns) (start_at t r.note) (r.generation.image ∷ [])
+    (never-lost t r target due h.turns h.fates) in
     let trail : trail_by r target h.turns entries ≡ trail_at w.rest ran.last = ap (trail_by r target h.turns) (sym h.is_run.entries_are) ∙ w.trail in
     record {
       turns = h.turns;
@@ -159,14 +180,18 @@ is-good t r target entries report due h =
     }
 
 -- it is refused, if at all, before its first entry
-only-refused : (t : Table) (r : Record) (target : Target) (es : List Entry) (report : Report) → IsGood t r target es report → (why : Mismatch) → IsMismatch t r target es report why → (why ≡ mismatch.Refused) ⊎ (why ≡ mismatch.Memory)
+only-refused : (t : Table) (r : Record) (target : Target) (es : List Entry) (report : Report) →
+    IsGood t r target es report → (why : Mismatch) → IsMismatch t r target es report why → (why ≡ mismatch.Refused) ⊎
+    (why ≡ mismatch.Memory)
 only-refused t r target es report good mismatch.Refused h = inl refl
 only-refused t r target es report good (mismatch.Step n) h = absurd (h.strange (all-explained t r target es n (good.turns, good.explained)))
 only-refused t r target es report good mismatch.Short h = absurd (h.unfinished good.turns good.explained.path good.over)
 only-refused t r target es report good mismatch.Report h = absurd (h.other good.turns good.explained.path good.reports)
 only-refused t r target es report good mismatch.Memory h = inr refl
 
-pub complete-by : {T : Type 0} (t : Table) (r : Record) (target : Target) (es : List Entry) (report : Report) (result : Result T Mismatch) → IsExact t r target es report result → IsDue t r target → IsFaultyRun t r target es report → IfErr result (λ why. (why ≡ mismatch.Refused) ⊎ (why ≡ mismatch.Memory))
+pub complete-by : {T : Type 0} (t : Table) (r : Record) (target : Target) (es : List Entry) (report : Report)
+    (result : Result T Mismatch) → IsExact t r target es report result → IsDue t r target →
+    IsFaultyRun t r target es report → IfErr result (λ why. (why ≡ mismatch.Refused) ⊎ (why ≡ mismatch.Memory))
 complete-by t r target es report (Ok x) exact due h = tt
 complete-by t r target es report (Err why) exact due h = elim (exact why) [
   | inl memory ↦ inr (let e : why ≡ mismatch.Memory = cc in e)
@@ -174,8 +199,11 @@ complete-by t r target es report (Err why) exact due h = elim (exact why) [
 ]
 
 -- a target that can't be carried out is refused
-pub unready-refused : {T : Type 0} (result : Result T Mismatch) (why : EnactRefusal) → result ≡ Err (mismatch_of why) → IfErr result (λ why. (why ≡ mismatch.Refused) ⊎ (why ≡ mismatch.Memory))
-unready-refused {T = T} result why is = subst (λ (x : Result T Mismatch). IfErr x (λ why. (why ≡ mismatch.Refused) ⊎ (why ≡ mismatch.Memory))) (sym is) (one why)
+pub unready-refused : {T : Type 0} (result : Result T Mismatch) (why : EnactRefusal) → result ≡ Err (mismatch_of why) →
+    IfErr result (λ why. (why ≡ mismatch.Refused) ⊎ (why ≡ mismatch.Memory))
+unready-refused {T = T} result why is =
+    subst (λ (x : Result T Mismatch). IfErr x (λ why. (why ≡ mismatch.Refused) ⊎ (why ≡ mismatch.Memory))) (sym is)
+    (one why)
   where
     one : (why : EnactRefusal) → (mismatch_of why ≡ mismatch.Refused) ⊎ (mismatch_of why ≡ mismatch.Memory)
     one refusal.Memory = inr refl

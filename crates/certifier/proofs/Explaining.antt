@@ -3,19 +3,17 @@ use Rattle.std.proofs.Common.{◌≡◌, ℕ, suc, ◌+◌, Bool, true, false, L
 use Rattle.std.specs.Prelude.{if◌then◌else◌, unwrap_or, slice_get, is_some}
 use Rattle.std.proofs.lemmas.Option.{none-some}
 use Rattle.definitions.specs.Table.{Table}
-use Rattle.definitions.specs.Record.{Record}
+use Rattle.definitions.specs.Master.{Record, handover_for}
 use Rattle.vocabulary.specs.declared.targets.Target.{Target}
 use Rattle.vocabulary.specs.declared.plans.PidNote.{PidNote}
-use Rattle.definitions.specs.Target.{handover_for}
 use Rattle.definitions.specs.Calls.{Stepped, Handed}
-use Rattle.definitions.specs.Tree.{Tree}
+use Rattle.definitions.specs.Run.{Tree, Entry, Moment, Pattern}
 use Rattle.definitions.specs.Plans.{Turn, plan_tree}
-use Rattle.definitions.specs.Run.{Entry, Moment, quiet, Pattern}
+use Rattle.call_laws.specs.Pieces.{quiet, executing_at, executing_after}
 use Rattle.plan_walk.specs.Path.{Trail, begin, advance, rest_after, trail_after, Follows}
 use Rattle.rollback_plan.specs.Following.{follow}
 use Rattle.plan_executor.specs.Replays.{Replays}
 use Rattle.definitions.specs.Claims.{names_any, refused_among, heirs_of}
-use Rattle.call_laws.specs.Pieces.{executing_at, executing_after}
 use Rattle.certifier.specs.Shown.{moment_shown, moments_shown, pattern_of, stepped_at}
 use Rattle.certifier.specs.Places.{Place, Start, place_at, place_after, place_after_all, AreNext}
 use Rattle.certifier.specs.Explained.{pattern_shown, IsExplainedBy}
@@ -49,7 +47,8 @@ pub next-follows : (handed : Handed) (heirs : List ℕ) (p : Place) (es : List E
 next-follows handed heirs p [] all = tt
 next-follows handed heirs p (e ∷ es) all = (all.0.asks, next-follows handed heirs (place_after handed heirs p e) es all.1)
 
-pub next-edges : (handed : Handed) (heirs : List ℕ) (p : Place) (es : List Entry) → is_some p.trail.rest ≡ true → AreNext handed heirs p es → is_some (trail_after p.trail es).rest ≡ true
+pub next-edges : (handed : Handed) (heirs : List ℕ) (p : Place) (es : List Entry) → is_some p.trail.rest ≡ true →
+    AreNext handed heirs p es → is_some (trail_after p.trail es).rest ≡ true
 next-edges handed heirs p [] some all = some
 next-edges handed heirs p (e ∷ es) some all = next-edges handed heirs (place_after handed heirs p e) es (edge-on (follow p.trail.rest e.answer) all.0.edge) all.1
 
@@ -57,7 +56,9 @@ pub next-trail : (handed : Handed) (heirs : List ℕ) (p : Place) (es : List Ent
 next-trail handed heirs p [] = refl
 next-trail handed heirs p (e ∷ es) = next-trail handed heirs (place_after handed heirs p e) es
 
-pub next-replays : (handed : Handed) (heirs : List ℕ) (pattern : Pattern) (n : ℕ) (p : Place) (es : List Entry) → GoesThrough pattern n (moments_shown handed p.table es) → AreNext handed heirs p es → Replays handed pattern n p.table es (place_after_all handed heirs p es).table
+pub next-replays : (handed : Handed) (heirs : List ℕ) (pattern : Pattern) (n : ℕ) (p : Place) (es : List Entry) →
+    GoesThrough pattern n (moments_shown handed p.table es) → AreNext handed heirs p es →
+    Replays handed pattern n p.table es (place_after_all handed heirs p es).table
 next-replays handed heirs pattern n p [] goes all = refl
 next-replays handed heirs pattern n p (e ∷ es) goes all =
     let stepped : stepped_at handed p.table (moment_shown handed p.table e) e ≡ stepped_at handed p.table (pattern (n + 1)) e = ap (λ (m : Moment). stepped_at handed p.table m e) (sym goes.0) in (
@@ -67,13 +68,16 @@ next-replays handed heirs pattern n p (e ∷ es) goes all =
     )
 
 -- nobody executing is named first where nobody is at the first of the calls
-passed-over : (executing heirs : List ℕ) (pattern : Pattern) (n : ℕ) (e : Entry) (es : List Entry) (m : Moment) → pattern (n + 1) ≡ m → names_any (executing_at e.call executing heirs) m.exits ≡ false →
+passed-over : (executing heirs : List ℕ) (pattern : Pattern) (n : ℕ) (e : Entry) (es : List Entry) (m : Moment) →
+    pattern (n + 1) ≡ m → names_any (executing_at e.call executing heirs) m.exits ≡ false →
     refused_among executing heirs pattern n (e ∷ es) ≡ refused_among (executing_after e.call executing heirs) heirs pattern (n + 1) es
 passed-over executing heirs pattern n e es m is none =
     ap (λ b. if b then Some (n + 1) else refused_among (executing_after e.call executing heirs) heirs pattern (n + 1) es)
     (ap (λ (x : Moment). names_any (executing_at e.call executing heirs) x.exits) is ∙ none)
 
-pub next-spares : (handed : Handed) (heirs : List ℕ) (pattern : Pattern) (n : ℕ) (p : Place) (es : List Entry) → GoesThrough pattern n (moments_shown handed p.table es) → AreNext handed heirs p es → refused_among p.executing heirs pattern n es ≡ None
+pub next-spares : (handed : Handed) (heirs : List ℕ) (pattern : Pattern) (n : ℕ) (p : Place) (es : List Entry) →
+    GoesThrough pattern n (moments_shown handed p.table es) → AreNext handed heirs p es →
+    refused_among p.executing heirs pattern n es ≡ None
 next-spares handed heirs pattern n p [] goes all = refl
 next-spares handed heirs pattern n p (e ∷ es) goes all =
     passed-over p.executing heirs pattern n e es (moment_shown handed p.table e) goes.0 all.0.spares
@@ -93,7 +97,10 @@ unnamed : (b : Bool) (k : ℕ) (rest : Option ℕ) → (if b then Some k else re
 unnamed true k rest none = absurd (none-some k (sym none))
 unnamed false k rest none = (refl, none)
 
-pub explained-next : (handed : Handed) (heirs : List ℕ) (pattern : Pattern) (n : ℕ) (p : Place) (es : List Entry) (last : Table) → GoesThrough pattern n (moments_shown handed p.table es) → Follows p.trail es → is_some (trail_after p.trail es).rest ≡ true → Replays handed pattern n p.table es last → refused_among p.executing heirs pattern n es ≡ None → AreNext handed heirs p es
+pub explained-next : (handed : Handed) (heirs : List ℕ) (pattern : Pattern) (n : ℕ) (p : Place) (es : List Entry)
+    (last : Table) → GoesThrough pattern n (moments_shown handed p.table es) → Follows p.trail es →
+    is_some (trail_after p.trail es).rest ≡ true → Replays handed pattern n p.table es last →
+    refused_among p.executing heirs pattern n es ≡ None → AreNext handed heirs p es
 explained-next handed heirs pattern n p [] last goes follows edges replays spares = tt
 explained-next handed heirs pattern n p (e ∷ es) last goes follows edges replays spares =
     let stepped : stepped_at handed p.table (pattern (n + 1)) e ≡ stepped_at handed p.table (moment_shown handed p.table e) e = ap (λ (m : Moment). stepped_at handed p.table m e) goes.0 in

@@ -1,5 +1,6 @@
 -- Faults change nothing, so the moment that one shows gives it again.
-use Rattle.std.proofs.Common.{◌≡◌, ℕ, Bool, true, false, cond, not, nat_eq, List, [], ◌∷◌, ◌++◌, length, filter, Option, Some, None, refl, sym, ◌∙◌, ap, subst, arith, append_assoc}
+use Rattle.std.proofs.Common.{◌≡◌, ℕ, Bool, true, false, cond, not, nat_eq, List, [], ◌∷◌, ◌++◌, length, filter, Option}
+use Rattle.std.proofs.Common.{Some, None, refl, sym, ◌∙◌, ap, subst, arith, append_assoc}
 use Rattle.std.specs.Prelude.{if◌then◌else◌, nat_lt}
 use Rattle.std.specs.List.{list_any}
 use Rattle.std.proofs.lemmas.Bool.{false≢true}
@@ -16,12 +17,14 @@ use Rattle.vocabulary.specs.declared.calls.Answer.TheVariants as answer
 use Rattle.vocabulary.specs.declared.calls.Fate.{Fate}
 use Rattle.vocabulary.specs.declared.calls.Fate.TheVariants as fate
 use Rattle.vocabulary.specs.declared.calls.Reply.{Reply}
-use Rattle.definitions.specs.Table.{Table, Address, Generation, Starting, Master, Worker, Caller, FilePath, live_master, is_worker, is_active, is_starting, is_draining, is_held, owner_at}
-use Rattle.definitions.specs.Calls.{Stepped, gives, opened, forked, spawned, awaited, awaited_gone, lowest_free, with_new_socket, with_new_row, shared, step_with, step_by, own_step, fault_of, fault_or_own, has_process_room, is_image, moved_if, suits}
+use Rattle.definitions.specs.Table.{Table, Address, Generation, Starting, Master, Worker, Caller, FilePath, live_master}
+use Rattle.definitions.specs.Table.{is_worker, is_active, is_held, owner_at}
+use Rattle.call_laws.specs.Pieces.{is_starting, is_draining, with_new_socket, opened, forked, spawned, awaited}
+use Rattle.call_laws.specs.Pieces.{awaited_gone, fault_or_own, moved_if}
+use Rattle.definitions.specs.Calls.{Stepped, gives, lowest_free, with_new_row, shared, step_with, step_by, own_step}
+use Rattle.definitions.specs.Calls.{fault_of, has_process_room, is_image, suits, Handed}
 use Rattle.std.specs.Bool.{then_some}
-use Rattle.definitions.specs.Tree.{reply_of, same_reply}
-use Rattle.definitions.specs.Run.{Moment}
-use Rattle.definitions.specs.Calls.{Handed}
+use Rattle.definitions.specs.Run.{reply_of, same_reply, Moment}
 use Rattle.certifier.specs.Shown.{fate_of, found_gone, is_count, uncounted, workers_named, moment_by}
 use Rattle.certifier.proofs.Shows.{uncounted-none}
 
@@ -78,7 +81,8 @@ module _ (handed : Handed) (image : ℕ) (c : Caller) (t : Table) where
   other a own u differs same = absurd (false≢true (sym differs ∙ same))
 
   open-is : (ad : Address) (a : Answer) → IsFaultOf t a (gives answer.InUse t) →
-      IsFaultOf t a (gives (answer.Opened (lowest_free c.holds)) (with_new_socket t c.number (record { fd = lowest_free c.holds; socket = t.next_socket; address = ad }))) →
+      IsFaultOf t a (gives (answer.Opened (lowest_free c.holds))
+      (with_new_socket t c.number (record { fd = lowest_free c.holds; socket = t.next_socket; address = ad }))) →
       IsFaultOf t a (gives answer.TooMany t) → IsFaultOf t a (opened c ad t)
   open-is ad a held new many =
       either (is_held ad t.rows) t a (gives answer.InUse t)
@@ -168,7 +172,8 @@ own-shown handed by c call t =
       again = ap (λ b. step_by handed by c call (shows_by b by call s.answer s.answer).fate t) is;
     }
 
-fault-shown : (handed : Handed) (by : ℕ) (c : Caller) (call : Call) (f : Fate) (t : Table) (a : Answer) → fault_of c call f t ≡ Some a → IsShown handed by (Some c) call t (gives a t)
+fault-shown : (handed : Handed) (by : ℕ) (c : Caller) (call : Call) (f : Fate) (t : Table) (a : Answer) →
+    fault_of c call f t ≡ Some a → IsShown handed by (Some c) call t (gives a t)
 fault-shown handed by c call f t a is = go (same_reply (reply_of [] own.answer) (reply_of [] a)) refl
   where
     own : Stepped
@@ -189,7 +194,8 @@ fault-shown handed by c call f t a is = go (same_reply (reply_of [] own.answer) 
           ∙ (ap (λ x. step_by handed by (Some c) call x t) fault.named ∙ ap (λ o. fault_or_own o handed by c call t) is);
     }
 
-step-shown : (handed : Handed) (by : ℕ) (c : Option Caller) (call : Call) (f : Option Fate) (t : Table) → IsShown handed by c call t (step_by handed by c call f t)
+step-shown : (handed : Handed) (by : ℕ) (c : Option Caller) (call : Call) (f : Option Fate) (t : Table) →
+    IsShown handed by c call t (step_by handed by c call f t)
 step-shown handed by None call f t = own-shown handed by None call t
 step-shown handed by (Some c) call None t = own-shown handed by (Some c) call t
 step-shown handed by (Some c) call (Some f) t = go (fault_of c call f t) refl
@@ -198,5 +204,6 @@ step-shown handed by (Some c) call (Some f) t = go (fault_of c call f t) refl
     go None is = own-shown handed by (Some c) call t
     go (Some a) is = fault-shown handed by c call f t a is
 
-pub shown-again : (handed : Handed) (by : ℕ) (call : Call) (f : Option Fate) (t : Table) → IsShown handed by (live_master by t.rows) call t (step_with handed by call f t)
+pub shown-again : (handed : Handed) (by : ℕ) (call : Call) (f : Option Fate) (t : Table) →
+    IsShown handed by (live_master by t.rows) call t (step_with handed by call f t)
 shown-again handed by call f t = step-shown handed by (live_master by t.rows) call f t

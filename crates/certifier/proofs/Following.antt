@@ -6,7 +6,7 @@ use Rattle.vocabulary.specs.Settings.{Settings}
 use Rattle.vocabulary.specs.declared.targets.Target.{Target}
 use Rattle.vocabulary.specs.declared.reports.Entry.{Entry}
 use Rattle.vocabulary.specs.declared.reports.Report.{Report}
-use Rattle.definitions.specs.Record.{Record}
+use Rattle.definitions.specs.Master.{Record}
 use Rattle.definitions.specs.After.{next_record}
 use Rattle.kernel_model.specs.State.{State}
 use Rattle.worker_table.specs.Beats.{followed}
@@ -28,9 +28,14 @@ use Rattle.certifier.proofs.Matching.{IsExact}
 
 ---- What is certified is what is carried out
 
-pub leads-on : (settings : Option Settings) (word : Word) (entries : List Entry) (report : Report) (old : Standing State) (r : Record) (target : Target) (it : Certificate) (after : Option Record) (new : Standing State) →
-    old.record ≡ Some r → asked_by word r old.workers settings ≡ asks.Act target → HasEnacted old.world r target entries report it → after ≡ next_record r target report it.kernel.table →
-    new.world ≡ it.kernel → new.record ≡ after → new.workers ≡ followed old.workers report.ready (started after entries) → IsFollowed settings word entries report old it.section new
+pub leads-on : (settings : Option Settings) (word : Word) (entries : List Entry) (report : Report)
+    (old : Standing State) (r : Record) (target : Target) (it : Certificate) (after : Option Record)
+    (new : Standing State) →
+    old.record ≡ Some r → asked_by word r old.workers settings ≡ asks.Act target →
+    HasEnacted old.world r target entries report it → after ≡ next_record r target report it.kernel.table →
+    new.world ≡ it.kernel → new.record ≡ after →
+    new.workers ≡ followed old.workers report.ready (started after entries) →
+    IsFollowed settings word entries report old it.section new
 leads-on settings word entries report old r target it after new runs asked is left world keeps follows = record {
   master = r;
   runs = runs;
@@ -49,8 +54,10 @@ leads-on settings word entries report old r target it after new runs asked is le
 
 ---- What is wrong with it
 
-run-fault : (settings : Option Settings) (word : Word) (s : Standing State) (entries : List Entry) (report : Report) (state : Option Record) (r : Record) (target : Target) (why : Mismatch) →
-    state ≡ Some r → asked_by word r s.workers settings ≡ asks.Act target → IsRunFaultOf state settings word s entries report why ≡ IsMismatch s.world.table r target entries report why
+run-fault : (settings : Option Settings) (word : Word) (s : Standing State) (entries : List Entry) (report : Report)
+    (state : Option Record) (r : Record) (target : Target) (why : Mismatch) →
+    state ≡ Some r → asked_by word r s.workers settings ≡ asks.Act target →
+    IsRunFaultOf state settings word s entries report why ≡ IsMismatch s.world.table r target entries report why
 run-fault settings word s entries report state r target why runs asked =
     ap (λ (st : Option Record). IsRunFaultOf st settings word s entries report why) runs ∙ ap (λ (a : Asked). IsRunFault a s r entries report why) asked
 
@@ -58,7 +65,9 @@ run-fault settings word s entries report state r target why runs asked =
 abbrev IsExactRun : {T : Type 0} → Option Settings → Word → Standing State → List Entry → Report → Option Record → Result T Mismatch → Type 0
 IsExactRun settings word s entries report state result = (why : Mismatch) → IsErrOf result mismatch.Memory ⊎ (IsErrOf result why ↔ IsRunFaultOf state settings word s entries report why)
 
-pub run-exact : {T : Type 0} (settings : Option Settings) (word : Word) (s : Standing State) (entries : List Entry) (report : Report) (state : Option Record) (r : Record) (target : Target) (result : Result T Mismatch) →
-    state ≡ Some r → asked_by word r s.workers settings ≡ asks.Act target → IsExact s.world.table r target entries report result → IsExactRun settings word s entries report state result
+pub run-exact : {T : Type 0} (settings : Option Settings) (word : Word) (s : Standing State) (entries : List Entry)
+    (report : Report) (state : Option Record) (r : Record) (target : Target) (result : Result T Mismatch) →
+    state ≡ Some r → asked_by word r s.workers settings ≡ asks.Act target →
+    IsExact s.world.table r target entries report result → IsExactRun settings word s entries report state result
 run-exact settings word s entries report state r target result runs asked exact why =
     subst (λ (X : Type 0). IsErrOf result mismatch.Memory ⊎ (IsErrOf result why ↔ X)) (sym (run-fault settings word s entries report state r target why runs asked)) (exact why)

@@ -3,7 +3,8 @@ use Rattle.std.proofs.Common.{◌≡◌, ℕ, ◌+◌, length, List, [], ◌∷�
 use Rattle.std.specs.Prelude.{IfOk, IfErr}
 use Rattle.definitions.specs.Plans.{Turn, New}
 use Rattle.theorems.specs.Apart.{Plays}
-use Rattle.definitions.specs.Run.{Entry, Report, Sides}
+use Rattle.definitions.specs.Run.{Entry, Report}
+use Rattle.definitions.specs.Master.{Sides}
 use Rattle.definitions.specs.Calls.{Handed}
 use Rattle.plan_walk.specs.Path.{Trail, IsOver, Reports, trail_after}
 use Rattle.plan_walk.specs.Walk.{trail_under, sides_in}
@@ -15,11 +16,14 @@ use Rattle.certifier.specs.declared.replay.Certificate.{Certificate}
 use Rattle.mismatches.specs.declared.Mismatch.{Mismatch}
 use Rattle.mismatches.specs.declared.Mismatch.TheVariants as mismatch
 use Rattle.certifier.specs.Turns.{IsTrimmed, used_in}
-use Rattle.certifier.specs.Places.{Place, Start, place_at, place_under, place_after_all, trail_to, AreNext, AreNextUnder, IsPathUnder, HasTaken, EndsWell, EndsBadly, StopsBy, Shows, Holds, IsLed, FailsBy}
+use Rattle.certifier.specs.Places.{Place, Start, place_at, place_under, place_after_all, trail_to, AreNext}
+use Rattle.certifier.specs.Places.{AreNextUnder, IsPathUnder, HasTaken, EndsWell, EndsBadly, StopsBy, Shows, Holds}
+use Rattle.certifier.specs.Places.{IsLed, FailsBy}
 use Rattle.certifier.proofs.Explaining.{next-trail}
 use Rattle.certifier.proofs.Turns.{append-none, plays-first, steady-news, goes-on}
 
-module _ (handed : Handed) (heirs : List ℕ) (sides : Sides) (from : Start) (entries : List Entry) (x : Replay) (taken : HasTaken handed heirs sides from entries x) where
+module _ (handed : Handed) (heirs : List ℕ) (sides : Sides) (from : Start) (entries : List Entry) (x : Replay)
+    (taken : HasTaken handed heirs sides from entries x) where
   -- the turns that are told lead to what the turns that were used do
   same-told : from.trail x.turns.told ≡ from.trail (used_in x.turns ++ [])
   same-told = sym (ap from.trail (append-none (used_in x.turns)) ∙ steady-news from.trail taken.steady x.turns.told x.turns.late)
@@ -32,7 +36,9 @@ module _ (handed : Handed) (heirs : List ℕ) (sides : Sides) (from : Start) (en
   module _ (section : Section) (pattern : section.pattern ≡ x.pattern) (told : section.turns ≡ x.turns.told) where
     pub shows-all : Shows handed heirs from entries section
     shows-all = record {
-      next = subst (λ (turns : List Turn). AreNextUnder handed heirs from turns entries) (sym told) (subst (λ (p : Place). AreNext handed heirs p entries) (sym same-start) (taken.next []));
+      next =
+          subst (λ (turns : List Turn). AreNextUnder handed heirs from turns entries) (sym told)
+          (subst (λ (p : Place). AreNext handed heirs p entries) (sym same-start) (taken.next []));
       turns = record {
         used = λ turns path. subst (Plays turns) (sym told) (plays-first turns x.turns.told (replicate x.turns.late New) (taken.only turns path));
         trimmed = subst IsTrimmed (sym told) taken.trimmed;
@@ -59,10 +65,13 @@ module _ (handed : Handed) (heirs : List ℕ) (sides : Sides) (from : Start) (en
             ∙ (sym (next-trail handed heirs (place_at from (used_in x.turns ++ rest)) entries) ∙ sym (ap (λ (p : Place). p.trail) (taken.place rest))),
       )
 
-  told-so : (report : Report) (turns : List Turn) → Reports (sides_in x.walk) (trail_under x.walk turns) report ≡ Reports sides (trail_under x.walk turns) report
+  told-so : (report : Report) (turns : List Turn) →
+      Reports (sides_in x.walk) (trail_under x.walk turns) report ≡ Reports sides (trail_under x.walk turns) report
   told-so report turns = ap (λ (s : Sides). Reports s (trail_under x.walk turns) report) taken.sides_are
 
-  pub ends-well : (report : Report) (result : Result Certificate Mismatch) → IfOk result (λ it. EndsWell x report it.section) → IfOk result (λ it. Holds handed heirs sides from entries report it.section)
+  pub ends-well : (report : Report) (result : Result Certificate Mismatch) →
+      IfOk result (λ it. EndsWell x report it.section) →
+      IfOk result (λ it. Holds handed heirs sides from entries report it.section)
   ends-well report (Ok it) h =
       let trail = trail-told it.section h.pattern h.turns in
       record {
@@ -73,7 +82,9 @@ module _ (handed : Handed) (heirs : List ℕ) (sides : Sides) (from : Start) (en
   ends-well report (Err why) h = tt
 
   -- the kernel of the replay is led by its entries
-  pub ends-led : (calls : ℕ) → x.kernel.room + length entries ≡ calls → (report : Report) (result : Result Certificate Mismatch) → IfOk result (λ it. EndsWell x report it.section) → IfOk result (λ it. it.kernel ≡ x.kernel) →
+  pub ends-led : (calls : ℕ) → x.kernel.room + length entries ≡ calls →
+      (report : Report) (result : Result Certificate Mismatch) → IfOk result (λ it. EndsWell x report it.section) →
+      IfOk result (λ it. it.kernel ≡ x.kernel) →
       IfOk result (λ it. IsLed handed heirs calls (place_at from it.section.turns) entries it.kernel)
   ends-led calls room report (Ok it) h same = record {
     table =
@@ -84,7 +95,8 @@ module _ (handed : Handed) (heirs : List ℕ) (sides : Sides) (from : Start) (en
   }
   ends-led calls room report (Err why) h same = tt
 
-  pub ends-badly : (report : Report) (result : Result Certificate Mismatch) → IfErr result (EndsBadly x report) → IfErr result (FailsBy handed heirs sides from entries report)
+  pub ends-badly : (report : Report) (result : Result Certificate Mismatch) → IfErr result (EndsBadly x report) →
+      IfErr result (FailsBy handed heirs sides from entries report)
   ends-badly report (Ok it) h = tt
   ends-badly report (Err mismatch.Refused) h = absurd h
   ends-badly report (Err (mismatch.Step n)) h = absurd h
@@ -102,7 +114,9 @@ module _ (handed : Handed) (heirs : List ℕ) (sides : Sides) (from : Start) (en
   }
 
 -- a replay that stops
-pub stops-so : (handed : Handed) (heirs : List ℕ) (sides : Sides) (from : Start) (entries : List Entry) (report : Report) (why : Mismatch) → StopsBy handed heirs from entries why → FailsBy handed heirs sides from entries report why
+pub stops-so : (handed : Handed) (heirs : List ℕ) (sides : Sides) (from : Start) (entries : List Entry)
+    (report : Report) (why : Mismatch) → StopsBy handed heirs from entries why →
+    FailsBy handed heirs sides from entries report why
 stops-so handed heirs sides from entries report mismatch.Refused h = h
 stops-so handed heirs sides from entries report (mismatch.Step n) h = h
 stops-so handed heirs sides from entries report mismatch.Short h = absurd h

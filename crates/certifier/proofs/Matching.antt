@@ -1,17 +1,18 @@
 -- What the replay of a target's entries says of the target.
-use Rattle.std.proofs.Common.{◌≡◌, ◌⊎◌, inl, inr, ℕ, ◌+◌, ◌-◌, ◌<◌, ◌≤◌, List, [], ◌∷◌, ◌++◌, take, drop, None, Result, Ok, Err, true, refl, sym, ◌∙◌, ap, subst, arith}
+use Rattle.std.proofs.Common.{◌≡◌, ◌⊎◌, inl, inr, ℕ, ◌+◌, ◌-◌, ◌<◌, ◌≤◌, List, [], ◌∷◌, ◌++◌, take, drop, None, Result}
+use Rattle.std.proofs.Common.{Ok, Err, true, refl, sym, ◌∙◌, ap, subst, arith}
 use Rattle.std.specs.Prelude.{◌↔◌, IfOk, IfErr}
 use Rattle.std.specs.Result.{IsErrOf}
 use Rattle.std.proofs.lemmas.Bool.{false≢true, cases_order}
 use Rattle.std.proofs.lemmas.List.{take-append-drop}
 use Rattle.std.proofs.Math.Seq.{take-add}
 use Rattle.definitions.specs.Table.{Table}
-use Rattle.definitions.specs.Record.{Record}
+use Rattle.definitions.specs.Master.{Record, handover_for, sides_of}
 use Rattle.vocabulary.specs.declared.targets.Target.{Target}
-use Rattle.definitions.specs.Target.{handover_for, sides_of}
 use Rattle.definitions.specs.Plans.{Turn, plan_tree}
 use Rattle.call_laws.specs.Lengths.{plan_length}
-use Rattle.definitions.specs.Run.{Entry, Report, lacked_last}
+use Rattle.definitions.specs.Run.{Entry, Report}
+use Rattle.call_laws.specs.Pieces.{lacked_last}
 use Rattle.plan_walk.specs.Path.{KeepsPathLaw}
 use Rattle.definitions.specs.Claims.{refused_among, refusal_of, heirs_of}
 use Rattle.kernel_model.specs.Pattern.{moment_at}
@@ -43,7 +44,8 @@ use Rattle.certifier.proofs.Explaining.{starts, begins, goes-through, next-follo
 
 ---- The turns that entries show
 
-pub turns-of : (t : Table) (r : Record) (target : Target) (entries : List Entry) (turns : List Turn) → AreShown (starts t r target) entries turns → AreTurnsOf r target entries turns
+pub turns-of : (t : Table) (r : Record) (target : Target) (entries : List Entry) (turns : List Turn) →
+    AreShown (starts t r target) entries turns → AreTurnsOf r target entries turns
 turns-of t r target entries turns shown = record {
   used = shown.used;
   fewest = λ others path. trimmed-fewest others turns (shown.used others path) shown.trimmed;
@@ -53,10 +55,19 @@ turns-of t r target entries turns shown = record {
 ---- Entries that are to begin a run
 
 module _ (t : Table) (r : Record) (target : Target) (entries : List Entry) (ready : IsReady t r target) where
-  pub begun : (section : Section) → Shows (handover_for r target) (heirs_of r target) (starts t r target) entries section → IsBeginning t r target entries section
-  begun section h = record { ready = ready; explained = is-explained t r target section.turns entries h.next; turns = turns-of t r target entries section.turns h.turns; shown = h.shown }
+  pub begun : (section : Section) →
+      Shows (handover_for r target) (heirs_of r target) (starts t r target) entries section →
+      IsBeginning t r target entries section
+  begun section h =
+      record {
+        ready = ready;
+        explained = is-explained t r target section.turns entries h.next;
+        turns = turns-of t r target entries section.turns h.turns;
+        shown = h.shown;
+      }
 
-  pub unbegun : (why : Mismatch) → StopsBy (handover_for r target) (heirs_of r target) (starts t r target) entries why → (why ≡ mismatch.Memory) ⊎ IsNoBeginning t r target entries why
+  pub unbegun : (why : Mismatch) → StopsBy (handover_for r target) (heirs_of r target) (starts t r target) entries why →
+      (why ≡ mismatch.Memory) ⊎ IsNoBeginning t r target entries why
   unbegun mismatch.Refused h = absurd h
   unbegun (mismatch.Step n) h = inr (record {
     ready = ready;
@@ -76,7 +87,9 @@ module _ (t : Table) (r : Record) (target : Target) (entries : List Entry) (repo
   ---- A transcript that holds
 
   pub whole : (section : Section) → Holds (handover_for r target) (heirs_of r target) (sides_of r target) (starts t r target) entries report section →
-      IsWholeRun r target section.turns (moment_at section.pattern) t entries (place_under (handover_for r target) (heirs_of r target) (starts t r target) section.turns entries).table report
+      IsWholeRun r target section.turns (moment_at section.pattern) t entries
+      (place_under (handover_for r target) (heirs_of r target)
+      (starts t r target) section.turns entries).table report
   whole section h =
       let handed = handover_for r target in
       let heirs = heirs_of r target in
@@ -95,7 +108,9 @@ module _ (t : Table) (r : Record) (target : Target) (entries : List Entry) (repo
       whole-run r target turns (moment_at pattern) t (place_after_all handed heirs p entries).table entries report law (next-replays handed heirs (moment_at pattern) 0 p entries goes next)
 
   -- no executing master exits in its run
-  pub spares : (section : Section) → Holds (handover_for r target) (heirs_of r target) (sides_of r target) (starts t r target) entries report section → refusal_of r target section.turns (moment_at section.pattern) t ≡ None
+  pub spares : (section : Section) →
+      Holds (handover_for r target) (heirs_of r target) (sides_of r target) (starts t r target) entries report section →
+      refusal_of r target section.turns (moment_at section.pattern) t ≡ None
   spares section h =
       let handed = handover_for r target in
       let heirs = heirs_of r target in
@@ -103,7 +118,9 @@ module _ (t : Table) (r : Record) (target : Target) (entries : List Entry) (repo
       let goes = goes-through (moment_at section.pattern) (moments_shown handed t entries) h.shows.shown in
       ap (refused_among (r.generation.image ∷ []) heirs (moment_at section.pattern) 0) (whole section h).entries_are ∙ next-spares handed heirs (moment_at section.pattern) 0 p entries goes h.shows.next
 
-  pub certified : (section : Section) → Holds (handover_for r target) (heirs_of r target) (sides_of r target) (starts t r target) entries report section → ActsApart r target section.turns entries → IsCertified t r target entries report section
+  pub certified : (section : Section) →
+      Holds (handover_for r target) (heirs_of r target) (sides_of r target) (starts t r target) entries report section →
+      ActsApart r target section.turns entries → IsCertified t r target entries report section
   certified section h apart = record {
     ready = ready;
     shown = h.shows.shown;
@@ -116,7 +133,9 @@ module _ (t : Table) (r : Record) (target : Target) (entries : List Entry) (repo
 
   ---- One that does not
 
-  pub mismatched : (why : Mismatch) → FailsBy (handover_for r target) (heirs_of r target) (sides_of r target) (starts t r target) entries report why → (why ≡ mismatch.Memory) ⊎ IsMismatch t r target entries report why
+  pub mismatched : (why : Mismatch) →
+      FailsBy (handover_for r target) (heirs_of r target) (sides_of r target) (starts t r target) entries report why →
+      (why ≡ mismatch.Memory) ⊎ IsMismatch t r target entries report why
   mismatched mismatch.Refused h = unbegun t r target entries ready mismatch.Refused h
   mismatched (mismatch.Step n) h = unbegun t r target entries ready (mismatch.Step n) h
   mismatched mismatch.Short h = inr (record {
@@ -140,7 +159,8 @@ not-both t r target (inr (inl planless)) ready = false≢true (sym ready.has_pla
 not-both t r target (inr (inr lacks)) ready = ready.numbers lacks
 
 -- the first of explained entries are explained
-front-explained : (t : Table) (r : Record) (target : Target) (es more whole : List Entry) → whole ≡ es ++ more → IsExplained t r target whole → IsExplained t r target es
+front-explained : (t : Table) (r : Record) (target : Target) (es more whole : List Entry) → whole ≡ es ++ more →
+    IsExplained t r target whole → IsExplained t r target es
 front-explained t r target es more whole split all =
     let handed = handover_for r target in
     let heirs = heirs_of r target in
@@ -150,7 +170,8 @@ front-explained t r target es more whole split all =
 pub all-explained : (t : Table) (r : Record) (target : Target) (es : List Entry) (k : ℕ) → IsExplained t r target es → IsExplained t r target (take k es)
 all-explained t r target es k = front-explained t r target (take k es) (drop k es) es (sym (take-append-drop k es))
 
-fewer-explained : (t : Table) (r : Record) (target : Target) (es : List Entry) (j k : ℕ) → j ≤ k → IsExplained t r target (take k es) → IsExplained t r target (take j es)
+fewer-explained : (t : Table) (r : Record) (target : Target) (es : List Entry) (j k : ℕ) → j ≤ k →
+    IsExplained t r target (take k es) → IsExplained t r target (take j es)
 fewer-explained t r target es j k le =
     let more : k ≡ j + (k - j) = omega (arith, le) in
     front-explained t r target (take j es) (take (k - j) (drop j es)) (take k es) (ap (λ n. take n es) more ∙ take-add j (k - j) es)
@@ -168,7 +189,8 @@ same-step t r target es n m h k = elim (cases_order n m) [
   | inr (inr lt) ↦ absurd (not-earlier t r target es m n k h lt)
 ]
 
-one-beginning : (t : Table) (r : Record) (target : Target) (es : List Entry) (why other : Mismatch) → IsNoBeginning t r target es why → IsNoBeginning t r target es other → why ≡ other
+one-beginning : (t : Table) (r : Record) (target : Target) (es : List Entry) (why other : Mismatch) →
+    IsNoBeginning t r target es why → IsNoBeginning t r target es other → why ≡ other
 one-beginning t r target es mismatch.Refused mismatch.Refused h k = refl
 one-beginning t r target es mismatch.Refused (mismatch.Step m) h k = absurd (not-both t r target h k.ready)
 one-beginning t r target es (mismatch.Step n) mismatch.Refused h k = absurd (not-both t r target k h.ready)
@@ -180,7 +202,8 @@ one-beginning t r target es why mismatch.Short h k = absurd k
 one-beginning t r target es why mismatch.Report h k = absurd k
 one-beginning t r target es why mismatch.Memory h k = absurd k
 
-one : (t : Table) (r : Record) (target : Target) (es : List Entry) (report : Report) (why other : Mismatch) → IsMismatch t r target es report why → IsMismatch t r target es report other → why ≡ other
+one : (t : Table) (r : Record) (target : Target) (es : List Entry) (report : Report) (why other : Mismatch) →
+    IsMismatch t r target es report why → IsMismatch t r target es report other → why ≡ other
 one t r target es report mismatch.Refused mismatch.Refused h k = refl
 one t r target es report mismatch.Refused (mismatch.Step m) h k = one-beginning t r target es mismatch.Refused (mismatch.Step m) h k
 one t r target es report mismatch.Refused mismatch.Short h k = absurd (not-both t r target h k.ready)
@@ -204,7 +227,8 @@ one t r target es report mismatch.Report mismatch.Memory h k = absurd k
 one t r target es report mismatch.Memory other h k = absurd h
 
 -- none where the entries begin a run
-none-unbegun : (t : Table) (r : Record) (target : Target) (es : List Entry) → IsReady t r target → IsExplained t r target es → (why : Mismatch) → IsNoBeginning t r target es why → ⊥
+none-unbegun : (t : Table) (r : Record) (target : Target) (es : List Entry) → IsReady t r target →
+    IsExplained t r target es → (why : Mismatch) → IsNoBeginning t r target es why → ⊥
 none-unbegun t r target es ready all mismatch.Refused h = not-both t r target h ready
 none-unbegun t r target es ready all (mismatch.Step n) h = h.strange (all-explained t r target es n all)
 none-unbegun t r target es ready all mismatch.Short h = h
@@ -212,7 +236,9 @@ none-unbegun t r target es ready all mismatch.Report h = h
 none-unbegun t r target es ready all mismatch.Memory h = h
 
 -- none where the transcript holds
-none-fits : (t : Table) (r : Record) (target : Target) (es : List Entry) (report : Report) → IsReady t r target → (section : Section) → Holds (handover_for r target) (heirs_of r target) (sides_of r target) (starts t r target) es report section → (why : Mismatch) → IsMismatch t r target es report why → ⊥
+none-fits : (t : Table) (r : Record) (target : Target) (es : List Entry) (report : Report) → IsReady t r target →
+    (section : Section) → Holds (handover_for r target) (heirs_of r target) (sides_of r target)
+    (starts t r target) es report section → (why : Mismatch) → IsMismatch t r target es report why → ⊥
 none-fits t r target es report ready section holds why h = fits why h
   where
     all : IsExplainedBy t r target section.turns es
@@ -227,7 +253,8 @@ none-fits t r target es report ready section holds why h = fits why h
 
 ---- What a certified section enacts
 
-pub enacts-so : (first : State) (r : Record) (target : Target) (es : List Entry) (report : Report) (section : Section) → IsCertified first.table r target es report section → EnactsSo first r target es report section
+pub enacts-so : (first : State) (r : Record) (target : Target) (es : List Entry) (report : Report) (section : Section) →
+    IsCertified first.table r target es report section → EnactsSo first r target es report section
 enacts-so first r target es report section is = record {
   unrefused = unrefused;
   same_entries = λ last e enacted. sym enacted.is_run.entries_are ∙ is.is_run.entries_are;
@@ -285,11 +312,15 @@ module _ (t : Table) (r : Record) (target : Target) (fits : Mismatch → Type 0)
   pub exact-unready : {T : Type 0} (result : Result T Mismatch) → result ≡ Err mismatch.Refused → IsUnready t r target → IsExactly fits result
   exact-unready result is unready = exact-mismatch result mismatch.Refused is (plain.refused unready)
 
-  pub exact-planless : {T : Type 0} (result : Result T Mismatch) (why : EnactRefusal) → result ≡ Err (mismatch_of why) → (why ≡ refusal.Memory) ⊎ ((p : PlanRefusal) × (why ≡ refusal.Plan p) × HasNoPlan r target p) → IsExactly fits result
+  pub exact-planless : {T : Type 0} (result : Result T Mismatch) (why : EnactRefusal) → result ≡ Err (mismatch_of why) →
+      (why ≡ refusal.Memory) ⊎ ((p : PlanRefusal) × (why ≡ refusal.Plan p) × HasNoPlan r target p) →
+      IsExactly fits result
   exact-planless result why is (inl memory) = λ _. inl (is ∙ ap (λ w. Err (mismatch_of w)) memory)
   exact-planless result why is (inr none) = exact-unready result (is ∙ ap (λ w. Err (mismatch_of w)) none.1) (inr (inl (planless r target none.0 none.2)))
 
-  pub exact-short : {T : Type 0} (result : Result T Mismatch) (why : EnactRefusal) → result ≡ Err (mismatch_of why) → (why ≡ refusal.Memory) ⊎ ((why ≡ refusal.NoNumbers) × LacksNumbers t (plan_length r target)) → IsExactly fits result
+  pub exact-short : {T : Type 0} (result : Result T Mismatch) (why : EnactRefusal) → result ≡ Err (mismatch_of why) →
+      (why ≡ refusal.Memory) ⊎ ((why ≡ refusal.NoNumbers) × LacksNumbers t (plan_length r target)) →
+      IsExactly fits result
   exact-short result why is (inl memory) = λ _. inl (is ∙ ap (λ w. Err (mismatch_of w)) memory)
   exact-short result why is (inr none) = exact-unready result (is ∙ ap (λ w. Err (mismatch_of w)) none.0) (inr (inr none.1))
 
@@ -306,7 +337,9 @@ answered-beginning t r target es ready (Err why) shows stops =
     (tt, exact-stopped t r target (IsNoBeginning t r target es) (plain-beginnings t r target es) why (unbegun t r target es ready why stops))
 
 -- entries that begin a run are refused, if at all, for want of memory
-pub complete-beginning : {T : Type 0} (t : Table) (r : Record) (target : Target) (es : List Entry) (section : Section) (result : Result T Mismatch) → IsExactly (IsNoBeginning t r target es) result → IsBeginning t r target es section → IfErr result (λ why. why ≡ mismatch.Memory)
+pub complete-beginning : {T : Type 0} (t : Table) (r : Record) (target : Target) (es : List Entry) (section : Section)
+    (result : Result T Mismatch) → IsExactly (IsNoBeginning t r target es) result → IsBeginning t r target es section →
+    IfErr result (λ why. why ≡ mismatch.Memory)
 complete-beginning t r target es section (Ok x) exact is = tt
 complete-beginning t r target es section (Err why) exact is = elim (exact why) [
   | inl memory ↦ (let e : why ≡ mismatch.Memory = cc in e)
@@ -314,7 +347,8 @@ complete-beginning t r target es section (Err why) exact is = elim (exact why) [
 ]
 
 -- what a transcript comes to
-pub answered : {T : Type 0} (section_in : T → Section) (t : Table) (r : Record) (target : Target) (es : List Entry) (report : Report) → IsReady t r target → (result : Result T Mismatch) →
+pub answered : {T : Type 0} (section_in : T → Section) (t : Table) (r : Record) (target : Target) (es : List Entry)
+    (report : Report) → IsReady t r target → (result : Result T Mismatch) →
     IfOk result (λ it. Holds (handover_for r target) (heirs_of r target) (sides_of r target) (starts t r target) es report (section_in it)) →
     IfErr result (FailsBy (handover_for r target) (heirs_of r target) (sides_of r target) (starts t r target) es report) →
     IsExact t r target es report result
@@ -323,13 +357,15 @@ answered section_in t r target es report ready (Err why) holds fails =
     exact-stopped t r target (IsMismatch t r target es report) (plain-mismatches t r target es report) why (mismatched t r target es report ready why fails)
 
 -- exact is exact whatever else is given
-pub exact-of : {T U : Type 0} (t : Table) (r : Record) (target : Target) (es : List Entry) (report : Report) (x : T) (y : U) → IsExact {T = T} t r target es report (Ok x) → IsExact {T = U} t r target es report (Ok y)
+pub exact-of : {T U : Type 0} (t : Table) (r : Record) (target : Target) (es : List Entry) (report : Report) (x : T)
+    (y : U) → IsExact {T = T} t r target es report (Ok x) → IsExact {T = U} t r target es report (Ok y)
 exact-of t r target es report x y exact why = elim (exact why) [
   | inl memory ↦ absurd cc
   | inr iff ↦ inr (λ h. absurd cc, λ is. absurd (let wrong = iff.1 is in cc))
 ]
 
-pub exact-failed : {T U : Type 0} (t : Table) (r : Record) (target : Target) (es : List Entry) (report : Report) (why : Mismatch) → IsExact {T = T} t r target es report (Err why) → IsExact {T = U} t r target es report (Err why)
+pub exact-failed : {T U : Type 0} (t : Table) (r : Record) (target : Target) (es : List Entry) (report : Report)
+    (why : Mismatch) → IsExact {T = T} t r target es report (Err why) → IsExact {T = U} t r target es report (Err why)
 exact-failed t r target es report why exact other = elim (exact other) [
   | inl memory ↦ (let e : why ≡ mismatch.Memory = cc in inl (ap Err e))
   | inr iff ↦ inr (λ h. (let e : why ≡ other = cc in iff.0 (ap Err e)), λ is. (let h = iff.1 is in let e : why ≡ other = cc in ap Err e))

@@ -36,7 +36,8 @@ left-all (Some c) left turn turns =
     λ both. let e : [] ≡ New ∷ [] = subst (λ b. (if b then without_first (New ∷ []) else New ∷ []) ≡ New ∷ []) both left in
     cc
 
-pub uses-one : (w : Walk) (turn : Turn) (old new : List Turn) → ((turns : List Turn) → left_by w turns ≡ without_first turns) → new ≡ old ++ turn ∷ [] → UsesTurn w turn old new
+pub uses-one : (w : Walk) (turn : Turn) (old new : List Turn) →
+    ((turns : List Turn) → left_by w turns ≡ without_first turns) → new ≡ old ++ turn ∷ [] → UsesTurn w turn old new
 uses-one w turn old new left is = record {
   taken = turn ∷ [];
   used = is;
@@ -65,7 +66,8 @@ pub record GoesOnBy (w after : Walk) (turn : Turn) (e : Entry) : Type 0 where
   pub asks : (turns : List Turn) → IsTurnOf w turn turns → Asks (trail_under w turns).rest (trail_under w turns).lacked e
   pub leads : (turns : List Turn) → IsTurnOf w turn turns → trail_under after (left_by w turns) ≡ advance (trail_under w turns) e
 
-module _ (x : Replay) (e : Entry) (turn : Turn) (after : Walk) (lost : Bool) (goes : GoesOnBy x.walk after turn e) (is_lost : (turns : List Turn) → lost ≡ is_none (trail_under after turns).rest) where
+module _ (x : Replay) (e : Entry) (turn : Turn) (after : Walk) (lost : Bool) (goes : GoesOnBy x.walk after turn e)
+    (is_lost : (turns : List Turn) → lost ≡ is_none (trail_under after turns).rest) where
   -- the edge is there where the walk is not lost
   lost-is : (turns : List Turn) → IsTurnOf x.walk turn turns → lost ≡ is_none (rest_after (follow (trail_under x.walk turns).rest e.answer))
   lost-is turns first = is_lost (left_by x.walk turns) ∙ ap (λ (t : Trail). is_none t.rest) (goes.leads turns first)

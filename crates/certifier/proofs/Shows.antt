@@ -5,9 +5,9 @@ use Rattle.std.proofs.lemmas.Bool.{false≢true}
 use Rattle.vocabulary.specs.declared.calls.Call.{Call}
 use Rattle.vocabulary.specs.declared.calls.Answer.{Answer}
 use Rattle.vocabulary.specs.declared.calls.Answer.TheVariants as answer
-use Rattle.definitions.specs.Exits.{Name}
-use Rattle.definitions.specs.Tree.{reply_of, same_reply}
-use Rattle.definitions.specs.Run.{Entry, quiet}
+use Rattle.definitions.specs.Calls.{Name}
+use Rattle.definitions.specs.Run.{reply_of, same_reply, Entry}
+use Rattle.call_laws.specs.Pieces.{quiet}
 use Rattle.certifier.specs.Shown.{is_count, uncounted, found_gone, fate_of, moment_by}
 
 -- an answer that counts nobody leaves nobody uncounted

@@ -1,12 +1,12 @@
 -- A replay before its first entry.
 use Rattle.std.proofs.Common.{◌≡◌, ℕ, zero, suc, ◌≤◌, ◌<◌, ◌^◌, List, [], ◌∷◌, ◌++◌, replicate, Option, None, Some, refl, sym, ◌∙◌, ap, subst, arith}
-use Rattle.definitions.specs.Tree.{Tree, End}
+use Rattle.definitions.specs.Run.{Tree, End}
 use Rattle.call_laws.specs.Lengths.{height}
 use Rattle.vocabulary.specs.declared.plans.End.TheVariants.{Done, RolledBack, ShortOld, ShortTarget, Split, JoinReady, JoinBack, Join}
 use Rattle.definitions.specs.Plans.{Turn, New, graft, joined}
 use Rattle.theorems.specs.Apart.{Plays}
 use Rattle.plan_walk.specs.Path.{Trail, begin}
-use Rattle.definitions.specs.Run.{quiet}
+use Rattle.call_laws.specs.Pieces.{quiet}
 use Rattle.handover_text.specs.Reading.{handed_by}
 use Rattle.theorems.proofs.LastTurns.{weave-last}
 use Rattle.plan_steps.specs.declared.parts.Parts.{Parts}
@@ -27,7 +27,8 @@ use Rattle.certifier.specs.Places.{place_at, start_of, HasTaken}
 
 ---- A turn of New at the end changes no plan
 
-part-last : (ready back new old : Tree) (turns : List Turn) (end : End) → part_end ready back new old (turns ++ New ∷ []) end ≡ part_end ready back new old turns end
+part-last : (ready back new old : Tree) (turns : List Turn) (end : End) →
+    part_end ready back new old (turns ++ New ∷ []) end ≡ part_end ready back new old turns end
 part-last ready back new old turns Split = weave-last (joined ready back) new turns old
 part-last ready back new old turns Done = refl
 part-last ready back new old turns RolledBack = refl

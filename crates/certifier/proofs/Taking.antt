@@ -3,7 +3,8 @@ use Rattle.std.proofs.Common.{◌≡◌, ℕ, ◌+◌, nat_eq, List, [], ◌∷�
 use Rattle.std.specs.Prelude.{if◌then◌else◌}
 use Rattle.definitions.specs.Plans.{Turn}
 use Rattle.theorems.specs.Apart.{Plays}
-use Rattle.definitions.specs.Run.{Entry, Sides, Moment}
+use Rattle.definitions.specs.Run.{Entry, Moment}
+use Rattle.definitions.specs.Master.{Sides}
 use Rattle.plan_walk.specs.Path.{Trail, Asks, Follows, advance, trail_after}
 use Rattle.definitions.specs.Calls.{Handed}
 use Rattle.handover_text.specs.Reading.{handed_by}
@@ -11,7 +12,8 @@ use Rattle.plan_executor.specs.Naming.{listed}
 use Rattle.certifier.specs.declared.replay.Replay.{Replay}
 use Rattle.certifier.specs.Shown.{moment_shown, moments_shown, pattern_of}
 use Rattle.certifier.specs.Turns.{used_in}
-use Rattle.certifier.specs.Places.{Place, Start, place_at, place_under, trail_to, place_of, IsNext, IsNextFor, place_after, AreNext, AreNextUnder, IsPathUnder, UseTurns, IsTaken, HasTaken}
+use Rattle.certifier.specs.Places.{Place, Start, place_at, place_under, trail_to, place_of, IsNext, IsNextFor}
+use Rattle.certifier.specs.Places.{place_after, AreNext, AreNextUnder, IsPathUnder, UseTurns, IsTaken, HasTaken}
 use Rattle.certifier.proofs.Explaining.{next-follows, next-trail}
 use Rattle.certifier.proofs.Steps.{next-push, next-last, next-front, place-push, moments-push, moments-length, pattern-push}
 use Rattle.certifier.proofs.Turns.{GoesOn, goes-on}
@@ -25,9 +27,12 @@ follows-front : (t : Trail) (es : List Entry) (e : Entry) → Follows t (es ++ e
 follows-front t [] e path = tt
 follows-front t (x ∷ es) e path = (path.0, follows-front (advance t x) es e path.1)
 
-module _ (handed : Handed) (heirs : List ℕ) (sides : Sides) (from : Start) (es : List Entry) (e : Entry) (x : Replay) (h : HasTaken handed heirs sides from es x) where
+module _ (handed : Handed) (heirs : List ℕ) (sides : Sides) (from : Start) (es : List Entry) (e : Entry) (x : Replay)
+    (h : HasTaken handed heirs sides from es x) where
   -- where the replay has come, with what it was given
-  there : (turns : List Turn) → IsNext (handed_by x.text.now) (listed x.heir) (place_of x turns) e ≡ IsNext handed heirs (place_under handed heirs from (used_in x.turns ++ turns) es) e
+  there : (turns : List Turn) →
+      IsNext (handed_by x.text.now) (listed x.heir) (place_of x turns) e
+      ≡ IsNext handed heirs (place_under handed heirs from (used_in x.turns ++ turns) es) e
   there turns = λ i. IsNext (h.handed_is i) (h.heirs_are i) (h.place turns i) e
 
   -- the trail to which the entries lead is where the replay has come

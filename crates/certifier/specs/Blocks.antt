@@ -4,7 +4,7 @@ use Rattle.vocabulary.specs.Settings.{Settings}
 use Rattle.vocabulary.specs.declared.targets.Target.{Target}
 use Rattle.vocabulary.specs.declared.reports.Entry.{Entry}
 use Rattle.vocabulary.specs.declared.reports.Report.{Report}
-use Rattle.definitions.specs.Record.{Record}
+use Rattle.definitions.specs.Master.{Record}
 use Rattle.kernel_model.specs.State.{State}
 use Rattle.worker_table.specs.Beats.{Workers}
 use Rattle.worker_table.specs.Calls.{beating}
@@ -42,7 +42,8 @@ IsIdle (asks.Refused code) old new = new ≡ old
 
 -- A word asks the master for a target. These calls and this report of it are certified by a section, and to carry the target out
 -- in that, which makes just these calls and this report, leads from the one standing to the other.
-pub record IsFollowed (settings : Option Settings) (word : Word) (entries : List Entry) (report : Report) (old : Standing State) (section : Section) (new : Standing State) : Type 0 where
+pub record IsFollowed (settings : Option Settings) (word : Word) (entries : List Entry) (report : Report)
+    (old : Standing State) (section : Section) (new : Standing State) : Type 0 where
   pub master : Record
   pub runs : old.record ≡ Some master
   pub target : Target

@@ -1,7 +1,7 @@
 -- What a certified transcript is.
 use Rattle.std.specs.Prelude.{ℕ, ◌≡◌, ◌≤◌, length, List, [], Option, None}
 use Rattle.definitions.specs.Table.{Table}
-use Rattle.definitions.specs.Record.{Record}
+use Rattle.definitions.specs.Master.{Record}
 use Rattle.definitions.specs.Calls.{Fate}
 use Rattle.vocabulary.specs.declared.targets.Target.{Target}
 use Rattle.definitions.specs.Run.{Entry, Report, Pattern}
@@ -46,7 +46,12 @@ pub record HasEnacted (first : State) (r : Record) (target : Target) (entries : 
   pub certified : IsCertified first.table r target entries report it.section
   pub enacted :
       (room : ℕ) →
-      IsEnacted first it.kernel r target it.section.turns (moment_at it.section.pattern) (record { log = record { entries = entries; room = room }; report = report; after = next_record r target report it.kernel.table })
+      IsEnacted first it.kernel r target it.section.turns (moment_at it.section.pattern)
+      (record {
+        log = record { entries = entries; room = room };
+        report = report;
+        after = next_record r target report it.kernel.table;
+      })
 
 -- The target could be carried out. The entries begin a run of it under the section's turns, and the section is the one that they
 -- show.

@@ -1,9 +1,8 @@
 -- Which transcripts are explained, and what is wrong with others.
 use Rattle.std.specs.Prelude.{ℕ, ◌+◌, ◌≡◌, ◌≤◌, ◌⊎◌, true, List, [], ◌∷◌, length, take, None, is_some}
 use Rattle.definitions.specs.Table.{Table}
-use Rattle.definitions.specs.Record.{Record, Agrees}
+use Rattle.definitions.specs.Master.{Record, Agrees, handover_for, sides_of}
 use Rattle.vocabulary.specs.declared.targets.Target.{Target}
-use Rattle.definitions.specs.Target.{handover_for, sides_of}
 use Rattle.service_state.specs.Targets.{lacks_generation}
 use Rattle.definitions.specs.Plans.{Turn, plan_tree}
 use Rattle.call_laws.specs.Lengths.{plan_length}

@@ -3,11 +3,12 @@ use Rattle.std.specs.Prelude.{ℕ, ◌≡◌, ◌≤◌, ◌<◌, ◌+◌, ◌^�
 use Rattle.definitions.specs.Table.{Table}
 use Rattle.definitions.specs.Plans.{Turn, New}
 use Rattle.theorems.specs.Apart.{Plays}
-use Rattle.definitions.specs.Run.{Entry, Report, Sides, quiet}
+use Rattle.definitions.specs.Run.{Entry, Report}
+use Rattle.call_laws.specs.Pieces.{quiet, executing_at, executing_after}
+use Rattle.definitions.specs.Master.{Sides}
 use Rattle.plan_walk.specs.Path.{Trail, Asks, Follows, IsOver, Reports, begin, advance, trail_after}
 use Rattle.rollback_plan.specs.Following.{follow}
 use Rattle.definitions.specs.Claims.{names_any}
-use Rattle.call_laws.specs.Pieces.{executing_at, executing_after}
 use Rattle.definitions.specs.Calls.{Handed}
 use Rattle.handover_text.specs.Reading.{handed_by}
 use Rattle.rollback_plan.specs.declared.plan.Plan.{Plan}
@@ -125,9 +126,13 @@ pub record IsTaken (old : Replay) (e : Entry) (new : Replay) : Type 0 where
   pub taken : List Turn
   pub used : used_in new.turns ≡ used_in old.turns ++ taken
   pub next : (turns : List Turn) → IsNext (handed_by old.text.now) (listed old.heir) (place_of old (taken ++ turns)) e
-  pub only : (one : Turn) (turns : List Turn) → Asks (trail_under old.walk (one ∷ turns)).rest (trail_under old.walk (one ∷ turns)).lacked e → Plays (one ∷ turns) taken
+  pub only : (one : Turn) (turns : List Turn) →
+      Asks (trail_under old.walk (one ∷ turns)).rest (trail_under old.walk (one ∷ turns)).lacked e →
+      Plays (one ∷ turns) taken
   pub place : (turns : List Turn) → place_of new turns ≡ place_after (handed_by old.text.now) (listed old.heir) (place_of old (taken ++ turns)) e
-  pub pattern : (n : ℕ) → moment_at new.pattern n ≡ (if n == old.number + 1 then moment_shown (handed_by old.text.now) old.kernel.table e else moment_at old.pattern n)
+  pub pattern : (n : ℕ) → moment_at new.pattern n
+      ≡ (if n == old.number + 1 then moment_shown (handed_by old.text.now) old.kernel.table e
+      else moment_at old.pattern n)
 
 -- The replay has come from a start by these entries, each of which is next under the turns that they have used, whatever turns come
 -- then.

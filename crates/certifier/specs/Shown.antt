@@ -2,13 +2,13 @@
 use Rattle.std.specs.Prelude.{ℕ, zero, suc, nat_lt, Bool, true, false, List, [], ◌∷◌, map, Option, Some, None, unwrap_or, slice_get, if◌then◌else◌}
 use Rattle.listener_set.specs.Numbers.{lacks}
 use Rattle.definitions.specs.Table.{Table}
-use Rattle.definitions.specs.Exits.{Name, after_exits}
+use Rattle.definitions.specs.Calls.{Name, after_exits, Call, Answer, AwaitReady, Alive, Census, Fate, Stepped}
+use Rattle.definitions.specs.Calls.{step_with, Handed}
 use Rattle.vocabulary.specs.declared.names.Name.TheVariants as name
-use Rattle.definitions.specs.Calls.{Call, Answer, AwaitReady, Alive, Census, Fate, Stepped, step_with, Handed}
 use Rattle.vocabulary.specs.declared.calls.Answer.TheVariants as answer
 use Rattle.vocabulary.specs.declared.calls.Fate.TheVariants as fate
-use Rattle.definitions.specs.Tree.{reply_of, same_reply}
-use Rattle.definitions.specs.Run.{Entry, Moment, quiet, Pattern}
+use Rattle.definitions.specs.Run.{reply_of, same_reply, Entry, Moment, Pattern}
+use Rattle.call_laws.specs.Pieces.{quiet}
 
 -- The fate that makes a call fail so; other answers are no faults.
 abbrev pub fate_of : Answer → Option Fate

@@ -1,7 +1,7 @@
 //! What an entry shows of the moment before its call.
 ghost use Rattle.std.specs.Prelude.{◌≡◌, ◌≤◌, ◌==◌, ℕ, List, map, None, false, OnOk, IfSome, if◌then◌else◌};
 ghost use Rattle.definitions.specs.Calls.{Handed};
-ghost use Rattle.definitions.specs.Run.{quiet};
+ghost use Rattle.call_laws.specs.Pieces.{quiet};
 ghost use Rattle.handover_text.specs.Reading.{handed_by};
 ghost use Rattle.kernel_model.specs.Pattern.{moment_at, IsNameWithin};
 ghost use Rattle.certifier.specs.Shown.{fate_of, awaited_one, found_gone, named, is_count, moment_shown};

@@ -1,7 +1,7 @@
 -- What an edge begins with, and what it has done.
 use Rattle.std.specs.Prelude.{◌≡◌, ℕ, ◌==◌, Bool, true, false, ◌&&◌, List, [], ◌∷◌, ◌++◌, Option, Some, None, IfSome, is_some, if◌then◌else◌}
 use Rattle.vocabulary.specs.declared.reports.Entry.{Entry}
-use Rattle.definitions.specs.Record.{Record}
+use Rattle.definitions.specs.Master.{Record}
 use Rattle.definitions.specs.Calls.{Handover}
 use Rattle.child_family.specs.Told.{Told}
 use Rattle.child_family.specs.Talk.{IsHeld}
@@ -43,7 +43,9 @@ start_of nr ws = start_after nr None ws
 -- These are the conversations of the calls, one after another, and led from one state to another.
 abbrev pub AreHeld : State → List Entry → List Told → State → Type 0
 AreHeld first [] ts last = (ts ≡ []) × (last ≡ first)
-AreHeld first (e ∷ es) ts last = (mid : State) × (now more : List Told) × (ts ≡ now ++ more) × IsHeld (turn_of first e.by e.call) now (mid, e.answer) × AreHeld mid es more last
+AreHeld first (e ∷ es) ts last =
+    (mid : State) × (now more : List Told) × (ts ≡ now ++ more) × IsHeld (turn_of first e.by e.call) now (mid, e.answer)
+    × AreHeld mid es more last
 
 -- Where the family tells its calls, those between the two moments are the conversations of these calls.
 pub record CallsHeld (old new : Option (List Told)) (first : State) (entries : List Entry) (last : State) : Type 0 where

@@ -1,6 +1,6 @@
 -- What an edge knows.
 use Rattle.std.specs.Prelude.{ℕ, Bool, List, Option}
-pub use Rattle.definitions.specs.Record.{Listener}
+pub use Rattle.definitions.specs.Master.{Listener}
 use Rattle.child_workers.specs.declared.worker.Worker.{Worker}
 pub use Rattle.child_edge.specs.declared.state.ChildMaster.{ChildMaster}
 use Rattle.child_edge.specs.declared.state.EdgeState.{EdgeState}

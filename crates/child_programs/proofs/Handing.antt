@@ -16,7 +16,8 @@ lines-push text (first ∷ lines) line = lines-push (with_line text first) lines
 module _ {H : Type 0} (hears : H → List ℕ → H → Response → Type 0) where
   -- the first line was heard, and the program goes on
   pub served-after : (unread left : Option (List ℕ)) (line : List ℕ) (old mid new : H) (before between after : Option (List ℕ)) (status : ℕ) →
-      IsNextLine unread (Some line) left → IsObeyed hears old before line None mid between → IsServed hears left mid between status new after → IsServed hears unread old before status new after
+      IsNextLine unread (Some line) left → IsObeyed hears old before line None mid between →
+      IsServed hears left mid between status new after → IsServed hears unread old before status new after
   served-after unread left line old mid new before between after status next one rest = record {
     lines = line ∷ rest.lines;
     left = rest.left;

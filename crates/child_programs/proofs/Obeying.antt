@@ -11,7 +11,8 @@ next-push unread [] mid text left h next = (left, subst (λ (u : Option (List �
 next-push unread (first ∷ lines) mid text left h next = (h.0, h.1, next-push h.0 lines mid text left h.2 next)
 
 module _ {H : Type 0} (hears : H → List ℕ → H → Response → Type 0) where
-  pub obeyed-push : (old : H) (before : Option (List ℕ)) (lines : List (List ℕ)) (mid : H) (between : Option (List ℕ)) (text : List ℕ) (new : H) (after : Option (List ℕ)) →
+  pub obeyed-push : (old : H) (before : Option (List ℕ)) (lines : List (List ℕ)) (mid : H) (between : Option (List ℕ))
+      (text : List ℕ) (new : H) (after : Option (List ℕ)) →
       AreObeyed hears old before lines mid between → IsObeyed hears mid between text None new after → AreObeyed hears old before (lines ++ text ∷ []) new after
   obeyed-push old before [] mid between text new after h one =
       let there : IsObeyed hears mid before text None new after = subst (λ (said : Option (List ℕ)). IsObeyed hears mid said text None new after) h.1 one in

@@ -1,5 +1,6 @@
 -- Lines that are said to a worker are read as they are said.
-use Rattle.std.proofs.Common.{◌≡◌, ℕ, ◌<◌, ◌^◌, Bool, true, false, cond, List, ◌∷◌, ◌++◌, Option, Some, None, refl, sym, ap, subst, ◌∙◌, append_assoc, ◌⊎◌, inl, inr, arith}
+use Rattle.std.proofs.Common.{◌≡◌, ℕ, ◌<◌, ◌^◌, Bool, true, false, cond, List, ◌∷◌, ◌++◌, Option, Some, None, refl, sym}
+use Rattle.std.proofs.Common.{ap, subst, ◌∙◌, append_assoc, ◌⊎◌, inl, inr, arith}
 use Rattle.std.specs.Prelude.{codes, bytes_eq, option_map}
 use Rattle.std.specs.Fmt.{decimal}
 use Rattle.listener_set.specs.declared.generation.Generation.{Generation}
@@ -14,7 +15,9 @@ use Rattle.call_text.specs.Ranges.{IsNumber, IsWorkerNumber, IsGeneration}
 use Rattle.call_text.specs.Reading.{joined, generation_of, worker_number}
 use Rattle.call_text.proofs.Readers.{IsReader, reads, mapped, joined_reads, number_reads, worker_number_reads, same_bytes}
 use Rattle.call_text.proofs.PartTexts.{number_lacks, generation_lacks, generation_reads, address_reads}
-use Rattle.child_programs.specs.WorkerLines.{WorkerLine, Named, Listener, Go, Ping, Tick, Usr1, Close, Quit, worker_line_text, IsWorkerLine, named_from, bare_of, about, line_from, line_of}
+use Rattle.child_programs.specs.WorkerLines.{WorkerLine, Named, Listener, Go, Ping, Tick, Usr1, Close, Quit}
+use Rattle.child_programs.specs.WorkerLines.{worker_line_text, IsWorkerLine, named_from, bare_of, about, line_from}
+use Rattle.child_programs.specs.WorkerLines.{line_of}
 
 -- ---- parts
 moment_reads : IsReader (λ n. n < 2 ^ 64) decimal number64_of
@@ -23,20 +26,24 @@ moment_reads = record {
   only = λ n lt. number64_of-decimal n lt;
 }
 
-nr_start_reads : IsReader (λ (p : ℕ × ℕ). IsWorkerNumber p.0 × IsNumber p.1) (λ (p : ℕ × ℕ). decimal p.0 ++ 32 ∷ decimal p.1) (joined 32 worker_number number_of)
+nr_start_reads : IsReader (λ (p : ℕ × ℕ). IsWorkerNumber p.0 × IsNumber p.1)
+    (λ (p : ℕ × ℕ). decimal p.0 ++ 32 ∷ decimal p.1) (joined 32 worker_number number_of)
 nr_start_reads =
     joined_reads IsWorkerNumber IsNumber decimal decimal worker_number number_of 32 (λ nr lt. let less : nr < 1024 = lt in number_lacks 32 nr refl (omega arith)) worker_number_reads number_reads
 
 abbrev Parts : Type 0
 Parts = Generation × (ℕ × ℕ)
 
-parts_reads : IsReader (λ (p : Parts). IsGeneration p.0 × (IsWorkerNumber p.1.0 × IsNumber p.1.1)) (λ (p : Parts). generation_text p.0 ++ 32 ∷ (decimal p.1.0 ++ 32 ∷ decimal p.1.1)) (joined 32 generation_of (joined 32 worker_number number_of))
+parts_reads : IsReader (λ (p : Parts). IsGeneration p.0 × (IsWorkerNumber p.1.0 × IsNumber p.1.1))
+    (λ (p : Parts). generation_text p.0 ++ 32 ∷ (decimal p.1.0 ++ 32 ∷ decimal p.1.1))
+    (joined 32 generation_of (joined 32 worker_number number_of))
 parts_reads =
     joined_reads IsGeneration (λ (p : ℕ × ℕ). IsWorkerNumber p.0 × IsNumber p.1) generation_text (λ (p : ℕ × ℕ). decimal p.0 ++ 32 ∷ decimal p.1) generation_of (joined 32 worker_number number_of) 32
     (generation_lacks 32 refl refl) generation_reads nr_start_reads
 
 -- the text of a name, by its parts
-named_text : (g : Generation) (nr start : ℕ) → codes "worker" ++ 32 ∷ (generation_text g ++ 32 ∷ (decimal nr ++ 32 ∷ decimal start)) ≡ worker_line_text (Named g nr start)
+named_text : (g : Generation) (nr start : ℕ) → codes "worker" ++ 32
+    ∷ (generation_text g ++ 32 ∷ (decimal nr ++ 32 ∷ decimal start)) ≡ worker_line_text (Named g nr start)
 named_text g nr start =
     ap (λ t. codes "worker " ++ t) (sym (append_assoc (generation_text g) (32 ∷ decimal nr) (32 ∷ decimal start)))
     ∙ sym (append_assoc (codes "worker ") (worker_text g nr) (32 ∷ decimal start))
@@ -47,7 +54,9 @@ chosen_of true x y v e = inl (refl, e)
 chosen_of false x y v e = inr (refl, e)
 
 module _ {A : Type 0} (P : A → Type 0) (f : A → List ℕ) (r : List ℕ → Option A) (h : IsReader P f r) (make : A → WorkerLine) where
-  arm : (head : List ℕ) → ((a : A) → P a → IsWorkerLine (make a) × (head ++ 32 ∷ f a ≡ worker_line_text (make a))) → (word rest : List ℕ) (l : WorkerLine) → bytes_eq word head ≡ true → option_map make (r rest) ≡ Some l → IsWorkerLine l × (word ++ 32 ∷ rest ≡ worker_line_text l)
+  arm : (head : List ℕ) → ((a : A) → P a → IsWorkerLine (make a) × (head ++ 32 ∷ f a ≡ worker_line_text (make a))) →
+      (word rest : List ℕ) (l : WorkerLine) → bytes_eq word head ≡ true → option_map make (r rest) ≡ Some l →
+      IsWorkerLine l × (word ++ 32 ∷ rest ≡ worker_line_text l)
   arm head made word rest l is e =
       let from = mapped make (r rest) l e in
       let got = h.found rest from.0 from.1 in
@@ -71,7 +80,8 @@ about_found word rest l e =
       ]
     ]
 
-bare : (head text : List ℕ) (a l : WorkerLine) → bytes_eq text head ≡ true → IsWorkerLine a → head ≡ worker_line_text a → Some a ≡ Some l → IsWorkerLine l × (text ≡ worker_line_text l)
+bare : (head text : List ℕ) (a l : WorkerLine) → bytes_eq text head ≡ true → IsWorkerLine a →
+    head ≡ worker_line_text a → Some a ≡ Some l → IsWorkerLine l × (text ≡ worker_line_text l)
 bare head text a l is h k e =
     let same : a ≡ l = cc in
     let L : WorkerLine → Type 0 = λ l. IsWorkerLine l × (text ≡ worker_line_text l) in

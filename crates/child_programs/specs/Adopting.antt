@@ -24,7 +24,9 @@ use Rattle.child_programs.specs.Master.{waits_of, asked, IsHeard}
 
 -- an edge answers a call by its conversation with the children
 abbrev pub AnswersByEdge : {F : Type 0} (f : Ghosts F) → Edge F f → ℕ → Call → List ℕ → Edge F f → Answer → Type 0
-AnswersByEdge f old by call text new a = Held (f.told old.family) (f.told new.family) (turn_of (record (state_of old.state) { text = text }) by call) (state_of new.state, a)
+AnswersByEdge f old by call text new a =
+    Held (f.told old.family) (f.told new.family) (turn_of (record (state_of old.state) { text = text }) by call)
+    (state_of new.state, a)
 
 -- at a tick it counts those that beat of its workers, or of those of its own child master once it has left
 abbrev pub BeatsByEdge : {F : Type 0} (f : Ghosts F) → Edge F f → ℕ → Edge F f → List ℕ → Type 0
@@ -38,9 +40,11 @@ abbrev pub BeatsNobody : Refusing → ℕ → Refusing → List ℕ → Type 0
 BeatsNobody old now new numbers = numbers ≡ []
 
 -- What a line comes to, where calls and ticks are answered so. Where memory is refused, the master fails.
-abbrev pub HearsBy : {M : Type 0} → (M → ℕ → Call → List ℕ → M → Answer → Type 0) → (M → ℕ → M → List ℕ → Type 0) → NewMaster M → List ℕ → NewMaster M → Response → Type 0
+abbrev pub HearsBy : {M : Type 0} → (M → ℕ → Call → List ℕ → M → Answer → Type 0) → (M → ℕ → M → List ℕ → Type 0) →
+    NewMaster M → List ℕ → NewMaster M → Response → Type 0
 HearsBy answers beats old line new r =
-    (IsHeard answers beats (asked (waits_of old.waiting old.handover) line).0 old.answers new.answers r × (waits_of new.waiting new.handover ≡ (asked (waits_of old.waiting old.handover) line).1)) ⊎ (r ≡ fails)
+    (IsHeard answers beats (asked (waits_of old.waiting old.handover) line).0 old.answers new.answers r ×
+    (waits_of new.waiting new.handover ≡ (asked (waits_of old.waiting old.handover) line).1)) ⊎ (r ≡ fails)
 
 ---- The handover
 
@@ -87,7 +91,9 @@ IsReceived unread line left received.Ended = IsCut unread
 ---- The service
 
 -- A master that waits for nothing yet serves on an input, and calls and ticks are answered so; who answers at first and at last is named.
-pub record IsServedBy {M : Type 0} (answers : M → ℕ → Call → List ℕ → M → Answer → Type 0) (beats : M → ℕ → M → List ℕ → Type 0) (first : M) (unread before : Option (List ℕ)) (status : ℕ) (last : M) (after : Option (List ℕ)) : Type 0 where
+pub record IsServedBy {M : Type 0} (answers : M → ℕ → Call → List ℕ → M → Answer → Type 0)
+    (beats : M → ℕ → M → List ℕ → Type 0) (first : M) (unread before : Option (List ℕ)) (status : ℕ) (last : M)
+    (after : Option (List ℕ)) : Type 0 where
   pub old : NewMaster M
   pub new : NewMaster M
   pub begins : old.answers ≡ first
@@ -107,7 +113,8 @@ pub record IsRefused (unread before : Option (List ℕ)) (status : ℕ) (after :
   pub served : IsServedBy AnswersNothing BeatsNobody first from before status last after
 
 -- A handover was taken over: the edge begins with what it says.
-pub record IsAdopted {F : Type 0} (f : Ghosts F) (family : F) (pid : ℕ) (unread before : Option (List ℕ)) (status : ℕ) (left : F) (after : Option (List ℕ)) : Type 0 where
+pub record IsAdopted {F : Type 0} (f : Ghosts F) (family : F) (pid : ℕ) (unread before : Option (List ℕ)) (status : ℕ)
+    (left : F) (after : Option (List ℕ)) : Type 0 where
   pub from : Option (List ℕ)
   pub text : List ℕ
   pub whole : IsWhole unread text from

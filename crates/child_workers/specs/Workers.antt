@@ -1,5 +1,6 @@
 -- The workers of an edge, and which of them are meant.
-use Rattle.std.specs.Prelude.{ℕ, ◌==◌, nat_lt, nat_eq, Bool, true, false, ◌&&◌, not, List, [], ◌∷◌, filter, insert, length, map, position, unwrap_or, if◌then◌else◌}
+use Rattle.std.specs.Prelude.{ℕ, ◌==◌, nat_lt, nat_eq, Bool, true, false, ◌&&◌, not, List, [], ◌∷◌, filter, insert}
+use Rattle.std.specs.Prelude.{length, map, position, unwrap_or, if◌then◌else◌}
 use Rattle.definitions.specs.Table.{Generation, same_generation}
 use Rattle.listener_set.specs.Numbers.{with_number}
 pub use Rattle.child_workers.specs.declared.worker.Worker.{Worker}

@@ -1,5 +1,7 @@
 -- A line is read as a word where it is what is written of the word.
-use Rattle.std.proofs.Common.{◌≡◌, ℕ, ◌+◌, ◌^◌, ◌<◌, Bool, true, false, cond, ltb, eqb, List, [], ◌∷◌, ◌++◌, length, take, drop, Option, Some, None, Ok, codes, find, bytes_eq, refl, sym, ap, subst, ◌∙◌, arith}
+use Rattle.std.proofs.Common.{◌≡◌, ℕ, ◌+◌, ◌^◌, ◌<◌, Bool, true, false, cond, ltb, eqb, List, [], ◌∷◌, ◌++◌, length}
+use Rattle.std.proofs.Common.{take, drop, Option, Some, None, Ok, codes, find, bytes_eq, refl, sym, ap, subst, ◌∙◌}
+use Rattle.std.proofs.Common.{arith}
 use Rattle.std.specs.Fmt.{decimal}
 use Rattle.std.specs.Str.{all_ascii_digits}
 use Rattle.std.specs.Char.{is_ascii_digit}
@@ -88,7 +90,9 @@ beat_written numbers word h =
     below nr now true e h = (grind (arith, nat_tests), cc)
     below nr now false e h = cc
 
-    at : (nr now : Option ℕ) → number_of (before_first is_space numbers) ≡ nr → number64_of (after_first is_space numbers) ≡ now → beat_of nr now ≡ Some word → (codes "beat" ++ 32 ∷ numbers ≡ word_text word) × IsWord word
+    at : (nr now : Option ℕ) → number_of (before_first is_space numbers) ≡ nr →
+        number64_of (after_first is_space numbers) ≡ now → beat_of nr now ≡ Some word →
+        (codes "beat" ++ 32 ∷ numbers ≡ word_text word) × IsWord word
     at None now e f h = cc
     at (Some nr) None e f h = cc
     at (Some nr) (Some now) e f h =
@@ -113,11 +117,14 @@ tick_written number word h = at (number64_of number) refl h
 abbrev IsPlain : Word → Type 0
 IsPlain word = (word_name word ≡ word_text word) × IsWord word
 
-found_written : (line : List ℕ) (words : List Word) → AllByRecursion IsPlain words → (word : Word) → find (λ w. bytes_eq (word_name w) line) words ≡ Some word → (line ≡ word_text word) × IsWord word
+found_written : (line : List ℕ) (words : List Word) → AllByRecursion IsPlain words → (word : Word) →
+    find (λ w. bytes_eq (word_name w) line) words ≡ Some word → (line ≡ word_text word) × IsWord word
 found_written line [] all word h = cc
 found_written line (w ∷ ws) all word h = at (bytes_eq (word_name w) line) refl (found_written line ws all.1 word) h
   where
-    at : (b : Bool) → bytes_eq (word_name w) line ≡ b → (find (λ w. bytes_eq (word_name w) line) ws ≡ Some word → (line ≡ word_text word) × IsWord word) → cond b (Some w) (find (λ w. bytes_eq (word_name w) line) ws) ≡ Some word → (line ≡ word_text word) × IsWord word
+    at : (b : Bool) → bytes_eq (word_name w) line ≡ b →
+        (find (λ w. bytes_eq (word_name w) line) ws ≡ Some word → (line ≡ word_text word) × IsWord word) →
+        cond b (Some w) (find (λ w. bytes_eq (word_name w) line) ws) ≡ Some word → (line ≡ word_text word) × IsWord word
     at true e later h =
         let is : w ≡ word = cc in
         subst (λ v. (line ≡ word_text v) × IsWord v) is (sym (same_text (word_name w) line (sym e)) ∙ all.0.0, all.0.1)
@@ -131,7 +138,8 @@ accepted refusal None word h = cc
 accepted refusal (Some w) word h = cc
 
 -- A name with something behind it, which a space parts.
-named : (name line : List ℕ) → bytes_eq (before_first is_space line) name ≡ true → 0 < length (after_first is_space line) → line ≡ name ++ 32 ∷ after_first is_space line
+named : (name line : List ℕ) → bytes_eq (before_first is_space line) name ≡ true →
+    0 < length (after_first is_space line) → line ≡ name ++ 32 ∷ after_first is_space line
 named name line e some =
     line_of line some
     ∙ ap (λ before. before ++ 32 ∷ after_first is_space line) (same_text (before_first is_space line) name (sym e))
@@ -148,14 +156,20 @@ pub written-reading : (line : List ℕ) (word : Word) → reading line ≡ Ok wo
 written-reading line word h =
     beat (bytes_eq (before_first is_space line) (codes "beat")) refl h
   where
-    tick : (b : Bool) → bytes_eq (before_first is_space line) (codes "tick") ≡ b → cond b (or_refused BadNumber (tick_in (after_first is_space line))) (or_refused Unknown (signal_of line)) ≡ Ok word → (line ≡ word_text word) × IsWord word
+    tick : (b : Bool) → bytes_eq (before_first is_space line) (codes "tick") ≡ b →
+        cond b (or_refused BadNumber (tick_in (after_first is_space line))) (or_refused Unknown (signal_of line))
+        ≡ Ok word → (line ≡ word_text word) × IsWord word
     tick true e h =
         let found = accepted BadNumber (tick_in (after_first is_space line)) word h in
         let written = tick_written (after_first is_space line) word found in
         (named (codes "tick") line e (tick_nonempty (after_first is_space line) word found) ∙ written.0, written.1)
     tick false e h = signal_written line word (accepted Unknown (signal_of line) word h)
 
-    beat : (b : Bool) → bytes_eq (before_first is_space line) (codes "beat") ≡ b → cond b (or_refused BadNumber (beat_in (after_first is_space line))) (cond (bytes_eq (before_first is_space line) (codes "tick")) (or_refused BadNumber (tick_in (after_first is_space line))) (or_refused Unknown (signal_of line))) ≡ Ok word → (line ≡ word_text word) × IsWord word
+    beat : (b : Bool) → bytes_eq (before_first is_space line) (codes "beat") ≡ b →
+        cond b (or_refused BadNumber (beat_in (after_first is_space line)))
+        (cond (bytes_eq (before_first is_space line) (codes "tick"))
+        (or_refused BadNumber (tick_in (after_first is_space line))) (or_refused Unknown (signal_of line))) ≡ Ok word →
+        (line ≡ word_text word) × IsWord word
     beat true e h =
         let found = accepted BadNumber (beat_in (after_first is_space line)) word h in
         let written = beat_written (after_first is_space line) word found in

@@ -14,7 +14,9 @@ module _ (most : Option ℕ) (old named name : List ℕ) (word : Word) (name_is 
       ∙ two_on most old (codes "tick") (32 ∷ decimal now)
       ∙ ap (λ w. kept most (old ++ word_text w)) (sym is)
 
-  pub beat_on : (numbered : List ℕ) (nr now written : ℕ) → word ≡ Beat nr now → written ≡ nr → numbered ≡ kept most (named ++ 32 ∷ decimal written) → kept most (numbered ++ 32 ∷ decimal now) ≡ kept most (old ++ word_text word)
+  pub beat_on : (numbered : List ℕ) (nr now written : ℕ) → word ≡ Beat nr now → written ≡ nr →
+      numbered ≡ kept most (named ++ 32 ∷ decimal written) →
+      kept most (numbered ++ 32 ∷ decimal now) ≡ kept most (old ++ word_text word)
   beat_on numbered nr now written is same numbered_is =
       ap (λ t. kept most (t ++ 32 ∷ decimal now)) (numbered_is ∙ ap (λ n. kept most (named ++ 32 ∷ decimal n)) same ∙ ap (λ t. kept most (t ++ 32 ∷ decimal nr)) (named_is ∙ ap (λ t. kept most (old ++ t)) (name_is ∙ ap word_name is)))
       ∙ three_on most old (codes "beat") (32 ∷ decimal nr) (32 ∷ decimal now)

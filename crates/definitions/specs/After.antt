@@ -2,19 +2,20 @@
 --
 -- After POSIX: a descriptor that is opened is the lowest free one. Our own: after a way back a master is what it was.
 
+use Rattle.vocabulary.specs as vocabulary
+use Rattle.definitions.specs as above
 use Rattle.std.specs.Prelude.{◌≡◌, ◌+◌, ◌==◌, ◌&&◌, ◌∷◌, if◌then◌else◌}
-use Rattle.vocabulary.specs.Words.{refl, codes, ℕ, nat_lt, nat_le, Bool, not, List, [], Option, Some, None, is_none}
-use Rattle.vocabulary.specs.Words.{option_map, option_and_then, unwrap_or, filter, bytes_eq, length, list_any, has}
-use Rattle.vocabulary.specs.Words.{first_from, Settings, then_some, map, take, drop}
-use Rattle.vocabulary.specs.declared.reports.Outcome.TheVariants as outcome
-use Rattle.vocabulary.specs.declared.targets.Target.TheVariants as target
-use Rattle.definitions.specs.Table.{Address, Generation, Table, Caller, live_master}
-use Rattle.definitions.specs.Crew.{Posts, Crew, Group}
-use Rattle.definitions.specs.Record.{Listener, Record}
-use Rattle.definitions.specs.Target.{generation_wanted, Target, next_config, next_image}
-use Rattle.definitions.specs.Tree.{Old, Target as TargetSide}
-use Rattle.vocabulary.specs.declared.reports.Report.{Report}
-use Rattle.vocabulary.specs.declared.reports.Outcome.{Outcome}
+use vocabulary.Words.{refl, codes, ℕ, nat_lt, nat_le, Bool, not, List, [], Option, Some, None, is_none, option_map}
+use vocabulary.Words.{option_and_then, unwrap_or, filter, bytes_eq, length, list_any, has, first_from, Settings}
+use vocabulary.Words.{then_some, map, take, drop}
+use vocabulary.declared.reports.Outcome.TheVariants as outcome
+use vocabulary.declared.targets.Target.TheVariants as target
+use above.Table.{Address, Generation, Table, Caller, live_master}
+use above.Master.{Posts, Crew, Group, Listener, Record, generation_wanted, Target, reload_generation}
+use above.Master.{upgrade_generation, has_next}
+use vocabulary.declared.plans.Side.TheVariants as side
+use vocabulary.declared.reports.Report.{Report}
+use vocabulary.declared.reports.Outcome.{Outcome}
 
 ---- Listeners that open and close
 
@@ -92,6 +93,14 @@ crew_wanted r t = record { generation = generation_wanted r t; posts = posts_wan
 
 ---- The record of a service
 
+-- the generation of a reload
+abbrev pub next_config : Generation → Option Generation
+next_config g = then_some (has_next g.config) (reload_generation g)
+
+-- the generation of an upgrade
+abbrev pub next_image : Generation → Option Generation
+next_image g = then_some (has_next g.image && has_next g.config) (upgrade_generation g)
+
 -- a record with the service of new settings
 abbrev pub renewed : Record → Settings → Posts → Option (List Listener) → Option Generation → Option Record
 renewed r s posts (Some ls) (Some g) = Some (record r {
@@ -125,8 +134,8 @@ old_record r _ = Some r
 abbrev pub named_record : Outcome → Record → Target → Option Record
 named_record outcome.Done r t = target_record r t
 named_record outcome.RolledBack r t = old_record r t
-named_record (outcome.Degraded Old shortfalls) r t = old_record r t
-named_record (outcome.Degraded TargetSide shortfalls) r t = target_record r t
+named_record (outcome.Degraded side.Old shortfalls) r t = old_record r t
+named_record (outcome.Degraded side.Target shortfalls) r t = target_record r t
 named_record outcome.Lost r t = None
 
 ---- The next record

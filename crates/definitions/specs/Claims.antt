@@ -1,29 +1,144 @@
--- What the run of a plan keeps, and how it ends: the headline.
+-- What the run of a plan keeps, and how it ends: the headline, which is at the end.
 --
--- Our own. Read `Headline`, then what it names, upwards.
+-- Our own; the manner is after Unicorn's SIGNALS: QUIT lets a worker finish its request, KILL ends one that doesn't.
 
-use Rattle.std.specs.Prelude.{◌≡◌, ◌≤◌, ◌+◌, ◌&&◌, ◌||◌, ◌==◌, ◌++◌, if◌then◌else◌, ◌∷◌}
-use Rattle.vocabulary.specs.Words.{refl, map, ℕ, min, sum, Bool, true, false, List, [], length, Option, Some, None}
-use Rattle.vocabulary.specs.Words.{is_some, count_by, bytes_eq, ⊤, list_any, AllByRecursion, IsRising, RisesFrom, is_in}
-use Rattle.vocabulary.specs.Words.{has, IsInRange}
-use Rattle.vocabulary.specs.declared.names.Name.TheVariants as name
-use Rattle.vocabulary.specs.declared.reports.Outcome.TheVariants as outcome
-use Rattle.vocabulary.specs.declared.plans.Side.TheVariants as side
-use Rattle.vocabulary.specs.declared.calls.Answer.TheVariants as answer
-use Rattle.definitions.specs.Table.{FilePath, owner_at, is_own, Address, same_generation, Hold, Process, Worker, Table}
-use Rattle.definitions.specs.Table.{Generation, is_ready, has_address, IsFormed}
-use Rattle.definitions.specs.Exits.{Name}
-use Rattle.definitions.specs.Calls.{Call, Answer, RemovePid}
-use Rattle.definitions.specs.Service.{Service, is_live_with, service, IsSame}
-use Rattle.definitions.specs.Crew.{Layout, short_at}
-use Rattle.definitions.specs.Record.{Listener, Record, IsRecord, Agrees, layout_of, PidNote, Left, NoFile, oldbin}
-use Rattle.definitions.specs.Target.{Target, Workers, Mend, Reload, Upgrade, Attended, Stop, want, wanted_at}
-use Rattle.definitions.specs.Target.{layout_wanted, sides_of, upgrade_generation, handover_for, next_config, next_image}
-use Rattle.definitions.specs.After.{next_record}
-use Rattle.definitions.specs.Plans.{Turn, plan_tree}
-use Rattle.definitions.specs.Run.{Report, Outcome, Entry, report_of, run_with, Pattern, Progress, faults_since}
-use Rattle.definitions.specs.Run.{start_at, Ran}
-use Rattle.definitions.specs.Manner.{Manner, is_leave_call}
+use Rattle.vocabulary.specs as vocabulary
+use Rattle.definitions.specs as above
+use Rattle.std.specs.Prelude.{◌≡◌, ◌≤◌, ◌+◌, ◌&&◌, ◌||◌, ◌==◌, ◌∷◌, ◌++◌, ◌⊎◌, if◌then◌else◌}
+use vocabulary.Words.{refl, map, ℕ, min, sum, nat_lt, Bool, true, false, not, List, [], length, Option, Some, None, ⊤}
+use vocabulary.Words.{is_some, option_map, IfSome, count_by, bytes_eq, list_any, AllByRecursion, IsRising, RisesFrom}
+use vocabulary.Words.{is_in, has, IsInRange}
+use vocabulary.declared.names.Name.TheVariants as name
+use vocabulary.declared.calls.Answer.TheVariants as answer
+use vocabulary.declared.reports.Outcome.TheVariants as outcome
+use vocabulary.declared.plans.Side.TheVariants as side
+use above.Table.{FilePath, owner_at, is_own, Address, Generation, same_generation, bears, Table, number_of, same_stance}
+use above.Table.{Ready, is_serving, IsFormed, Service, is_live_where, service, IsSame, is_worker_where}
+use above.Calls.{is_active_worker, Name, Call, Quit, Kill, AwaitGone, RemovePid, Leave, Usr1, Answer}
+use above.Master.{Listener, Layout, short_at, Record, IsRecord, Agrees, layout_of, PidNote, Left, NoFile, oldbin}
+use above.Master.{has_next, Target, Workers, Mend, Reopen, Reload, Upgrade, Attended, Stop, want, wanted_at}
+use above.Master.{layout_wanted, sides_of, upgrade_generation, handover_for}
+use above.After.{next_record}
+use above.Plans.{Turn, plan_tree}
+use above.Run.{Report, Outcome, Entry, Progress, Ran, report_of, run_with, Pattern, faults_since, start_at}
+
+---- Which processes a run leaves alone, and which it ends only after they were asked to end
+
+-- the process with the number is a Ready worker with the worker number
+abbrev pub has_ready : Table → ℕ → ℕ → Bool
+has_ready t p k = list_any (is_worker_where (same_stance Ready) (λ n. n == p) (λ g j. j == k)) t.rows
+
+-- A process is a loss where the exits of a moment end it while it is Starting or Ready. The tables of a run come in
+-- pairs, before and after the exits of a moment, and the last one.
+abbrev pub is_lost : ℕ → List Progress → Bool
+is_lost p (before ∷ middle ∷ rest) =
+    let is_active_in = λ (t : Table). list_any (λ row. is_active_worker row && (number_of row == p)) t.rows in
+    (is_active_in before.table && not (is_active_in middle.table)) || is_lost p rest
+is_lost p _ = false
+
+-- Each process that is Ready at first, of these worker numbers, is Ready at the end or is a loss.
+abbrev pub Stays : Table → (ℕ → Bool) → Ran → Type 0
+Stays first stays ran =
+    (p k : ℕ) → has_ready first p k ≡ true → stays k ≡ true →
+    (has_ready ran.last.table p k ≡ true) ⊎ (is_lost p ran.passed ≡ true)
+
+-- No process that was Ready at first, of these worker numbers, is in the last table.
+abbrev pub Goes : Table → (ℕ → Bool) → Ran → Type 0
+Goes first goes ran =
+    (p k : ℕ) → has_ready first p k ≡ true → goes k ≡ true →
+    list_any (λ row. number_of row == p) ran.last.table.rows ≡ false
+
+-- a call to quit, or a wait for an end, of a name that passes the test
+abbrev pub is_quit : (Generation → ℕ → Bool) → Call → Bool
+is_quit test (Quit g k) = test g k
+is_quit test _ = false
+
+abbrev pub is_wait : (Generation → ℕ → Bool) → Call → Bool
+is_wait test (AwaitGone g k) = test g k
+is_wait test _ = false
+
+abbrev pub is_usr1_of : Generation → ℕ → Call → Bool
+is_usr1_of g k (Usr1 h j) = bears g k h j
+is_usr1_of g k _ = false
+
+abbrev pub is_leave_call : Call → Bool
+is_leave_call Leave = true
+is_leave_call _ = false
+
+abbrev pub is_late : Answer → Bool
+is_late answer.Late = true
+is_late _ = false
+
+-- an entry that passes the first test, and a later one that passes the second
+abbrev pub one_then : (Entry → Bool) → (Entry → Bool) → List Entry → Bool
+one_then first second [] = false
+one_then first second (e ∷ entries) = (first e && list_any second entries) || one_then first second entries
+
+-- the worker was told to quit, and was late at a wait for its end
+abbrev pub was_late : Generation → ℕ → List Entry → Bool
+was_late g k entries =
+    one_then (λ e. is_quit (bears g k) e.call) (λ e. is_wait (bears g k) e.call && is_late e.answer) entries
+
+-- If a process that was Ready at first bears a kill's name, that name was told to quit and was late before.
+abbrev pub IsKillDue : Table → List Entry → Call → Table → Type 0
+IsKillDue first before (Kill g k) t =
+    (p j : ℕ) → has_ready first p j ≡ true →
+    list_any (is_worker_where (λ s. true) (λ n. n == p) (bears g k)) t.rows ≡ true → was_late g k before ≡ true
+IsKillDue first before _ t = ⊤
+
+-- Each kill among these entries is due. The tables come in pairs: a call meets the second of its pair.
+abbrev pub KillsAreDue : Table → List Entry → List Entry → List Progress → Type 0
+KillsAreDue first before (e ∷ entries) (p ∷ middle ∷ rest) =
+    IsKillDue first before e.call middle.table × KillsAreDue first (before ++ e ∷ []) entries rest
+KillsAreDue first before [] passed = ⊤
+KillsAreDue first before _ _ = ⊥
+
+abbrev pub KillsOnlyLate : Table → Ran → Type 0
+KillsOnlyLate first ran = KillsAreDue first [] ran.entries ran.passed
+
+-- the entries before a Leave, where there is one
+abbrev pub before_leave : List Entry → Option (List Entry)
+before_leave [] = None
+before_leave (e ∷ entries) =
+    if is_leave_call e.call then Some [] else option_map (λ before. e ∷ before) (before_leave entries)
+
+-- Before a Leave, each number that was ready was told to quit and waited for.
+abbrev pub LeavesLast : Record → Ran → Type 0
+LeavesLast r ran =
+    let told = λ (k : ℕ) (e : Entry). is_quit (bears r.generation k) e.call in
+    let awaited = λ (k : ℕ) (e : Entry). is_wait (bears r.generation k) e.call in
+    IfSome (before_leave ran.entries)
+    (λ before. AllByRecursion (λ k. one_then (told k) (awaited k) before ≡ true) r.ready)
+
+---- The manner of each target
+
+abbrev pub is_old_side : Outcome → Bool
+is_old_side outcome.RolledBack = true
+is_old_side (outcome.Degraded side.Old shortfalls) = true
+is_old_side _ = false
+
+-- An upgrade that comes back leaves all workers, unless it waited for some worker to be gone.
+abbrev pub UpgradeManner : Record → Outcome → Table → Ran → Type 0
+UpgradeManner r end first ran =
+    let waited = list_any (λ e. is_wait (λ g k. true) e.call) ran.entries in
+    (is_old_side end ≡ true → waited ≡ false → Stays first (λ k. true) ran) × KillsOnlyLate first ran × LeavesLast r ran
+
+-- A change of the number of workers leaves those alone whose number stays, and all on the old side; a mend leaves all
+-- that aren't overdue, and ends the others; a reopening leaves and tells all; a reload that comes back leaves all.
+-- Outside a mend and a quick stop one that was Ready at first is killed only after it was told to quit and was late;
+-- before a master leaves in peace its workers were told to quit and waited for; at a quick stop none is told to quit.
+abbrev pub Manner : Record → Target → Outcome → Table → Ran → Type 0
+Manner r (Workers n) end first ran = Stays first (λ k. is_old_side end || nat_lt k n) ran × KillsOnlyLate first ran
+Manner r (Mend overdue) end first ran = Stays first (λ k. not (is_in overdue k)) ran × Goes first (is_in overdue) ran
+Manner r Reopen end first ran =
+    Stays first (λ k. true) ran
+    × AllByRecursion (λ k. list_any (λ e. is_usr1_of r.generation k e.call) ran.entries ≡ true) r.ready
+    × KillsOnlyLate first ran
+Manner r (Reload s) end first ran = (is_old_side end ≡ true → Stays first (λ k. true) ran) × KillsOnlyLate first ran
+Manner r (Upgrade s) end first ran = UpgradeManner r end first ran
+Manner r (Attended s) end first ran = UpgradeManner r end first ran
+Manner r (Stop false) end first ran = KillsOnlyLate first ran × LeavesLast r ran
+Manner r (Stop true) end first ran = list_any (λ e. is_quit (λ g k. true) e.call) ran.entries ≡ false
 
 ---- Where a run starts
 
@@ -42,7 +157,7 @@ names_any images [] = false
 names_any images (name.Master i ∷ es) = is_in images i || names_any images es
 names_any images (e ∷ es) = names_any images es
 
--- These are the calls after the n-th: the first of them at whose moment an executing master exits. Those who leave are
+-- Of these calls, which follow the n-th, the first at whose moment an executing master exits. Those who leave are
 -- executing up to and at their Leave, and their heirs from it on.
 abbrev pub refused_among : List ℕ → List ℕ → Pattern → ℕ → List Entry → Option ℕ
 refused_among executing heirs pattern n [] = None
@@ -75,10 +190,9 @@ abbrev pub IsFewerAt : ℕ → Option (Generation → ℕ) → Option (Generatio
 IsFewerAt m None None = ⊤
 IsFewerAt m (Some full) (Some less) =
     (g : Generation) × (full g ≡ less g + m) × ((h : Generation) → same_generation h g ≡ false → full h ≡ less h)
-IsFewerAt m None (Some less) = ⊥
-IsFewerAt m (Some full) None = ⊥
+IsFewerAt m _ _ = ⊥
 
--- One service is the other less the shortfalls of its groups, each at the addresses where the group listens. There is
+-- One service (`less`) is the other (`full`) less the shortfalls of its groups, each where the group listens. There is
 -- one for each group, and one of them is at least 1.
 abbrev pub FallsShort : Layout → List ℕ → Service → Service → Type 0
 FallsShort layout shortfalls full less =
@@ -96,8 +210,8 @@ Says r target (outcome.Degraded side.Target shortfalls) first last =
     FallsShort (layout_wanted r target) shortfalls (want r target) (service last)
 Says r target outcome.Lost first last = ⊥
 
--- The record that the report leaves to the master that reigns agrees with the last table, and its values are in
--- range. Its note says what the files are. A master of the old image is the old master.
+-- The record that the report leaves agrees with the last table, and its values are in range. Its note says what the
+-- files are. Where its image is the old one, its master is the old master.
 pub record AgreesAfter (r : Record) (target : Target) (report : Report) (t : Table) : Type 0 where
   pub record_then : Record
   pub is : next_record r target report t ≡ Some record_then
@@ -142,37 +256,23 @@ IsSucceeded r target first ran = AgreesAfter r target (report_of (sides_of r tar
 abbrev pub IsCommon : Service → Service → Address → Type 0
 IsCommon old target a = (is_some (old a) ≡ true) × (is_some (target a) ≡ true)
 
-abbrev pub has_socket : Address → ℕ → List Hold → Bool
-has_socket a socket hs = list_any (λ h. bytes_eq h.address a && (h.socket == socket)) hs
-
 -- Each address that both services name is held by a live master, on the socket that it had in the first table.
 abbrev pub Kept : Service → Service → Table → Table → Type 0
 Kept old target first t =
     (a : Address) (socket : ℕ) → IsCommon old target a →
-    list_any (is_live_with (has_socket a socket)) first.rows ≡ true →
-    list_any (is_live_with (has_socket a socket)) t.rows ≡ true
-
-abbrev pub is_ready_with : Address → Process → Bool
-is_ready_with a (Worker n q g k s hs) = is_ready s && has_address a hs
-is_ready_with a _ = false
+    let is_open = is_live_where (λ n hs. list_any (λ h. bytes_eq h.address a && (h.socket == socket)) hs) in
+    list_any is_open first.rows ≡ true → list_any is_open t.rows ≡ true
 
 -- how many Ready workers hold an address
 abbrev pub ready_with : Address → Table → ℕ
-ready_with a t = count_by (is_ready_with a) t.rows
+ready_with a t = count_by (is_serving a (λ g. true)) t.rows
 
--- At each such address the Ready workers that hold it, and the losses so far, are at least as many as in the first
--- table or as are wanted, whichever is fewer.
-abbrev pub Floor : Service → Service → Table → (Address → ℕ) → Progress → Type 0
-Floor old target first wanted p =
-    (a : Address) → IsCommon old target a → min (ready_with a first) (wanted a) ≤ ready_with a p.table + p.losses
-
--- The same for an attended upgrade, except that once the operator went back at the second question, when the old
--- workers were gone, the faults since then count beside the losses: each may have kept an old worker from being
--- started again.
-abbrev pub AttendedFloor : Service → Service → Table → (Address → ℕ) → Progress → Type 0
-AttendedFloor old target first wanted p =
-    (a : Address) → IsCommon old target a →
-    min (ready_with a first) (wanted a) ≤ ready_with a p.table + p.losses + faults_since 2 p.returns p.faults
+-- At each address that both services name the Ready workers that hold it, the losses so far and what is excused are
+-- together at least as many as were Ready there at first or are wanted there, whichever is fewer.
+abbrev pub Floor : (Progress → ℕ) → Table → Record → Target → Progress → Type 0
+Floor excused first r target p =
+    (a : Address) → IsCommon (service first) (want r target) a →
+    min (ready_with a first) (wanted_at r target a) ≤ ready_with a p.table + p.losses + excused p
 
 ---- The accounts
 
@@ -187,7 +287,7 @@ HasCause outcome.Done cause = ⊤
 HasCause outcome.Lost cause = ⊥
 HasCause _ cause = is_some cause ≡ true
 
--- The shortfalls of all groups and the retries before them are together no more than what failed or was lost.
+-- The shortfalls of all groups and the retries before them are together no more than the faults and losses.
 abbrev pub IsPaid : ℕ → Outcome → Progress → Type 0
 IsPaid retries (outcome.Degraded side shortfalls) p = sum shortfalls + retries ≤ p.faults + p.losses
 IsPaid retries outcome.Lost p = ⊥
@@ -195,52 +295,53 @@ IsPaid retries _ p = ⊤
 
 ---- The headline
 
--- The run of a target's plan ends as its report says, and keeps what it has to.
-pub record EndsAsReported (t : Table) (r : Record) (target : Target) (ran : Ran) : Type 0 where
-  pub says : Says r target (report_of (sides_of r target) ran).outcome t ran.last.table
-  pub after : IsSucceeded r target t ran
-  pub kept : AllByRecursion (λ p. Kept (service t) (want r target) t p.table) ran.passed
-  pub blamed : AllByRecursion IsBlamed ran.passed
-  pub cause : HasCause (report_of (sides_of r target) ran).outcome ran.last.cause
-  pub paid : IsPaid r.retries (report_of (sides_of r target) ran).outcome ran.last
-
 -- Descriptors rise, from 3 on, and a process may have at most 64.
 pub record HasDescriptors (t : Table) (r : Record) : Type 0 where
   pub descriptors : RisesFrom 3 (map (λ (l : Listener). l.descriptor) r.listeners)
   pub limit : t.limits.descriptors ≤ 64
 
--- What is asked beside a start: of the target, and of the pattern, which must not name an executing master.
+-- What is asked of the target, beside a start.
 abbrev pub Accepts : Table → Record → Target → Type 0
 Accepts t r (Workers n) = n ≤ 1024
-Accepts t r (Reload s) = IsInRange s × HasDescriptors t r × (is_some (next_config r.generation) ≡ true)
-Accepts t r (Upgrade s) = IsInRange s × HasDescriptors t r × (is_some (next_image r.generation) ≡ true)
-Accepts t r (Attended s) = IsInRange s × HasDescriptors t r × (is_some (next_image r.generation) ≡ true)
+Accepts t r (Reload s) = IsInRange s × HasDescriptors t r × (has_next r.generation.config ≡ true)
+Accepts t r (Upgrade s) =
+    IsInRange s × HasDescriptors t r × ((has_next r.generation.image && has_next r.generation.config) ≡ true)
+Accepts t r (Attended s) =
+    IsInRange s × HasDescriptors t r × ((has_next r.generation.image && has_next r.generation.config) ≡ true)
 Accepts t r _ = ⊤
 
+-- A start, a target that is accepted, and a pattern that names no executing master.
 pub record IsAccepted (t : Table) (r : Record) (target : Target) (turns : List Turn) (pattern : Pattern) : Type 0 where
   pub start : IsStart t r
   pub accepts : Accepts t r target
   pub spared : refusal_of r target turns pattern t ≡ None
 
--- Each target has a floor at each table of the run but two: a mend kills first, and a stop leaves no worker.
+-- Each target but two has a floor at each table of the run: a mend kills first, and a stop leaves no worker. Once the
+-- operator of an attended upgrade went back at the second question, when the old workers were gone, the faults since
+-- then are excused: each may have kept an old worker from being started again.
 abbrev pub HasFloor : Table → Record → Target → Ran → Type 0
 HasFloor t r (Attended s) ran =
-    AllByRecursion (AttendedFloor (service t) (want r (Attended s)) t (wanted_at r (Attended s))) ran.passed
+    AllByRecursion (Floor (λ p. faults_since 2 p.returns p.faults) t r (Attended s)) ran.passed
 HasFloor t r (Mend overdue) ran = ⊤
 HasFloor t r (Stop quick) ran = ⊤
-HasFloor t r target ran = AllByRecursion (Floor (service t) (want r target) t (wanted_at r target)) ran.passed
+HasFloor t r target ran = AllByRecursion (Floor (λ p. 0) t r target) ran.passed
 
--- What is promised of a run: it ends as its report says and keeps what it has to, the floor too, in the target's
--- manner.
+-- What is promised of a run: it ends as its report says and keeps what it has to, in the target's manner.
 pub record KeepsPromise (t : Table) (r : Record) (target : Target) (ran : Ran) : Type 0 where
-  pub ends : EndsAsReported t r target ran
+  pub says : Says r target (report_of (sides_of r target) ran).outcome t ran.last.table
+  pub after : IsSucceeded r target t ran
+  pub kept : AllByRecursion (λ p. Kept (service t) (want r target) t p.table) ran.passed
   pub floor : HasFloor t r target ran
   pub manner : Manner r target (report_of (sides_of r target) ran).outcome t ran
+  pub blamed : AllByRecursion IsBlamed ran.passed
+  pub cause : HasCause (report_of (sides_of r target) ran).outcome ran.last.cause
+  pub paid : IsPaid r.retries (report_of (sides_of r target) ran).outcome ran.last
 
 -- THE HEADLINE. For every running state (`t`, `r`), accepted target, order of two masters' calls (`turns`) and
 -- pattern of failing calls and child exits, the run of the target's plan ends with the target's service where the
 -- report says Done, the old service where RolledBack, and the named side less exactly the named shortfall where
 -- Degraded (`Says`); throughout, an address that both services name stays open on the same listening socket (`Kept`).
+-- The other clauses of `KeepsPromise` say what else is promised.
 abbrev pub Headline : Type 0
 Headline =
     (t : Table) (r : Record) (target : Target) (turns : List Turn) (pattern : Pattern) →

@@ -1,13 +1,7 @@
 pub mod Table
-pub mod Exits
 pub mod Calls
-pub mod Service
-pub mod Crew
-pub mod Record
-pub mod Target
-pub mod Tree
+pub mod Master
+pub mod Run
 pub mod After
 pub mod Plans
-pub mod Run
-pub mod Manner
 pub mod Claims

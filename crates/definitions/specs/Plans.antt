@@ -4,30 +4,45 @@
 -- can't open its addresses goes on with the old configuration; USR2 moves the pid file aside, and back when the new
 -- master is gone.
 
+use Rattle.vocabulary.specs as vocabulary
+use Rattle.definitions.specs as above
 use Rattle.std.specs.Prelude.{◌≡◌, ◌||◌, ◌∷◌, ◌++◌}
-use Rattle.vocabulary.specs.Words.{refl, ℕ, zero, suc, not, nat_lt, Bool, true, false, List, [], Option, Some, None}
-use Rattle.vocabulary.specs.Words.{drop, filter, map, reverse, numbers_below, is_in, has}
-use Rattle.vocabulary.specs.declared.plans.Side.TheVariants as side
-use Rattle.vocabulary.specs.declared.calls.Reply.TheVariants as reply
-use Rattle.definitions.specs.Table.{Address, FilePath, Generation}
-use Rattle.definitions.specs.Calls.{Call, OpenAt, CloseAt, AwaitReady, Quit, Kill, Census, AwaitGone, SpawnMaster}
-use Rattle.definitions.specs.Calls.{Adopt, WritePid, MovePid, RemovePid, Alive, Leave, Usr1, TermMaster, Ask}
-use Rattle.definitions.specs.Crew.{Crew, fork_of}
-use Rattle.definitions.specs.Record.{Record, PidNote, InPlace, AtOldbin, OldbinLeft, Left, NoFile, oldbin, addresses_of}
-use Rattle.definitions.specs.Record.{crew_of}
-use Rattle.definitions.specs.Target.{Target, Workers, Mend, Reopen, Reload, Upgrade, Attended, Stop}
-use Rattle.definitions.specs.Tree.{Reply, plain_reply, replies_to, Side, End, Done, RolledBack, ShortOld, ShortTarget}
-use Rattle.definitions.specs.Tree.{JoinReady, JoinBack, Join, Make, ForkLacking, AwaitLacking, KillLacking, Tree}
-use Rattle.definitions.specs.Tree.{Branches, Ends, Does, Nothing, Branch}
-use Rattle.definitions.specs.After.{crew_wanted}
-pub use Rattle.vocabulary.specs.declared.plans.Turn.{Turn}
-pub use Rattle.vocabulary.specs.declared.plans.Turn.TheVariants.{New, Old}
+use vocabulary.Words.{refl, ℕ, zero, suc, not, nat_lt, Bool, true, false, List, [], Option, Some, None, filter, map}
+use vocabulary.Words.{reverse, numbers_below, is_in, has}
+use vocabulary.declared.plans.Side.TheVariants as side
+use vocabulary.declared.calls.Reply.TheVariants as reply
+use above.Table.{Address, FilePath, Generation}
+use above.Calls.{Call, Fork, OpenAt, CloseAt, AwaitReady, Quit, Kill, Census, AwaitGone, SpawnMaster, Adopt, WritePid}
+use above.Calls.{MovePid, RemovePid, Alive, Leave, Usr1, TermMaster, Ask}
+use above.Master.{Crew, fork_of, Record, PidNote, InPlace, AtOldbin, OldbinLeft, Left, NoFile, oldbin, addresses_of}
+use above.Master.{crew_of, Target, Workers, Mend, Reopen, Reload, Upgrade, Attended, Stop}
+use above.Run.{Reply, plain_reply, Side, End, Done, RolledBack, ShortOld, ShortTarget, JoinReady, JoinBack, Join, Make}
+use above.Run.{ForkLacking, AwaitLacking, KillLacking, Tree, Branches, Ends, Does, Nothing, Branch}
+use above.After.{crew_wanted}
+pub use vocabulary.declared.plans.Turn.{Turn}
+pub use vocabulary.declared.plans.Turn.TheVariants.{New, Old}
 
 ---- Edges and steps
 
 -- what the first list has and the second lacks
 abbrev pub only_in : List Address → List Address → List Address
 only_in addresses others = filter (λ a. not (has others a)) addresses
+
+-- the replies to a call but the plain one; besides, each may be answered that the master is gone
+abbrev pub failed_replies : Call → List Reply
+failed_replies (OpenAt a) = reply.InUse ∷ reply.TooMany ∷ reply.Denied ∷ reply.NoMemory ∷ []
+failed_replies (Fork g k fds) = reply.Again ∷ reply.NoMemory ∷ []
+failed_replies (AwaitReady g k) = reply.Gone ∷ reply.Late ∷ []
+failed_replies (Census g) = reply.Short ∷ []
+failed_replies (AwaitGone g k) = reply.Late ∷ []
+failed_replies (SpawnMaster i) = reply.Again ∷ reply.NoMemory ∷ reply.NoImage ∷ []
+failed_replies Adopt = reply.Refused ∷ []
+failed_replies (WritePid path) = reply.IoFault ∷ []
+failed_replies (MovePid from to) = reply.IoFault ∷ []
+failed_replies (RemovePid path) = reply.IoFault ∷ []
+failed_replies (Alive i) = reply.Gone ∷ []
+failed_replies (Ask n) = reply.Back ∷ []
+failed_replies _ = []
 
 -- an edge that sets no note
 abbrev pub on : List Reply → Tree → Branches → Branches
@@ -50,7 +65,7 @@ does by call branches = Does by (Make call) [] branches
 -- a call, with the set of a census: the plain reply goes on, and any other elsewhere
 abbrev pub either : ℕ → Call → List ℕ → Tree → Tree → Tree
 either by call set ok bad =
-    Does by (Make call) set (on (plain_reply call ∷ []) ok (on (drop 1 (replies_to call)) bad Nothing))
+    Does by (Make call) set (on (plain_reply call ∷ []) ok (on (failed_replies call) bad Nothing))
 
 -- Calls that have one reply alone, in their order.
 abbrev pub tells : ℕ → List Call → Tree → Tree
@@ -254,7 +269,7 @@ joined ready back _ = back
 abbrev pub tries : ℕ → Call → List ℕ → Tree → Tree → Tree
 tries by call set rest back =
     Does by (Make call) set
-    (on (plain_reply call ∷ []) rest (on (drop 1 (replies_to call) ++ reply.MasterGone ∷ []) back Nothing))
+    (on (plain_reply call ∷ []) rest (on (failed_replies call ++ reply.MasterGone ∷ []) back Nothing))
 
 abbrev pub tries_all : ℕ → List Call → Tree → Tree → Tree
 tries_all by [] rest back = rest

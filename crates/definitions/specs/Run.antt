@@ -1,37 +1,108 @@
--- The run of a plan's tree on a table under a pattern.
+-- Plans as trees, and the run of a tree on a table under a pattern.
 --
--- Our own. One moment is: some children exit, and then one call by one master takes effect.
+-- Our own. Other masters go on after a failure as their code happens to; a plan has an edge for every reply. One moment
+-- is: some children exit, and then one call by one master takes effect.
 
+use Rattle.vocabulary.specs as vocabulary
+use Rattle.definitions.specs as above
 use Rattle.std.specs.Prelude.{◌≡◌, ◌+◌, ◌-◌, ◌==◌, ◌∷◌, if◌then◌else◌}
-use Rattle.vocabulary.specs.Words.{refl, ℕ, not, Bool, true, false, List, [], Option, None, lacks, shortfalls_of}
-use Rattle.vocabulary.specs.Words.{then_some, option_or, unwrap_or}
-use Rattle.vocabulary.specs.declared.calls.Answer.TheVariants as answer
-use Rattle.vocabulary.specs.declared.reports.Outcome.TheVariants as outcome
-use Rattle.definitions.specs.Table.{Table}
-use Rattle.definitions.specs.Exits.{Name, after_exits, losses_of}
-use Rattle.definitions.specs.Calls.{Call, Ask, Answer, Fate, Stepped, Handed, step_with}
-use Rattle.definitions.specs.Tree.{Reply, among, reply_of, same_reply, plain_reply, PidNote, Order, call_of, Tree}
-use Rattle.definitions.specs.Tree.{Branches, Ends, Does, Nothing, Branch, Old, Target, End, Done, RolledBack}
-use Rattle.definitions.specs.Tree.{ShortOld, ShortTarget}
-pub use Rattle.vocabulary.specs.declared.reports.Entry.{Entry}
-pub use Rattle.vocabulary.specs.declared.reports.Report.{Report}
-pub use Rattle.vocabulary.specs.declared.reports.Outcome.{Outcome}
-pub use Rattle.vocabulary.specs.declared.plans.Sides.{Sides}
-pub use Rattle.vocabulary.specs.declared.plans.Lack.{Lack}
+use denote.Enum.Bare.{sameb}
+use vocabulary.Words.{refl, ℕ, not, Bool, true, false, List, [], Option, None, map, get_or, list_any, lacks}
+use vocabulary.Words.{shortfalls_of, then_some, option_or, unwrap_or}
+use vocabulary.declared.calls.Answer.TheVariants as answer
+use vocabulary.declared.calls.Reply.TheVariants as reply
+use vocabulary.declared.reports.Outcome.TheVariants as outcome
+use vocabulary.declared.plans.Side.TheVariants as side
+use vocabulary.contracts.calls.Reply.{the_type}
+use above.Table.{Table}
+use above.Calls.{Name, after_exits, losses_of, Call, OpenAt, Fork, AwaitReady, Kill, Census, AwaitGone, SpawnMaster}
+use above.Calls.{Adopt, Alive, Ask, Answer, Fate, Stepped, Handed, step_with}
+use above.Master.{fork_of, PidNote, Sides}
+pub use vocabulary.declared.calls.Reply.{Reply}
+pub use vocabulary.declared.plans.Side.{Side}
+pub use vocabulary.declared.plans.End.{End}
+pub use vocabulary.declared.plans.End.TheVariants.{Done, RolledBack, ShortOld, ShortTarget, Split, JoinReady, JoinBack}
+pub use vocabulary.declared.plans.End.TheVariants.{Join}
+pub use vocabulary.declared.plans.Order.{Order}
+pub use vocabulary.declared.plans.Order.TheVariants.{Make, ForkLacking, AwaitLacking, KillLacking}
+pub use vocabulary.declared.reports.Entry.{Entry}
+pub use vocabulary.declared.reports.Report.{Report}
+pub use vocabulary.declared.reports.Outcome.{Outcome}
+pub use vocabulary.declared.plans.Lack.{Lack}
+
+---- Plans: steps, what follows each reply, ends
+
+-- An end; or a step: its master, by the image; what it asks for; the set that its census must contain; and its edges.
+-- An edge: the replies that lead to it, the note that it sets, if any, what follows, and the other edges.
+mutual
+  pub data Tree : Type 0 where
+    Ends : End → Tree
+    Does : ℕ → Order → List ℕ → Branches → Tree
+
+  pub data Branches : Type 0 where
+    Nothing : Branches
+    Branch : List Reply → Option PidNote → Tree → Branches → Branches
+
+-- whether two replies are one: the equality that the checker makes of the enum
+abbrev pub same_reply : Reply → Reply → Bool
+same_reply a b = sameb the_type a b
+
+-- the reply that an answer is to a step with this set: a count that lacks no number of the set is full
+abbrev pub reply_of : List ℕ → Answer → Reply
+reply_of set (answer.Opened fd) = reply.Opened
+reply_of set answer.InUse = reply.InUse
+reply_of set answer.TooMany = reply.TooMany
+reply_of set answer.Denied = reply.Denied
+reply_of set answer.NoMemory = reply.NoMemory
+reply_of set answer.Fine = reply.Fine
+reply_of set answer.Forked = reply.Forked
+reply_of set answer.Again = reply.Again
+reply_of set answer.IsReady = reply.IsReady
+reply_of set answer.Gone = reply.Gone
+reply_of set answer.Late = reply.Late
+reply_of set (answer.Counted ns) = if list_any (λ k. true) (lacks set ns) then reply.Short else reply.Full
+reply_of set answer.Spawned = reply.Spawned
+reply_of set answer.NoImage = reply.NoImage
+reply_of set answer.Adopted = reply.Adopted
+reply_of set answer.Refused = reply.Refused
+reply_of set answer.IoFault = reply.IoFault
+reply_of set answer.IsAlive = reply.IsAlive
+reply_of set answer.Go = reply.Go
+reply_of set answer.Back = reply.Back
+reply_of set answer.MasterGone = reply.MasterGone
+
+-- the plain reply to a call; of a census, a full one
+abbrev pub plain_reply : Call → Reply
+plain_reply (OpenAt a) = reply.Opened
+plain_reply (Fork g k fds) = reply.Forked
+plain_reply (AwaitReady g k) = reply.IsReady
+plain_reply (Census g) = reply.Full
+plain_reply (AwaitGone g k) = reply.Gone
+plain_reply (SpawnMaster i) = reply.Spawned
+plain_reply Adopt = reply.Adopted
+plain_reply (Alive i) = reply.IsAlive
+plain_reply (Ask n) = reply.Go
+plain_reply _ = reply.Fine
+
+-- The call that a step asks for. A settle's step names the lowest number that the last count lacked.
+abbrev pub call_of : Order → List ℕ → Call
+call_of (Make call) lacking = call
+call_of (ForkLacking crew) lacking = fork_of crew (get_or lacking 0 0)
+call_of (AwaitLacking g) lacking = AwaitReady g (get_or lacking 0 0)
+call_of (KillLacking g) lacking = Kill g (get_or lacking 0 0)
+
+---- Moments
 
 -- What happens at one call: who exits before it, and how it is made to fail.
 pub record Moment : Type 0 where
   pub exits : List Name
   pub fate : Option Fate
 
-abbrev pub quiet : Moment
-quiet = record { exits = []; fate = None }
-
 -- A pattern gives each call, counted from 1, its moment.
 abbrev pub Pattern : Type 0
 Pattern = ℕ → Moment
 
----- What the answers tell
+---- Runs, and what the answers tell
 
 abbrev pub ready_after : Answer → List ℕ → List ℕ
 ready_after (answer.Counted ns) ready = ns
@@ -42,12 +113,7 @@ abbrev pub lacked_by : ℕ → List Lack → List ℕ
 lacked_by by [] = []
 lacked_by by (lack ∷ lacked) = if lack.by == by then lack.numbers else lacked_by by lacked
 
--- what the last count of all lacked
-abbrev pub lacked_last : List Lack → List ℕ
-lacked_last [] = []
-lacked_last (lack ∷ lacked) = lack.numbers
-
--- the newest of another master
+-- the newest count of another master
 abbrev pub newest_of_others : ℕ → List Lack → List Lack
 newest_of_others by [] = []
 newest_of_others by (lack ∷ lacked) = if lack.by == by then newest_of_others by lacked else lack ∷ []
@@ -57,10 +123,6 @@ newest_of_others by (lack ∷ lacked) = if lack.by == by then newest_of_others b
 abbrev pub lacked_after : ℕ → List ℕ → Answer → List Lack → List Lack
 lacked_after by set (answer.Counted ns) lacked = record { by = by; numbers = lacks set ns } ∷ newest_of_others by lacked
 lacked_after by set _ lacked = lacked
-
--- a call that is not answered plainly, or a census that lacks a number of its set
-abbrev pub went_wrong : Call → Reply → Bool
-went_wrong call r = not (same_reply r (plain_reply call))
 
 -- Whether an answer counts as a fault: each one that is not plain, except a count and that the operator goes back.
 abbrev pub is_fault : Call → Answer → Bool
@@ -109,6 +171,7 @@ after_moment es p = record p { table = after_exits es p.table; losses = p.losses
 abbrev pub after_call : ℕ → Order → List ℕ → Stepped → Progress → Progress
 after_call by order set s p =
     let call = call_of order (lacked_by by p.lacked) in
+    let went_wrong = not (same_reply (reply_of set s.answer) (plain_reply call)) in
     record p {
       table = s.table;
       calls = p.calls + 1;
@@ -116,15 +179,8 @@ after_call by order set s p =
       lacked = lacked_after by set s.answer p.lacked;
       faults = if is_fault call s.answer then p.faults + 1 else p.faults;
       returns = returns_after call s.answer p.faults p.returns;
-      cause = option_or p.cause (then_some (went_wrong call (reply_of set s.answer)) (p.calls + 1));
+      cause = option_or p.cause (then_some went_wrong (p.calls + 1));
     }
-
-abbrev pub noted : Option PidNote → Progress → Progress
-noted said p = record p { note = unwrap_or said p.note }
-
--- the answer to a step's call, after the exits of its moment
-abbrev pub answered : Handed → ℕ → Order → Option Fate → Progress → Stepped
-answered handed by order f p = step_with handed by (call_of order (lacked_by by p.lacked)) f p.table
 
 -- how a run ends: at an end of the plan, or where a step has no edge for the answer
 pub data Ending : Type 0 where
@@ -138,56 +194,52 @@ pub record Ran : Type 0 where
   pub ending : Ending
   pub last : Progress
 
--- A run that makes no call.
-abbrev pub ends_at : Ending → Progress → Ran
-ends_at e p = record { entries = []; passed = p ∷ []; ending = e; last = p }
-
-abbrev pub with_entry : Entry → Progress → Progress → Ran → Ran
-with_entry entry before middle rest =
-    record rest { entries = entry ∷ rest.entries; passed = before ∷ middle ∷ rest.passed }
-
 -- `run_with` is the run of a tree; `goes_with` goes on behind the first of these edges that has the reply. What a call
 -- is handed is the same throughout.
 abbrev mutual
   pub run_with : Handed → Tree → Pattern → Progress → Ran
-  run_with handed (Ends end) pattern p = ends_at (At end) p
+  run_with handed (Ends end) pattern p = record { entries = []; passed = p ∷ []; ending = At end; last = p }
   run_with handed (Does by order set branches) pattern p =
       let moment = pattern (p.calls + 1) in
       let middle = after_moment moment.exits p in
-      let s = answered handed by order moment.fate middle in
-      with_entry (record { by = by; call = call_of order (lacked_by by middle.lacked); answer = s.answer }) p middle
-      (goes_with handed branches (reply_of set s.answer) pattern (after_call by order set s middle))
+      let call = call_of order (lacked_by by middle.lacked) in
+      let s = step_with handed by call moment.fate middle.table in
+      let rest = goes_with handed branches (reply_of set s.answer) pattern (after_call by order set s middle) in
+      record rest {
+        entries = record { by = by; call = call; answer = s.answer } ∷ rest.entries;
+        passed = p ∷ middle ∷ rest.passed;
+      }
 
   pub goes_with : Handed → Branches → Reply → Pattern → Progress → Ran
-  goes_with handed Nothing r pattern p = ends_at Lost p
+  goes_with handed Nothing r pattern p = record { entries = []; passed = p ∷ []; ending = Lost; last = p }
   goes_with handed (Branch replies said rest more) r pattern p =
-      elim (among replies r) as (λ b. Ran) [
-        | true ↦ run_with handed rest pattern (noted said p)
+      elim (list_any (λ x. same_reply x r) replies) as (λ b. Ran) [
+        | true ↦ run_with handed rest pattern (record p { note = unwrap_or said p.note })
         | false ↦ goes_with handed more r pattern p
       ]
 
 ---- What is reported: what the calls and their answers tell, and nothing else
 
--- the outcome of a run that ends so, by the groups of its side and what the last census lacked
+-- the outcome of a run that ends so, by the groups of its side and what the last count lacked
 abbrev pub outcome_of : Sides → Ending → List ℕ → Outcome
 outcome_of sides (At Done) lacking = outcome.Done
 outcome_of sides (At RolledBack) lacking = outcome.RolledBack
-outcome_of sides (At ShortOld) lacking = outcome.Degraded Old (shortfalls_of sides.old lacking)
-outcome_of sides (At ShortTarget) lacking = outcome.Degraded Target (shortfalls_of sides.target lacking)
+outcome_of sides (At ShortOld) lacking = outcome.Degraded side.Old (shortfalls_of sides.old lacking)
+outcome_of sides (At ShortTarget) lacking = outcome.Degraded side.Target (shortfalls_of sides.target lacking)
 -- no run ends at a mark
 outcome_of sides (At _) lacking = outcome.Done
 outcome_of sides Lost lacking = outcome.Lost
 
--- What the report of a run says, by the groups of both sides.
+-- What the report of a run says, by the groups of both sides and what the newest count lacked.
 abbrev pub report_of : Sides → Ran → Report
 report_of sides ran = record {
-  outcome = outcome_of sides ran.ending (lacked_last ran.last.lacked);
+  outcome = outcome_of sides ran.ending (get_or (map (λ (lack : Lack). lack.numbers) ran.last.lacked) 0 []);
   cause = ran.last.cause;
   note = ran.last.note;
   ready = ran.last.ready;
 }
 
----- An example: a plan without a step makes no call, whatever the pattern
+---- An example: a census that lacks a number of its set is short
 
-example : (pattern : Pattern) (p : Progress) (end : End) → (run_with None (Ends end) pattern p).entries ≡ []
-example pattern p end = refl
+example : reply_of (0 ∷ 1 ∷ []) (answer.Counted (0 ∷ [])) ≡ reply.Short
+example = refl

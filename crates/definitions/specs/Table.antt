@@ -1,16 +1,19 @@
--- The table of processes: who runs, what each holds, and which files are there.
+-- The table of processes: who runs, what each holds, which files are there, and the service of a table.
 --
 -- After POSIX, as far as masters need it: a process has a number and a parent, a descriptor leads to a socket, and an
--- address is taken as long as a process holds a socket of it.
+-- address is taken as long as a process holds a socket of it. The service is our own notion.
 
-use Rattle.std.specs.Prelude.{◌≡◌, ◌≤◌, ◌+◌, ◌&&◌, ◌==◌, ◌∷◌}
-use Rattle.vocabulary.specs.Words.{refl, ℕ, Bool, true, false, List, [], Option, Some, None, bytes_eq, list_any}
-use Rattle.vocabulary.specs.Words.{count_by, ⊤, AllByRecursion}
-pub use Rattle.vocabulary.specs.Words.{Generation}
-pub use Rattle.vocabulary.specs.declared.table.Stance.{Stance}
-pub use Rattle.vocabulary.specs.declared.table.Stance.TheVariants.{Starting, Ready, Draining, Exited}
-pub use Rattle.vocabulary.specs.declared.table.Limits.{Limits}
-pub use Rattle.vocabulary.specs.declared.table.Listener.{Listener}
+use Rattle.vocabulary.specs as vocabulary
+use Rattle.std.specs.Prelude.{◌≡◌, ◌≤◌, ◌+◌, ◌&&◌, ◌||◌, ◌==◌, ◌∷◌, if◌then◌else◌}
+use denote.Enum.Bare.{sameb}
+use vocabulary.contracts.table.Stance.{the_type}
+use vocabulary.Words.{refl, ℕ, Bool, true, false, List, [], Option, Some, None, bytes_eq, list_any, count_by, ⊤}
+use vocabulary.Words.{AllByRecursion, has}
+pub use vocabulary.Words.{Generation}
+pub use vocabulary.declared.table.Stance.{Stance}
+pub use vocabulary.declared.table.Stance.TheVariants.{Starting, Ready, Draining, Exited}
+pub use vocabulary.declared.table.Limits.{Limits}
+pub use vocabulary.declared.table.Listener.{Listener}
 
 -- An address is its text, and so is a path.
 abbrev pub Address : Type 0
@@ -49,7 +52,7 @@ pub record Table : Type 0 where
   pub next_socket : ℕ
   pub limits : Limits
 
----- What a row is
+---- Rows
 
 abbrev pub number_of : Process → ℕ
 number_of (Master n q i live hs) = n
@@ -70,44 +73,23 @@ abbrev pub is_master : Process → Bool
 is_master (Master n q i live hs) = true
 is_master _ = false
 
----- Stances
+-- whether two stances are one: the equality that the checker makes of the enum
+abbrev pub same_stance : Stance → Stance → Bool
+same_stance a b = sameb the_type a b
 
-abbrev pub is_starting : Stance → Bool
-is_starting Starting = true
-is_starting _ = false
-
-abbrev pub is_ready : Stance → Bool
-is_ready Ready = true
-is_ready _ = false
-
--- Starting or Ready.
 abbrev pub is_active : Stance → Bool
-is_active Starting = true
-is_active Ready = true
-is_active _ = false
+is_active s = same_stance Starting s || same_stance Ready s
 
-abbrev pub is_draining : Stance → Bool
-is_draining Draining = true
-is_draining _ = false
-
-abbrev pub is_exited : Stance → Bool
-is_exited Exited = true
-is_exited _ = false
-
-abbrev pub is_any : Stance → Bool
-is_any s = true
-
----- Names
-
+-- a name is a worker's generation and number: whether the second name is the first
 abbrev pub bears : Generation → ℕ → Generation → ℕ → Bool
 bears g k g' k' = same_generation g' g && (k' == k)
 
--- a worker of any master with the name, in such a stance
-abbrev pub is_named : (Stance → Bool) → Generation → ℕ → Process → Bool
-is_named stance g k (Worker n q g' k' s hs) = stance s && bears g k g' k'
-is_named stance g k _ = false
+-- a worker in such a stance, with such a process number and such a name
+abbrev pub is_worker_where : (Stance → Bool) → (ℕ → Bool) → (Generation → ℕ → Bool) → Process → Bool
+is_worker_where stance number test (Worker n q g k s hs) = stance s && (number n && test g k)
+is_worker_where stance number test _ = false
 
--- a worker of the caller with the name, in such a stance
+-- a worker whose parent is the caller, with the name and in such a stance
 abbrev pub is_worker : (Stance → Bool) → ℕ → Generation → ℕ → Process → Bool
 is_worker stance caller g k (Worker n q g' k' s hs) = stance s && ((q == caller) && bears g k g' k')
 is_worker stance caller g k _ = false
@@ -117,49 +99,33 @@ pub record Caller : Type 0 where
   pub number : ℕ
   pub holds : List Hold
 
-abbrev pub caller_if : Bool → ℕ → List Hold → Option Caller → Option Caller
-caller_if true n hs rest = Some (record { number = n; holds = hs })
-caller_if false n hs rest = rest
-
 -- The live master of an image.
 abbrev pub live_master : ℕ → List Process → Option Caller
 live_master image [] = None
-live_master image (Master n q i live hs ∷ rows) = caller_if (live && (i == image)) n hs (live_master image rows)
-live_master image (Worker n q g k s hs ∷ rows) = live_master image rows
-live_master image (Foreign n hs ∷ rows) = live_master image rows
+live_master image (Master n q i live hs ∷ rows) =
+    if live && (i == image) then Some (record { number = n; holds = hs }) else live_master image rows
+live_master image (p ∷ rows) = live_master image rows
 
--- The number is a live master's.
-abbrev pub is_live_master : ℕ → Process → Bool
-is_live_master m (Master n q i live hs) = live && (n == m)
-is_live_master m _ = false
+-- a live master with such a process number and such holds
+abbrev pub is_live_where : (ℕ → List Hold → Bool) → Process → Bool
+is_live_where test (Master n q i live hs) = live && test n hs
+is_live_where test _ = false
 
----- Addresses
-
-abbrev pub is_at : Address → Hold → Bool
-is_at a h = bytes_eq h.address a
+---- Addresses and files
 
 abbrev pub has_address : Address → List Hold → Bool
-has_address a hs = list_any (is_at a) hs
+has_address a hs = list_any (λ h. bytes_eq h.address a) hs
 
 -- An address is held where a process holds a socket of it; one that has exited holds nothing.
 abbrev pub is_held : Address → List Process → Bool
 is_held a rows = list_any (λ p. has_address a (holds_of p)) rows
 
----- Files
-
-abbrev pub owner_if : Bool → ℕ → Option ℕ → Option ℕ
-owner_if true owner rest = Some owner
-owner_if false owner rest = rest
-
 -- the process number that the file at the path holds
 abbrev pub owner_at : FilePath → List File → Option ℕ
 owner_at path [] = None
-owner_at path (f ∷ files) = owner_if (bytes_eq f.path path) f.owner (owner_at path files)
+owner_at path (f ∷ files) = if bytes_eq f.path path then Some f.owner else owner_at path files
 
-abbrev pub with_rows : Table → List Process → Table
-with_rows t rows = record t { rows = rows }
-
----- What every table that the kernel makes keeps by itself: process numbers are not used again
+---- What every table that the kernel makes keeps by itself, since it uses no process number again
 
 -- A worker that drains or has exited holds nothing; of a master, or of somebody else's process, nothing is asked.
 abbrev pub IsQuiet : Process → Type 0
@@ -169,10 +135,10 @@ IsQuiet _ = ⊤
 
 -- A worker's parent is a live master.
 abbrev pub HasParent : List Process → Process → Type 0
-HasParent rows (Worker n q g k s hs) = list_any (is_live_master q) rows ≡ true
+HasParent rows (Worker n q g k s hs) = list_any (is_live_where (λ m holds. m == q)) rows ≡ true
 HasParent rows _ = ⊤
 
--- Process numbers rise from the first on and stay below the last.
+-- Process numbers rise, from `least` on, and stay below `next`.
 abbrev pub IsAscending : ℕ → List Process → ℕ → Type 0
 IsAscending least [] next = least ≤ next
 IsAscending least (p ∷ rows) next = (least ≤ number_of p) × IsAscending (number_of p + 1) rows next
@@ -183,6 +149,33 @@ pub record IsFormed (t : Table) : Type 0 where
   pub quiet : AllByRecursion IsQuiet t.rows
   pub parents : AllByRecursion (HasParent t.rows) t.rows
   pub ascending : IsAscending 0 t.rows t.next_process
+
+---- The service
+
+-- Which addresses are served, and by how many workers of each generation. It is what clients can tell: a worker that
+-- drains serves nobody new, and does not count. A map by extension: each key goes to the count of each generation.
+abbrev pub Service : Type 0
+Service = Address → Option (Generation → ℕ)
+
+-- a Ready worker of such a generation that holds the address
+abbrev pub is_serving : Address → (Generation → Bool) → Process → Bool
+is_serving a test (Worker n q g k s hs) = same_stance Ready s && (test g && has_address a hs)
+is_serving a test _ = false
+
+-- The keys are the addresses that a live master holds, each with its Ready workers, by generation.
+abbrev pub service : Table → Service
+service t a =
+    if list_any (is_live_where (λ n hs. has_address a hs)) t.rows
+    then Some (λ g. count_by (is_serving a (λ h. same_generation h g)) t.rows)
+    else None
+
+-- At each of these addresses so many of one generation.
+abbrev pub serving : List Address → Generation → (Address → ℕ) → Service
+serving addresses g count a =
+    if has addresses a then Some (λ h. if same_generation h g then count a else 0) else None
+
+abbrev pub IsSame : Service → Service → Type 0
+IsSame s s' = (a : Address) → s a ≡ s' a
 
 ---- An example: a master that has exited is no live master of its image
 

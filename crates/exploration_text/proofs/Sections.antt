@@ -29,8 +29,10 @@ pub turns_with_two : (turns : List Turn) (e f : Event) → turns ≢ [] → sect
 turns_with_two [] e f some = absurd (some refl)
 turns_with_two (turn ∷ turns) e f some = refl
 
-pub section_of_order : (orders : List (List Turn)) (n : ℕ) (turns : List Turn) (tried : Tried) → slice_get orders n ≡ Some turns → section_text (turns_at orders n) tried ≡ section_text turns tried
+pub section_of_order : (orders : List (List Turn)) (n : ℕ) (turns : List Turn) (tried : Tried) →
+    slice_get orders n ≡ Some turns → section_text (turns_at orders n) tried ≡ section_text turns tried
 section_of_order orders n turns tried is = ap (λ (found : Option (List Turn)). section_text (unwrap_or found []) tried) is
 
-pub section_of_none : (orders : List (List Turn)) (n : ℕ) (tried : Tried) → slice_get orders n ≡ None → section_text (turns_at orders n) tried ≡ tried_text tried
+pub section_of_none : (orders : List (List Turn)) (n : ℕ) (tried : Tried) → slice_get orders n ≡ None →
+    section_text (turns_at orders n) tried ≡ tried_text tried
 section_of_none orders n tried is = ap (λ (found : Option (List Turn)). section_text (unwrap_or found []) tried) is

@@ -2,8 +2,9 @@
 use Rattle.std.proofs.Common.{◌≡◌, ℕ, List, Option, Some, None, refl, sym, ◌∙◌, ap}
 use Rattle.vocabulary.specs.declared.reports.Report.{Report}
 use Rattle.vocabulary.specs.declared.reports.Outcome.{Outcome}
-use Rattle.definitions.specs.Tree.{Tree, Ends, Does}
-use Rattle.definitions.specs.Run.{Sides, Pattern, Progress, Ran, outcome_of, report_of, lacked_last}
+use Rattle.definitions.specs.Run.{Tree, Ends, Does, Pattern, Progress, Ran, outcome_of, report_of}
+use Rattle.definitions.specs.Master.{Sides}
+use Rattle.call_laws.specs.Pieces.{lacked_last}
 use Rattle.plan_walk.specs.Path.{Trail, IsOver, IsOutcome, Reports}
 use Rattle.definitions.specs.Calls.{Handed}
 use Rattle.plan_executor.specs.Lawful.{trail_at, ending_of}
@@ -19,7 +20,8 @@ last-of handed None q p over = refl
 last-of handed (Some (Ends end)) q p over = refl
 last-of handed (Some (Does by order set branches)) q p over = absurd over
 
-outcome-of : (sides : Sides) (rest : Option Tree) (lacking : List ℕ) (o : Outcome) → IsOutcome sides rest lacking o → o ≡ outcome_of sides (ending_of rest) lacking
+outcome-of : (sides : Sides) (rest : Option Tree) (lacking : List ℕ) (o : Outcome) → IsOutcome sides rest lacking o →
+    o ≡ outcome_of sides (ending_of rest) lacking
 outcome-of sides None lacking o h = h
 outcome-of sides (Some (Ends end)) lacking o h = h
 outcome-of sides (Some (Does by order set branches)) lacking o h = absurd h

@@ -1,13 +1,14 @@
 -- The address that has the fewest Ready workers.
-use Rattle.std.proofs.Common.{◌≡◌, ◌≤◌, ◌<◌, ℕ, ◌-◌, ◌^◌, Bool, count_by, true, false, min, unwrap_or, List, [], ◌∷◌, Option, Some, None, refl, ap, subst, arith}
+use Rattle.std.proofs.Common.{◌≡◌, ◌≤◌, ◌<◌, ℕ, ◌-◌, ◌^◌, Bool, count_by, true, false, min, unwrap_or, List, [], ◌∷◌}
+use Rattle.std.proofs.Common.{Option, Some, None, refl, ap, subst, arith}
 use Rattle.std.specs.Prelude.{if◌then◌else◌, nat_lt, Contains}
 use Rattle.std.specs.Option.{option_map}
 use Rattle.std.specs.List.{list_any, sum_by, AllByRecursion}
 use Rattle.std.specs.FinMap.{find}
 use Rattle.std.proofs.lemmas.Bool.Decides.{nat_tests}
 use Rattle.std.proofs.lemmas.List.Elements.{All-contains_itself, recursion_from_All}
-use Rattle.definitions.specs.Table.{Address, Generation, Table, has_address}
-use Rattle.definitions.specs.Service.{IsSame, service, is_live_with, is_serving}
+use Rattle.definitions.specs.Table.{Address, Generation, Table, has_address, IsSame, service}
+use Rattle.call_laws.specs.Pieces.{is_live_with, is_serving_as}
 use Rattle.kernel_service.specs.Services.{Counts, Services, address_cmp, count_at, at, AreCounts, IsService}
 use Rattle.kernel_service.proofs.OrderedKeys.{All-find}
 use Rattle.explorer.specs.Readiness.{is_ready_at, ready_at, listed_at, fewer, fewest_from, HaveAtLeast}
@@ -16,7 +17,7 @@ use Rattle.explorer.proofs.Totals.{total}
 ---- The listed service of a table
 
 counted : (t : Table) (a : Address) (o : Option Counts) (offered : Bool) → ((cs : Counts) → o ≡ Some cs → AreCounts cs) →
-    option_map count_at o ≡ (if offered then Some (λ g. count_by (is_serving a g) t.rows) else None) →
+    option_map count_at o ≡ (if offered then Some (λ g. count_by (is_serving_as a g) t.rows) else None) →
     min (sum_by (λ c. c.1) (unwrap_or o [])) (2 ^ 32 - 1) ≡ (if offered then min (count_by (is_ready_at a) t.rows) (2 ^ 32 - 1) else 0)
 counted t a None true sound is = let none : ⊥ = cc in absurd none
 counted t a None false sound is = refl
@@ -43,7 +44,8 @@ module _ (s : Services) where
       here false e = (omega arith, grind (arith, nat_tests))
 
   -- None of the addresses has fewer.
-  below : (best found : Address × ℕ) (addresses : List Address) → fewest_from s (Some best) addresses ≡ Some found → (found.1 ≤ best.1) × IsBelow found.1 addresses
+  below : (best found : Address × ℕ) (addresses : List Address) → fewest_from s (Some best) addresses ≡ Some found →
+      (found.1 ≤ best.1) × IsBelow found.1 addresses
   below best found [] is = (let same : best ≡ found = cc in subst (λ (x : Address × ℕ). x.1 ≤ best.1) same (omega arith), tt)
   below best found (a ∷ addresses) is =
       let next = fewer (Some best) a (listed_at s a) in
@@ -56,7 +58,8 @@ module _ (s : Services) where
   fewest-below found (a ∷ addresses) is = below (a, listed_at s a) found addresses is
 
   -- It is one of the addresses, with what is listed at it.
-  one-of : (P : Address × ℕ → Type 0) (best found : Address × ℕ) (addresses : List Address) → P best → AllByRecursion (λ a. P (a, listed_at s a)) addresses → fewest_from s (Some best) addresses ≡ Some found → P found
+  one-of : (P : Address × ℕ → Type 0) (best found : Address × ℕ) (addresses : List Address) → P best →
+      AllByRecursion (λ a. P (a, listed_at s a)) addresses → fewest_from s (Some best) addresses ≡ Some found → P found
   one-of P best found [] here all is = let same : best ≡ found = cc in subst P same here
   one-of P best found (a ∷ addresses) here all is = one-of P (fewer (Some best) a (listed_at s a)) found addresses (next (nat_lt (listed_at s a) best.1) here all.0) all.1 is
     where
@@ -64,7 +67,8 @@ module _ (s : Services) where
       next true old new = new
       next false old new = old
 
-  pub fewest-one : (P : Address × ℕ → Type 0) (found : Address × ℕ) (addresses : List Address) → AllByRecursion (λ a. P (a, listed_at s a)) addresses → fewest_from s None addresses ≡ Some found → P found
+  pub fewest-one : (P : Address × ℕ → Type 0) (found : Address × ℕ) (addresses : List Address) →
+      AllByRecursion (λ a. P (a, listed_at s a)) addresses → fewest_from s None addresses ≡ Some found → P found
   fewest-one P found [] all is = let none : ⊥ = cc in absurd none
   fewest-one P found (a ∷ addresses) all is = one-of P (a, listed_at s a) found addresses all.0 all.1 is
 
@@ -109,6 +113,7 @@ module _ (t : Table) (s : Services) (sound : IsService s) (same : IsSame (at s) 
     ready = (fewest-one s (λ x. Contains addresses x.0 × (x.1 ≡ ready_at t x.0)) found addresses (every addresses (elements addresses)) is).1;
   }
     where
-      every : (more : List Address) → AllByRecursion (Contains addresses) more → AllByRecursion (λ a. Contains addresses a × (listed_at s a ≡ ready_at t a)) more
+      every : (more : List Address) → AllByRecursion (Contains addresses) more →
+          AllByRecursion (λ a. Contains addresses a × (listed_at s a ≡ ready_at t a)) more
       every [] all = tt
       every (a ∷ more) all = ((all.0, listed-ready t s sound same a), every more all.1)

@@ -3,13 +3,11 @@ use Rattle.std.proofs.Common.{◌≡◌, ◌≤◌, ◌+◌, ◌++◌, ℕ, List
 use Rattle.vocabulary.specs.declared.calls.Answer.{Answer}
 use Rattle.vocabulary.specs.declared.reports.Entry.{Entry}
 use Rattle.definitions.specs.Table.{Table}
-use Rattle.definitions.specs.Calls.{Stepped, step_with}
-use Rattle.definitions.specs.Exits.{after_exits}
-use Rattle.definitions.specs.Tree.{Tree}
+use Rattle.definitions.specs.Calls.{Stepped, step_with, after_exits}
+use Rattle.definitions.specs.Run.{Tree, Moment, Pattern, Progress}
 use Rattle.definitions.specs.Plans.{Turn}
 use Rattle.plan_walk.specs.Path.{Trail, advance, Asks}
-use Rattle.definitions.specs.Run.{Moment, Pattern, Progress}
-use Rattle.definitions.specs.Target.{handover_for}
+use Rattle.definitions.specs.Master.{handover_for}
 use Rattle.handover_text.specs.Reading.{handed_by}
 use Rattle.kernel_model.specs.State.{State}
 use Rattle.plan_walk.specs.Fit.{height_next}
@@ -31,7 +29,8 @@ entry_of due answer = record { by = due.by; call = due.call; answer = answer }
 
 -- What making the call that is due gave.
 pub record IsMade (before : Position) (due : Due) (m : Moment) (course : Course) (kernel : State) (waits : Option ℕ) (answer : Answer) : Type 0 where
-  pub step : record { answer = answer; table = kernel.table } ≡ step_with (handed_by before.text.now) due.by due.call m.fate (after_exits m.exits before.kernel.table)
+  pub step : record { answer = answer; table = kernel.table }
+      ≡ step_with (handed_by before.text.now) due.by due.call m.fate (after_exits m.exits before.kernel.table)
   pub room : kernel.room + 1 ≡ before.kernel.room
   pub trail : trail_on course ≡ advance (trail_on before.course) (entry_of due answer)
   pub sides : sides_on course ≡ sides_on before.course
@@ -40,7 +39,8 @@ pub record IsMade (before : Position) (due : Due) (m : Moment) (course : Course)
   pub heir : listed waits ≡ waiting due.call (listed before.heir)
 
 pub later : (before : Position) (due : Due) (m : Moment) (course : Course) (kernel : State) (waits : Option ℕ) (answer : Answer) →
-    IsFit before → AsksFor (trail_on before.course) due.by due.call → pattern_of before.tried (before.made + 1) ≡ m → IsMade before due m course kernel waits answer →
+    IsFit before → AsksFor (trail_on before.course) due.by due.call → pattern_of before.tried (before.made + 1) ≡ m →
+    IsMade before due m course kernel waits answer →
     IsLater before due m (record before { made = before.made + 1; course = course; kernel = kernel; heir = waits })
 later before due m course kernel waits answer fit asks moment is =
     let e = entry_of due answer in
@@ -89,7 +89,8 @@ later before due m course kernel waits answer fit asks moment is =
     }
 
 -- Another run that is the same so far has come as far.
-pub elsewhere : (run : Position) (p : Progress) (other : Tried) → IsSameUpTo run.made (pattern_of run.tried) (pattern_of other) → IsAt run p → IsAt (record run { tried = other }) p
+pub elsewhere : (run : Position) (p : Progress) (other : Tried) →
+    IsSameUpTo run.made (pattern_of run.tried) (pattern_of other) → IsAt run p → IsAt (record run { tried = other }) p
 elsewhere run p other same at =
     let onto : (q : Pattern) → IsSameUpTo run.made (pattern_of other) q → IsSameUpTo run.made (pattern_of run.tried) q = λ q is m le. is m le ∙ same m le in
     record {

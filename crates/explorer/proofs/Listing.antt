@@ -1,5 +1,6 @@
 -- Lists that are made one item at a time.
-use Rattle.std.proofs.Common.{◌≡◌, ◌≤◌, ◌<◌, ◌+◌, ℕ, zero, suc, Bool, true, false, cond, List, [], ◌∷◌, ◌++◌, Option, Some, None, map, length, drop, get_or, slice_get, refl, ap, sym, ◌∙◌, arith}
+use Rattle.std.proofs.Common.{◌≡◌, ◌≤◌, ◌<◌, ◌+◌, ℕ, zero, suc, Bool, true, false, cond, List, [], ◌∷◌, ◌++◌, Option}
+use Rattle.std.proofs.Common.{Some, None, map, length, drop, get_or, slice_get, refl, ap, sym, ◌∙◌, arith}
 use Rattle.std.specs.List.{filter, filter_map, cons_option}
 use Rattle.std.proofs.lemmas.List.{drop_more, drop_all, append_assoc, append-nil}
 use Rattle.std.proofs.lemmas.Option.{get_or_from_slice_get, slice_get_within}
@@ -34,14 +35,18 @@ module _ {X Y : Type 0} (h : X → Option Y) (xs : List X) where
 
 module _ {X Y : Type 0} (make : X → Y) (test : X → Bool) (xs : List X) where
   -- the next item of those that pass the test
-  pub passes-next : (i : ℕ) (d : X) (b : Bool) (done next all : List Y) → i < length xs → b ≡ test (get_or xs i d) → next ≡ done ++ cond b (make (get_or xs i d) ∷ []) [] →
+  pub passes-next : (i : ℕ) (d : X) (b : Bool) (done next all : List Y) → i < length xs → b ≡ test (get_or xs i d) →
+      next ≡ done ++ cond b (make (get_or xs i d) ∷ []) [] →
       done ++ map make (filter test (drop i xs)) ≡ all → next ++ map make (filter test (drop (i + 1) xs)) ≡ all
   passes-next i d b done next all within tested added is =
       ap (λ ys. ys ++ map make (filter test (drop (i + 1) xs))) added
       ∙ append_assoc done (cond b (make (get_or xs i d) ∷ []) []) (map make (filter test (drop (i + 1) xs)))
       ∙ ap (λ zs. done ++ zs) (by-test b)
-      ∙ sym (ap (λ zs. done ++ map make (filter test zs)) (drop_more xs i d within) ∙ ap (λ (b : Bool). done ++ map make (cond b (get_or xs i d ∷ filter test (drop (i + 1) xs)) (filter test (drop (i + 1) xs)))) (sym tested))
+      ∙ sym (ap (λ zs. done ++ map make (filter test zs)) (drop_more xs i d within) ∙
+      ap (λ (b : Bool). done ++ map make
+      (cond b (get_or xs i d ∷ filter test (drop (i + 1) xs)) (filter test (drop (i + 1) xs)))) (sym tested))
       ∙ is where
-        by-test : (b : Bool) → cond b (make (get_or xs i d) ∷ []) [] ++ map make (filter test (drop (i + 1) xs)) ≡ map make (cond b (get_or xs i d ∷ filter test (drop (i + 1) xs)) (filter test (drop (i + 1) xs)))
+        by-test : (b : Bool) → cond b (make (get_or xs i d) ∷ []) [] ++ map make (filter test (drop (i + 1) xs))
+            ≡ map make (cond b (get_or xs i d ∷ filter test (drop (i + 1) xs)) (filter test (drop (i + 1) xs)))
         by-test true = refl
         by-test false = refl

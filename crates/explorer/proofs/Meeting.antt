@@ -5,10 +5,9 @@ use Rattle.std.proofs.lemmas.Bool.{le-ltb}
 use Rattle.table_laws.proofs.Views.{eqb-off, eqb-refl}
 use Rattle.definitions.specs.Table.{Table}
 use Rattle.definitions.specs.Calls.{Call, Handed}
-use Rattle.definitions.specs.Tree.{Tree, Ends, Does}
+use Rattle.definitions.specs.Run.{Tree, Ends, Does, Pattern, Progress}
 use Rattle.plan_walk.specs.Path.{IsOver}
-use Rattle.definitions.specs.Target.{handover_for}
-use Rattle.definitions.specs.Run.{Pattern, Progress}
+use Rattle.definitions.specs.Master.{handover_for}
 use Rattle.plan_walk.specs.Course.{trail_on}
 use Rattle.plan_executor.specs.Naming.{listed}
 use Rattle.explorer.specs.declared.events.Event.{Event}
@@ -39,7 +38,9 @@ quiet-behind e q n le is m lt = other e q m (behind e.number m (omega (arith, lt
 
 ---- What is met
 
-none-left : (handed : Handed) (last : Option Event) (q : Pattern) (heirs : List ℕ) (n : ℕ) (t : Table) (rest : Option Tree) (p : Progress) → IsOver rest → met handed last q heirs n t (rest_run handed rest q p).entries ≡ []
+none-left : (handed : Handed) (last : Option Event) (q : Pattern) (heirs : List ℕ) (n : ℕ) (t : Table)
+    (rest : Option Tree) (p : Progress) → IsOver rest →
+    met handed last q heirs n t (rest_run handed rest q p).entries ≡ []
 none-left handed last q heirs n t None p over = refl
 none-left handed last q heirs n t (Some (Ends end)) p over = refl
 none-left handed last q heirs n t (Some (Does by order set branches)) p over = absurd over
@@ -48,13 +49,15 @@ pub left-over : (run : Position) (p : Progress) (last : Option Event) → IsOver
 left-over run p last over = none-left (handover_for run.state.now run.target.now) last (pattern_of run.tried) (listed run.heir) run.made run.kernel.table (trail_on run.course).rest p over
 
 -- behind an event all is open
-pub open-behind : (handed : Handed) (by : ℕ) (call : Call) (heirs : List ℕ) (e : Event) (n : ℕ) (t : Table) → e.number < n → open_at handed by call heirs (Some e) n t ≡ mishaps_at handed by call heirs 0 t
+pub open-behind : (handed : Handed) (by : ℕ) (call : Call) (heirs : List ℕ) (e : Event) (n : ℕ) (t : Table) →
+    e.number < n → open_at handed by call heirs (Some e) n t ≡ mishaps_at handed by call heirs 0 t
 open-behind handed by call heirs e n t lt =
     ap (λ (b : Bool). if b then [] else if n == e.number then beside handed by call heirs e.mishap t else mishaps_at handed by call heirs 0 t) (le-ltb n e.number (omega (arith, lt)))
     ∙ ap (λ (b : Bool). if b then beside handed by call heirs e.mishap t else mishaps_at handed by call heirs 0 t) (eqb-off n e.number (behind e.number n lt))
 
 -- at its own call what is open beside it
-pub open-beside : (handed : Handed) (by : ℕ) (call : Call) (heirs : List ℕ) (e : Event) (n : ℕ) (t : Table) → n ≡ e.number → open_at handed by call heirs (Some e) n t ≡ beside handed by call heirs e.mishap t
+pub open-beside : (handed : Handed) (by : ℕ) (call : Call) (heirs : List ℕ) (e : Event) (n : ℕ) (t : Table) →
+    n ≡ e.number → open_at handed by call heirs (Some e) n t ≡ beside handed by call heirs e.mishap t
 open-beside handed by call heirs e n t is =
     ap (λ (b : Bool). if b then [] else if n == e.number then beside handed by call heirs e.mishap t else mishaps_at handed by call heirs 0 t) (le-ltb n e.number (omega (arith, is)))
     ∙ ap (λ (b : Bool). if b then beside handed by call heirs e.mishap t else mishaps_at handed by call heirs 0 t) (eqb-refl n e.number is)

@@ -8,17 +8,15 @@ use Rattle.vocabulary.specs.declared.plans.Order.{Order}
 use Rattle.vocabulary.specs.declared.reports.Entry.{Entry}
 use Rattle.vocabulary.specs.declared.targets.Target.{Target}
 use Rattle.definitions.specs.Table.{Table}
-use Rattle.definitions.specs.Record.{Record}
-use Rattle.definitions.specs.Exits.{losses_of}
-use Rattle.definitions.specs.Calls.{Call, Stepped, step_with, Handed}
+use Rattle.definitions.specs.Master.{Record, Sides, sides_of, handover_for}
+use Rattle.definitions.specs.Calls.{losses_of, Call, Stepped, step_with, Handed}
 use Rattle.vocabulary.specs.declared.calls.Answer.TheVariants as answer
-use Rattle.call_laws.specs.Pieces.{branch}
-use Rattle.definitions.specs.Tree.{Tree, Branches, Ends, Does, Nothing, Branch, Reply, among, reply_of, call_of}
+use Rattle.call_laws.specs.Pieces.{branch, among, lacked_last, quiet, with_entry, answered, noted}
+use Rattle.definitions.specs.Run.{Tree, Branches, Ends, Does, Nothing, Branch, Reply, reply_of, call_of, Lack}
+use Rattle.definitions.specs.Run.{lacked_by, Moment, Pattern, Progress, Ran, run_with, goes_with, after_moment}
+use Rattle.definitions.specs.Run.{after_call, outcome_of, report_of}
 use Rattle.definitions.specs.Plans.{Turn}
-use Rattle.definitions.specs.Run.{Sides, Lack, lacked_by, lacked_last}
 use Rattle.plan_walk.specs.Path.{Trail, Asks, rest_after}
-use Rattle.definitions.specs.Run.{Moment, quiet, Pattern, Progress, Ran, run_with, goes_with, with_entry, answered, noted, after_moment, after_call, outcome_of, report_of}
-use Rattle.definitions.specs.Target.{sides_of, handover_for}
 use Rattle.kernel_pattern.specs.Pattern.{with_exit}
 use Rattle.explorer.specs.declared.events.Event.{Event}
 use Rattle.explorer.specs.declared.events.Mishap.TheVariants.{Exit}
@@ -51,7 +49,8 @@ noted-calls None p = refl
 noted-calls (Some n) p = refl
 
 mutual
-  same-run : (handed : Handed) (tree : Tree) (a b : Pattern) (p : Progress) → ((m : ℕ) → p.calls < m → a m ≡ b m) → run_with handed tree a p ≡ run_with handed tree b p
+  same-run : (handed : Handed) (tree : Tree) (a b : Pattern) (p : Progress) → ((m : ℕ) → p.calls < m → a m ≡ b m) →
+      run_with handed tree a p ≡ run_with handed tree b p
   same-run handed (Ends end) a b p same = refl
   same-run handed (Does by order set branches) a b p same =
       let m = b (p.calls + 1) in
@@ -61,7 +60,8 @@ mutual
       ∙ ap (with_entry (record { by = by; call = call_of order (lacked_by by middle.lacked); answer = s.answer }) p middle)
       (same-goes handed branches (reply_of set s.answer) a b (after_call by order set s middle) (λ k lt. same k (omega (arith, lt))))
 
-  same-goes : (handed : Handed) (bs : Branches) (r : Reply) (a b : Pattern) (p : Progress) → ((m : ℕ) → p.calls < m → a m ≡ b m) → goes_with handed bs r a p ≡ goes_with handed bs r b p
+  same-goes : (handed : Handed) (bs : Branches) (r : Reply) (a b : Pattern) (p : Progress) →
+      ((m : ℕ) → p.calls < m → a m ≡ b m) → goes_with handed bs r a p ≡ goes_with handed bs r b p
   same-goes handed Nothing r a b p same = refl
   same-goes handed (Branch replies said rest more) r a b p same =
       elim (among replies r) as (λ c. elim c as (λ _. Ran) [ true ↦ run_with handed rest a (noted said p) | false ↦ goes_with handed more r a p ]
@@ -70,7 +70,8 @@ mutual
         | false ↦ same-goes handed more r a b p same
       ]
 
-same-rest : (handed : Handed) (rest : Option Tree) (a b : Pattern) (p : Progress) → ((m : ℕ) → p.calls < m → a m ≡ b m) → rest_run handed rest a p ≡ rest_run handed rest b p
+same-rest : (handed : Handed) (rest : Option Tree) (a b : Pattern) (p : Progress) →
+    ((m : ℕ) → p.calls < m → a m ≡ b m) → rest_run handed rest a p ≡ rest_run handed rest b p
 same-rest handed None a b p same = refl
 same-rest handed (Some tree) a b p same = same-run handed tree a b p same
 
@@ -89,7 +90,13 @@ behind-entry : (x : Entry) (before middle : Progress) (a b : Ran) → a ≡ with
 behind-entry x before middle a b e = record { ending = ap (λ (ran : Ran). ran.ending) e; last = ap (λ (ran : Ran). ran.last) e }
 
 reports : (sides : Sides) (a b : Ran) → EndsAlike a b → report_of sides a ≡ report_of sides b
-reports sides a b e = λ i. record { outcome = outcome_of sides (e.ending i) (lacked_last (e.last i).lacked); cause = (e.last i).cause; note = (e.last i).note; ready = (e.last i).ready }
+reports sides a b e =
+    λ i. record {
+      outcome = outcome_of sides (e.ending i) (lacked_last (e.last i).lacked);
+      cause = (e.last i).cause;
+      note = (e.last i).note;
+      ready = (e.last i).ready;
+    }
 
 ---- One exit
 
@@ -112,7 +119,8 @@ module _ (handed : Handed) (g : Generation) (k : ℕ) where
   leaving = with_exit worker quiet
 
   -- the exit before a call that passes the worker by, and behind it
-  module _ (by : ℕ) (order : Order) (set : List ℕ) (branches : Branches) (p : Progress) (passes : passes_by (call_of order (lacked_by by p.lacked)) worker ≡ true) where
+  module _ (by : ℕ) (order : Order) (set : List ℕ) (branches : Branches) (p : Progress)
+      (passes : passes_by (call_of order (lacked_by by p.lacked)) worker ≡ true) where
     abbrev plain : Stepped
     plain = step_with handed by (call_of order (lacked_by by p.lacked)) None p.table
 
@@ -134,7 +142,8 @@ module _ (handed : Handed) (g : Generation) (k : ℕ) where
         ∙ onward-exit (branch branches (reply_of set plain.answer)) (worker ∷ []) (after_call by order set plain (after_moment [] p))
 
   -- From there on the run in which it has exited is that in which it exits next.
-  joined : (rest : Option Tree) (ls : List Lack) (e : Entry) (x : Progress) (a b : Pattern) → Asks rest ls e → a (x.calls + 1) ≡ quiet → b (x.calls + 1) ≡ leaving →
+  joined : (rest : Option Tree) (ls : List Lack) (e : Entry) (x : Progress) (a b : Pattern) → Asks rest ls e →
+      a (x.calls + 1) ≡ quiet → b (x.calls + 1) ≡ leaving →
       ((m : ℕ) → x.calls + 1 < m → a m ≡ b m) → EndsAlike (rest_run handed rest a (after_moment (worker ∷ []) x)) (rest_run handed rest b x)
   joined None ls e x a b asks here there behind = absurd asks
   joined (Some (Ends end)) ls e x a b asks here there behind = absurd asks
@@ -144,9 +153,12 @@ module _ (handed : Handed) (g : Generation) (k : ℕ) where
       let rest = rest_after (found handed by order set branches x leaving) in
       let on = further handed by order set branches x leaving in
       let same : further handed by order set branches y quiet ≡ on =
-      ap (λ (z : Progress). onward (found handed by order set branches x leaving) (after_call by order set (stepped handed by order set branches x leaving) z)) (no-exit y) in
+      ap (λ (z : Progress). onward (found handed by order set branches x leaving)
+      (after_call by order set (stepped handed by order set branches x leaving) z)) (no-exit y) in
       let calls = further-calls handed by order set branches x leaving in
-      let one = behind-entry _ _ _ (run_with handed tree a y) (rest_run handed rest a (further handed by order set branches y quiet)) (runs-on handed by order set branches y a quiet here) in
+      let one = behind-entry _ _ _ (run_with handed tree a y)
+      (rest_run handed rest a (further handed by order set branches y quiet))
+      (runs-on handed by order set branches y a quiet here) in
       let two = behind-entry _ _ _ (run_with handed tree b x) (rest_run handed rest b on) (runs-on handed by order set branches x b leaving there) in
       let between : rest_run handed rest a (further handed by order set branches y quiet) ≡ rest_run handed rest b on =
       ap (rest_run handed rest a) same ∙ same-rest handed rest a b on (λ m lt. behind m (omega (arith, lt, calls))) in
@@ -158,9 +170,12 @@ quiet-but : (e : Event) (m : ℕ) → m ≢ e.number → pattern_of (One e) m �
 quiet-but e m not = other e (λ _. quiet) m not
 
 -- The run in which a worker exits before a call that passes it by is that in which it exits before the next call.
-later-exit : (r : Record) (to : Target) (turns : List Turn) (t : Table) (n : ℕ) (heirs : List ℕ) (rest : Option Tree) (p : Progress) (e : Entry) (ls : List Lack) (next : Entry) (g : Generation) (k q : ℕ) →
-    HasCome r to turns t (pattern_of NothingTried) n rest heirs p → Asks rest p.lacked e → passes_by e.call (name.Worker g k) ≡ true → Asks (rest_moved (handover_for r to) rest quiet p) ls next →
-    report_under r to turns t (One (event_at (n + 1) (Exit (name.Worker g k) q))) ≡ report_under r to turns t (One (event_at (n + 1 + 1) (Exit (name.Worker g k) q)))
+later-exit : (r : Record) (to : Target) (turns : List Turn) (t : Table) (n : ℕ) (heirs : List ℕ) (rest : Option Tree)
+    (p : Progress) (e : Entry) (ls : List Lack) (next : Entry) (g : Generation) (k q : ℕ) →
+    HasCome r to turns t (pattern_of NothingTried) n rest heirs p → Asks rest p.lacked e →
+    passes_by e.call (name.Worker g k) ≡ true → Asks (rest_moved (handover_for r to) rest quiet p) ls next →
+    report_under r to turns t (One (event_at (n + 1) (Exit (name.Worker g k) q)))
+    ≡ report_under r to turns t (One (event_at (n + 1 + 1) (Exit (name.Worker g k) q)))
 later-exit r to turns t n heirs None p e ls next g k q come asks passes more = absurd asks
 later-exit r to turns t n heirs (Some (Ends end)) p e ls next g k q come asks passes more = absurd asks
 later-exit r to turns t n heirs (Some (Does by order set branches)) p e ls next g k q come asks passes more =
@@ -172,7 +187,8 @@ later-exit r to turns t n heirs (Some (Does by order set branches)) p e ls next 
     let b = pattern_of (One second) in
     let x = further handed by order set branches p quiet in
     let rest = rest_after (found handed by order set branches p quiet) in
-    let passes' : passes_by (call_of order (lacked_by by p.lacked)) (name.Worker g k) ≡ true = ap (λ (c : Call). passes_by c (name.Worker g k)) (sym asks.1) ∙ passes in
+    let passes' : passes_by (call_of order (lacked_by by p.lacked)) (name.Worker g k)
+    ≡ true = ap (λ (c : Call). passes_by c (name.Worker g k)) (sym asks.1) ∙ passes in
     let calls = further-calls handed by order set branches p quiet in
     let at-first : a (p.calls + 1) ≡ leaving handed g k = at-event first (λ _. quiet) (p.calls + 1) (omega (arith, come.calls)) in
     let before : b (p.calls + 1) ≡ quiet = quiet-but second (p.calls + 1) (omega (arith, come.calls)) in
@@ -180,16 +196,24 @@ later-exit r to turns t n heirs (Some (Does by order set branches)) p e ls next 
     (behind-entry _ _ _ (run_with handed tree a p) _ (runs-on handed by order set branches p a (leaving handed g k) at-first)) in
     let two = alike-on _ _ _ (come.ends b (same-before second (λ _. quiet) n (omega arith)))
     (behind-entry _ _ _ (run_with handed tree b p) _ (runs-on handed by order set branches p b quiet before)) in
-    let onto : rest_run handed (rest_after (found handed by order set branches p (leaving handed g k))) a (further handed by order set branches p (leaving handed g k)) ≡ rest_run handed rest a (after_moment (name.Worker g k ∷ []) x) =
+    let onto : rest_run handed (rest_after (found handed by order set branches p (leaving handed g k))) a
+    (further handed by order set branches p (leaving handed g k))
+    ≡ rest_run handed rest a (after_moment (name.Worker g k ∷ []) x) =
     λ i. rest_run handed (rest_after (found-same handed g k by order set branches p passes' i)) a (further-same handed g k by order set branches p passes' i) in
-    let join = joined handed g k rest ls next x a b more (quiet-but first (x.calls + 1) (omega (arith, calls, come.calls))) (at-event second (λ _. quiet) (x.calls + 1) (omega (arith, calls, come.calls)))
+    let join = joined handed g k rest ls next x a b more
+    (quiet-but first (x.calls + 1) (omega (arith, calls, come.calls)))
+    (at-event second (λ _. quiet) (x.calls + 1) (omega (arith, calls, come.calls)))
     (λ m lt. quiet-but first m (omega (arith, lt, calls, come.calls)) ∙ sym (quiet-but second m (omega (arith, lt, calls, come.calls)))) in
     reports (sides_of r to) _ _ (alike-on _ _ _ (alike-on _ _ _ one (alike _ _ onto)) (alike-on _ _ _ join (alike-back _ _ two)))
 
 -- What is known of an exit before the call that is due is so of the exit before the next one, where the call passes the worker by.
-pub known-later : (run : Position) (due : Due) (after : Position) (p : Progress) (by : ℕ) (call : Call) (name : Name) (q : ℕ) → IsAt run p → AsksFor (trail_on run.course) due.by due.call → run.tried ≡ NothingTried →
+pub known-later : (run : Position) (due : Due) (after : Position) (p : Progress) (by : ℕ) (call : Call) (name : Name)
+    (q : ℕ) → IsAt run p → AsksFor (trail_on run.course) due.by due.call → run.tried ≡ NothingTried →
     IsLater run due quiet after → AsksFor (trail_on after.course) by call → passes_by due.call name ≡ true →
-    report_under run.state.now run.target.now (turns_of run.course) run.first.now.table (One (event_at (run.made + 1) (Exit name q))) ≡ report_under after.state.now after.target.now (turns_of after.course) after.first.now.table (One (event_at (after.made + 1) (Exit name q)))
+    report_under run.state.now run.target.now (turns_of run.course) run.first.now.table
+    (One (event_at (run.made + 1) (Exit name q)))
+    ≡ report_under after.state.now after.target.now (turns_of after.course) after.first.now.table
+    (One (event_at (after.made + 1) (Exit name q)))
 known-later run due after p by call (name.Worker g k) q at asks tried is next passes =
     let r = run.state.now in
     let to = run.target.now in
@@ -200,6 +224,7 @@ known-later run due after p by call (name.Worker g k) q at asks tried is next pa
     subst (λ rest. Asks rest (trail_on after.course).lacked (record { by = by; call = call; answer = answer.Fine })) (is.rest p at) (next answer.Fine) in
     let come = subst (λ (x : Tried). HasCome r to (turns_of run.course) run.first.now.table (pattern_of x) run.made T.rest (listed run.heir) p) tried at.come in
     later-exit r to (turns_of run.course) run.first.now.table run.made (listed run.heir) T.rest p e _ _ g k q come here passes there
-    ∙ (λ i. report_under (sym is.state i) (sym is.target i) (sym is.turns i) (sym is.first i).table (One (event_at (sym is.made i + 1) (Exit (name.Worker g k) q))))
+    ∙ (λ i. report_under (sym is.state i) (sym is.target i) (sym is.turns i) (sym is.first i).table
+    (One (event_at (sym is.made i + 1) (Exit (name.Worker g k) q))))
 known-later run due after p by call (name.Draining g k) q at asks tried is next passes = absurd (cc passes)
 known-later run due after p by call (name.Master i) q at asks tried is next passes = absurd (cc passes)

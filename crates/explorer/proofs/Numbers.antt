@@ -6,14 +6,18 @@ use Rattle.vocabulary.specs.declared.names.Name.{Name}
 use Rattle.vocabulary.specs.declared.names.Name.TheVariants as name
 use Rattle.vocabulary.specs.declared.calls.Answer.{Answer}
 use Rattle.vocabulary.specs.declared.calls.Call.{Call}
-use Rattle.vocabulary.specs.declared.calls.Call.TheVariants.{OpenAt, CloseAt, Fork, AwaitReady, Quit, Kill, Census, AwaitGone, SpawnMaster, Adopt, WritePid, MovePid, RemovePid, Alive, Leave, Usr1, TermMaster, Ask}
-use Rattle.definitions.specs.Table.{FilePath, Hold, Starting, Process, Master, Worker, Foreign, Table, number_of, is_active, is_starting, is_exited, is_any, is_draining, is_named, is_worker, is_held, is_live_master, Caller, live_master, owner_at}
-use Rattle.definitions.specs.Exits.{change, made_exited, without_exited, caller_exits, exited, all_exited, after_exits}
+use Rattle.vocabulary.specs.declared.calls.Call.TheVariants.{OpenAt, CloseAt, Fork, AwaitReady, Quit, Kill, Census}
+use Rattle.vocabulary.specs.declared.calls.Call.TheVariants.{AwaitGone, SpawnMaster, Adopt, WritePid, MovePid}
+use Rattle.vocabulary.specs.declared.calls.Call.TheVariants.{RemovePid, Alive, Leave, Usr1, TermMaster, Ask}
+use Rattle.definitions.specs.Table.{FilePath, Hold, Starting, Process, Master, Worker, Foreign, Table, number_of}
+use Rattle.definitions.specs.Table.{is_active, is_worker, is_held, Caller, live_master, owner_at, IsAscending}
+use Rattle.call_laws.specs.Pieces.{is_named, is_live_master, is_starting, is_exited, is_any, is_draining, made_exited}
+use Rattle.call_laws.specs.Pieces.{caller_exits, made_ready, made_draining, lacks_address, is_row, moved_if}
+use Rattle.call_laws.specs.Pieces.{asked_alive, fault_or_own, without_master, fault_at}
+use Rattle.definitions.specs.Calls.{change, without_exited, exited, all_exited, after_exits, Fate, Stepped, with_holds}
+use Rattle.definitions.specs.Calls.{drop_where, with_new_row, put_hold, lowest_free, shared, has_process_room, is_of}
+use Rattle.definitions.specs.Calls.{is_exited_of, is_image, is_of_image, own_step, step_by, step_with, suits, Handed}
 use Rattle.std.specs.Bool.{then_some}
-use Rattle.definitions.specs.Calls.{Fate, Stepped, with_holds, made_ready, made_draining, drop_where, with_new_row, lacks_address, put_hold, lowest_free, shared, suits, has_process_room, is_row, is_of, is_exited_of, is_image, is_of_image, moved_if, asked_alive, own_step, fault_or_own, step_by, step_with}
-use Rattle.call_laws.specs.Pieces.{without_master, fault_at}
-use Rattle.definitions.specs.Table.{IsAscending}
-use Rattle.definitions.specs.Calls.{Handed}
 use Rattle.kernel_table.proofs.Keeping.{Becomes, Becomes-filter_map, Becomes-first_changed, says-change, says-dropped}
 use Rattle.kernel_model.proofs.CallSteps.{ascending-append}
 
@@ -74,7 +78,9 @@ same-without gone lives (Worker n q g k s hs) = at (q == gone)
 same-without gone lives (Foreign n hs) = refl
 same-without gone lives (Master n q i live hs) = at (n == gone)
   where
-    at : (b : Bool) → IfSome (cond b (then_some (lives q) (Master n q i false [])) (Some (Master n (cond (q == gone) 1 q) i live hs))) (IsSame (Master n q i live hs))
+    at : (b : Bool) →
+        IfSome (cond b (then_some (lives q) (Master n q i false [])) (Some (Master n (cond (q == gone) 1 q) i live hs)))
+        (IsSame (Master n q i live hs))
     at true = kept (lives q) (Master n q i live hs) (Master n q i false []) refl
     at false = refl
 
@@ -155,9 +161,11 @@ module _ (handed : Handed) (image : ℕ) (c : Caller) (t : Table) (h : Rises t) 
   faulted None call = own call
   faulted (Some a) call = h
 
-by-caller : (handed : Handed) (image : ℕ) (c : Option Caller) (call : Call) (f : Option Fate) (t : Table) → Rises t → (let z : Stepped = step_by handed image c call f t in Rises z.table)
+by-caller : (handed : Handed) (image : ℕ) (c : Option Caller) (call : Call) (f : Option Fate) (t : Table) → Rises t →
+    (let z : Stepped = step_by handed image c call f t in Rises z.table)
 by-caller handed image None call f t h = h
 by-caller handed image (Some c) call f t h = faulted handed image c t h (fault_at c call f t) call
 
-pub rises-step : (handed : Handed) (image : ℕ) (call : Call) (f : Option Fate) (t : Table) → Rises t → (let z : Stepped = step_with handed image call f t in Rises z.table)
+pub rises-step : (handed : Handed) (image : ℕ) (call : Call) (f : Option Fate) (t : Table) → Rises t →
+    (let z : Stepped = step_with handed image call f t in Rises z.table)
 rises-step handed image call f t h = by-caller handed image (live_master image t.rows) call f t h

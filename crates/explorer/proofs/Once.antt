@@ -1,5 +1,6 @@
 -- No run comes twice.
-use Rattle.std.proofs.Common.{◌≡◌, ◌≢◌, ◌≤◌, ◌<◌, ◌+◌, inl, inr, ℕ, zero, suc, Bool, true, false, cond, List, [], ◌∷◌, ◌++◌, map, Option, Some, None, refl, ap, sym, ◌∙◌, subst, arith}
+use Rattle.std.proofs.Common.{◌≡◌, ◌≢◌, ◌≤◌, ◌<◌, ◌+◌, inl, inr, ℕ, zero, suc, Bool, true, false, cond, List, [], ◌∷◌}
+use Rattle.std.proofs.Common.{◌++◌, map, Option, Some, None, refl, ap, sym, ◌∙◌, subst, arith}
 use Rattle.std.specs.Prelude.{◌==◌, ◌&&◌, nat_lt, IfSome, ⊤}
 use Rattle.std.specs.List.{All, AllPairs, AllByRecursion, filter, filter_map, cons_option}
 use Rattle.std.proofs.lemmas.Bool.{ltb-true, ltb-false, eqb-true, eqb-false, cond_both}
@@ -9,15 +10,13 @@ use Rattle.vocabulary.specs.declared.names.Name.{Name}
 use Rattle.vocabulary.specs.declared.names.Name.TheVariants as name
 use Rattle.vocabulary.specs.declared.calls.Fate.TheVariants as fate
 use Rattle.vocabulary.specs.declared.targets.Target.{Target}
-use Rattle.definitions.specs.Table.{Process, Master, Worker, Foreign, Table, number_of, is_active}
-use Rattle.definitions.specs.Record.{Record}
+use Rattle.definitions.specs.Table.{Process, Master, Worker, Foreign, Table, number_of, is_active, IsFormed}
+use Rattle.definitions.specs.Table.{IsAscending}
+use Rattle.definitions.specs.Master.{Record, handover_for}
 use Rattle.definitions.specs.Plans.{Turn}
-use Rattle.definitions.specs.Exits.{after_exits}
-use Rattle.definitions.specs.Calls.{Call, Fate, step_with, Handed}
+use Rattle.definitions.specs.Calls.{after_exits, Call, Fate, step_with, Handed}
 use Rattle.definitions.specs.Run.{Entry, Pattern}
-use Rattle.definitions.specs.Target.{handover_for}
 use Rattle.definitions.specs.Claims.{run_of, heirs_of}
-use Rattle.definitions.specs.Table.{IsFormed, IsAscending}
 use Rattle.kernel_model.specs.Readers.{row_of}
 use Rattle.explorer.specs.declared.events.Mishap.{Mishap}
 use Rattle.explorer.specs.declared.events.Mishap.TheVariants.{Exit, Fail}
@@ -142,7 +141,9 @@ module _ (heirs : List ℕ) (least : ℕ) where
   are-exits [] = tt
   are-exits (p ∷ rows) = at (exit_of heirs least (row_of p)) (exit-is p) (are-exits rows)
     where
-      at : (o : Option Mishap) → IfSome o (IsExitOf least (number_of p)) → AllByRecursion (IsExitAbove least) (exits rows) → AllByRecursion (IsExitAbove least) (cons_option o (exits rows))
+      at : (o : Option Mishap) → IfSome o (IsExitOf least (number_of p)) →
+          AllByRecursion (IsExitAbove least) (exits rows) →
+          AllByRecursion (IsExitAbove least) (cons_option o (exits rows))
       at None is rest = rest
       at (Some m) is rest = (is.0, rest)
 
@@ -154,7 +155,9 @@ module _ (heirs : List ℕ) (least : ℕ) where
   exits-rise [] a next h = tt
   exits-rise (p ∷ rows) a next h = at (exit_of heirs least (row_of p)) (exit-is p) (exits-rise rows (number_of p + 1) next h.1)
     where
-      at : (o : Option Mishap) → IfSome o (IsExitOf least (number_of p)) → RisesFrom (number_of p + 1) (map process_in (exits rows)) → RisesFrom a (map process_in (cons_option o (exits rows)))
+      at : (o : Option Mishap) → IfSome o (IsExitOf least (number_of p)) →
+          RisesFrom (number_of p + 1) (map process_in (exits rows)) →
+          RisesFrom a (map process_in (cons_option o (exits rows)))
       at None is rest = lower a (number_of p + 1) (map process_in (exits rows)) (omega (arith, h.0)) rest
       at (Some m) is rest = (omega (arith, h.0, is.1), subst (λ n. RisesFrom (n + 1) (map process_in (exits rows))) (sym is.1) rest)
 
@@ -227,7 +230,8 @@ met-differ handed last q heirs n t (e ∷ es) h =
           (weaken (IsLater (n + 1)) (IsLater n) (λ y lt. omega (arith, lt)) behind rest.1),
     )
 
-met-behind : (handed : Handed) (first : Event) (q : Pattern) (heirs : List ℕ) (n : ℕ) (t : Table) (entries : List Entry) → AllByRecursion (IsBehind first) (met handed (Some first) q heirs n t entries)
+met-behind : (handed : Handed) (first : Event) (q : Pattern) (heirs : List ℕ) (n : ℕ) (t : Table)
+    (entries : List Entry) → AllByRecursion (IsBehind first) (met handed (Some first) q heirs n t entries)
 met-behind handed first q heirs n t [] = tt
 met-behind handed first q heirs n t (e ∷ es) =
     let moment = q (n + 1) in
@@ -250,17 +254,20 @@ module _ (r : Record) (target : Target) (turns : List Turn) (t : Table) (pairs :
   abbrev second : Event → List Event
   second e = events_after r target turns t (One e)
 
-  with-all : (P : Tried → Type 0) (e : Event) → P (One e) → AllByRecursion (λ f. P (Two e f)) (second e) → AllByRecursion P (with_pairs r target turns t pairs e)
+  with-all : (P : Tried → Type 0) (e : Event) → P (One e) → AllByRecursion (λ f. P (Two e f)) (second e) →
+      AllByRecursion P (with_pairs r target turns t pairs e)
   with-all P e one two = (one, cond_both pairs (map (Two e) (second e)) [] (AllByRecursion P) (λ is. all-map P (Two e) (second e) two) (λ is. tt))
 
-  each-all : (P : Tried → Type 0) → ((e : Event) → AllByRecursion P (with_pairs r target turns t pairs e)) → (es : List Event) → AllByRecursion P (each_with_pairs r target turns t pairs es)
+  each-all : (P : Tried → Type 0) → ((e : Event) → AllByRecursion P (with_pairs r target turns t pairs e)) →
+      (es : List Event) → AllByRecursion P (each_with_pairs r target turns t pairs es)
   each-all P h [] = tt
   each-all P h (e ∷ es) = all-append P (with_pairs r target turns t pairs e) (each_with_pairs r target turns t pairs es) (h e) (each-all P h es)
 
   begins : (e : Event) → AllByRecursion (λ x. first_of x ≡ Some e) (with_pairs r target turns t pairs e)
   begins e = with-all (λ x. first_of x ≡ Some e) e refl (everywhere (λ f. first_of (Two e f) ≡ Some e) (λ f. refl) (second e))
 
-  begins-else : (e : Event) (es : List Event) → AllByRecursion (λ d. e ≢ d) es → AllByRecursion (λ x. first_of x ≢ Some e) (each_with_pairs r target turns t pairs es)
+  begins-else : (e : Event) (es : List Event) → AllByRecursion (λ d. e ≢ d) es →
+      AllByRecursion (λ x. first_of x ≢ Some e) (each_with_pairs r target turns t pairs es)
   begins-else e [] h = tt
   begins-else e (d ∷ ds) h =
       all-append (λ x. first_of x ≢ Some e) (with_pairs r target turns t pairs d) (each_with_pairs r target turns t pairs ds)
@@ -277,7 +284,8 @@ module _ (r : Record) (target : Target) (turns : List Turn) (t : Table) (pairs :
         (λ is. (
           all-map (λ y. One e ≢ y) (Two e) es (everywhere (λ f. One e ≢ Two e f) (λ f same. cc) es),
           differ-map (Two e) (λ x y same. cc) es
-              (met-differ (handover_for r target) (Some e) (pattern_of (One e)) (heirs_of r target) 0 t (run_of r target turns (pattern_of (One e)) t).entries rises).0,
+              (met-differ (handover_for r target) (Some e) (pattern_of (One e)) (heirs_of r target) 0 t
+              (run_of r target turns (pattern_of (One e)) t).entries rises).0,
         ))
         (λ is. (tt, tt))
 
@@ -300,12 +308,14 @@ module _ (r : Record) (target : Target) (turns : List Turn) (t : Table) (pairs :
   ordered : (e : Event) → AllByRecursion IsInOrder (with_pairs r target turns t pairs e)
   ordered e = with-all IsInOrder e tt (met-behind (handover_for r target) e (pattern_of (One e)) (heirs_of r target) 0 t (run_of r target turns (pattern_of (One e)) t).entries)
 
-few : (r : Record) (target : Target) (turns : List Turn) (t : Table) (pairs : Bool) (e : Event) → AllByRecursion (λ x. events_in x ≤ most_events pairs) (with_pairs r target turns t pairs e)
+few : (r : Record) (target : Target) (turns : List Turn) (t : Table) (pairs : Bool) (e : Event) →
+    AllByRecursion (λ x. events_in x ≤ most_events pairs) (with_pairs r target turns t pairs e)
 few r target turns t true e =
     with-all r target turns t true (λ x. events_in x ≤ 2) e (omega arith) (everywhere (λ f. events_in (Two e f) ≤ 2) (λ f. omega arith) (second r target turns t true e))
 few r target turns t false e = (omega arith, tt)
 
-pub all-once : (r : Record) (target : Target) (turns : List Turn) (t : Table) (pairs : Bool) → IsFormed t → AreOnce (most_events pairs) (all_tried r target turns t pairs)
+pub all-once : (r : Record) (target : Target) (turns : List Turn) (t : Table) (pairs : Bool) → IsFormed t →
+    AreOnce (most_events pairs) (all_tried r target turns t pairs)
 all-once r target turns t pairs formed =
     let es = events_after r target turns t Nothing in
     record {

@@ -8,10 +8,14 @@ use Rattle.listener_set.specs.declared.generation.Generation.{Generation}
 use Rattle.vocabulary.specs.declared.names.Name.TheVariants as name
 use Rattle.vocabulary.specs.declared.table.Stance.{Stance}
 use Rattle.vocabulary.specs.declared.table.Stance.TheVariants.{Starting, Ready, Draining, Exited}
-use Rattle.definitions.specs.Table.{Process, Master, Worker, Foreign, Table, Caller, caller_if, live_master, bears, same_generation, with_rows, is_own, is_any, is_active, is_starting, is_exited, is_named, is_worker}
-use Rattle.definitions.specs.Exits.{change, made_exited, after_exits, losses_of, is_active_worker}
-use Rattle.definitions.specs.Calls.{Stepped, Answer, Call, OpenAt, CloseAt, Fork, AwaitReady, Quit, Kill, Census, AwaitGone, SpawnMaster, Adopt, WritePid, MovePid, RemovePid, Alive, Leave, Usr1, TermMaster, Ask, step_with, step_by, own_step, gives, each_row, drop_where, made_ready, made_draining, has_process_room, with_new_row, shared}
-use Rattle.definitions.specs.Calls.{Handed}
+use Rattle.definitions.specs.Table.{Process, Master, Worker, Foreign, Table, Caller, live_master, bears, same_generation, is_own, is_active, is_worker}
+use Rattle.call_laws.specs.Pieces.{is_named, caller_if, with_rows, is_any, is_starting, is_exited, made_exited}
+use Rattle.call_laws.specs.Pieces.{made_ready, made_draining}
+use Rattle.definitions.specs.Calls.{change, after_exits, losses_of, is_active_worker, Stepped, Answer, Call, OpenAt}
+use Rattle.definitions.specs.Calls.{CloseAt, Fork, AwaitReady, Quit, Kill, Census, AwaitGone, SpawnMaster, Adopt}
+use Rattle.definitions.specs.Calls.{WritePid, MovePid, RemovePid, Alive, Leave, Usr1, TermMaster, Ask, step_with}
+use Rattle.definitions.specs.Calls.{step_by, own_step, gives, each_row, drop_where, has_process_room, with_new_row}
+use Rattle.definitions.specs.Calls.{shared, Handed}
 use Rattle.vocabulary.specs.declared.calls.Answer.TheVariants as answer
 use Rattle.table_laws.proofs.Rows.{one, worth, weigh, change-same, count-weigh, weigh-append, every-any, both-true}
 use Rattle.call_laws.proofs.Choices.{pick, and-left, and-right}
@@ -130,7 +134,8 @@ module _ (g : Generation) (k : ℕ) where
   same-master image (Worker n q a b s hs ∷ ps) = pick (λ x. live_master image (x ∷ filter_map exits ps) ≡ live_master image ps) (is_named is_active g k (Worker n q a b s hs)) (made_exited (Worker n q a b s hs)) (Worker n q a b s hs) (λ e. same-master image ps) (λ e. same-master image ps)
   same-master image (Foreign n hs ∷ ps) = same-master image ps
 
-  kept-change : (test : Process → Bool) (m : Process → Process) → IsOfOthers test → Renames test m → (ps : List Process) → weigh at_stake (filter_map (change test m) ps) ≡ weigh at_stake ps
+  kept-change : (test : Process → Bool) (m : Process → Process) → IsOfOthers test → Renames test m →
+      (ps : List Process) → weigh at_stake (filter_map (change test m) ps) ≡ weigh at_stake ps
   kept-change test m others renames ps = change-same (λ p. ⊤) at_stake (change test m)
       (λ p x. pick (λ y. at_stake y ≡ at_stake p) (test p) (m p) p (λ is. ap one (renames p is) ∙ sym (ap one (unnamed test others p is))) (λ is. refl)) ps (every-any ps)
 
@@ -143,7 +148,10 @@ module _ (g : Generation) (k : ℕ) where
   lost-row : (p : Process) → one (is_active_worker p) ≡ one (is_active_worker (gone p)) + at_stake p
   lost-row (Worker n q a b s hs) = go s (bears g k a b)
     where
-      go : (s : Stance) (x : Bool) → one (is_active s) ≡ one (is_active_worker (if is_active s && x then Worker n q a b Exited [] else Worker n q a b s hs)) + one (is_active s && x)
+      go : (s : Stance) (x : Bool) →
+          one (is_active s)
+          ≡ one (is_active_worker (if is_active s && x then Worker n q a b Exited [] else Worker n q a b s hs)) + one
+          (is_active s && x)
       go Starting true = refl
       go Starting false = refl
       go Ready true = refl
@@ -174,7 +182,8 @@ module _ (g : Generation) (k : ℕ) where
   each f swaps t = ap (with_rows t) (swapped f swaps t.rows)
 
   -- one of two steps, by a test that the exit does not change
-  either : (b b' : Bool) (x x' y y' : Stepped) (t : Table) → b' ≡ b → x' ≡ exited_step x → y' ≡ exited_step y → (if b' then x' else y') ≡ exited_step (if b then x else y)
+  either : (b b' : Bool) (x x' y y' : Stepped) (t : Table) → b' ≡ b → x' ≡ exited_step x → y' ≡ exited_step y →
+      (if b' then x' else y') ≡ exited_step (if b then x else y)
   either b b' x x' y y' t e f h = (λ i. if e i then f i else h i) ∙ out b
     where
       out : (b : Bool) → (if b then exited_step x else exited_step y) ≡ exited_step (if b then x else y)
@@ -249,7 +258,9 @@ module _ (g : Generation) (k : ℕ) where
       stake = omega (arith, weigh-append at_stake t.rows (new_row fds t.next_process ∷ []), ap one (unstaked fds t.next_process));
     }
 
-    forks : (fds : Option (List ℕ)) (t : Table) → Passes (λ t. if has_process_room t then gives answer.Forked (with_new_row t (new_row fds)) else gives answer.Again t) t
+    forks : (fds : Option (List ℕ)) (t : Table) →
+        Passes (λ t. if has_process_room t then gives answer.Forked (with_new_row t (new_row fds))
+        else gives answer.Again t) t
     forks fds t =
         let a = adds fds t in
         record {
@@ -304,6 +315,8 @@ module _ (g : Generation) (k : ℕ) where
           record { same = p.same; stake = p.stake }
 
 -- What a step's call loses is lost before it or behind it.
-pub same-losses : (g : Generation) (k : ℕ) (handed : Handed) (image : ℕ) (call : Call) (t : Table) → passes_by call (name.Worker g k) ≡ true → losses_of (name.Worker g k ∷ []) (step_with handed image call None t).table ≡ losses_of (name.Worker g k ∷ []) t
+pub same-losses : (g : Generation) (k : ℕ) (handed : Handed) (image : ℕ) (call : Call) (t : Table) →
+    passes_by call (name.Worker g k) ≡ true →
+    losses_of (name.Worker g k ∷ []) (step_with handed image call None t).table ≡ losses_of (name.Worker g k ∷ []) t
 same-losses g k handed image call t e =
     losses-at-stake g k (step_with handed image call None t).table ∙ (passed g k handed image call t e).stake ∙ sym (losses-at-stake g k t)

@@ -5,12 +5,12 @@ use Rattle.std.specs.Result.{IsErrOf}
 use Rattle.std.proofs.lemmas.Option.{none-some}
 use Rattle.vocabulary.specs.declared.targets.Target.{Target}
 use Rattle.definitions.specs.Table.{Table}
-use Rattle.definitions.specs.Record.{Record, Agrees}
-use Rattle.definitions.specs.Run.{Entry, Pattern, quiet}
+use Rattle.definitions.specs.Master.{Record, Agrees}
+use Rattle.definitions.specs.Run.{Entry, Pattern}
+use Rattle.call_laws.specs.Pieces.{quiet, executing_after}
 use Rattle.definitions.specs.Plans.{Turn}
 use Rattle.call_laws.specs.Lengths.{plan_length}
 use Rattle.definitions.specs.Claims.{refused_among, heirs_of, run_of}
-use Rattle.call_laws.specs.Pieces.{executing_after}
 use Rattle.kernel_model.specs.Room.{LacksNumbers}
 use Rattle.plan_executor.specs.declared.enactment.EnactRefusal.{EnactRefusal}
 use Rattle.plan_executor.specs.declared.enactment.EnactRefusal.TheVariants.{Memory, RecordDisagrees, Plan, MasterNamed, NoNumbers}
@@ -30,9 +30,12 @@ unnamed executing heirs n (e ∷ entries) = unnamed (executing_after e.call exec
 module _ (t : Table) (r : Record) (target : Target) where
   -- It is told exactly where the target is refused so in whatever section, want of memory aside.
   abbrev pub IsTold : Result (Unit {0}) Unexplored → Type 0
-  IsTold result = (why : EnactRefusal) → IsErrOf result (Enact Memory) ⊎ (IsErrOf result (Enact why) ↔ ((turns : List Turn) (pattern : Pattern) → IsRefused t r target turns pattern why))
+  IsTold result =
+      (why : EnactRefusal) → IsErrOf result (Enact Memory) ⊎
+      (IsErrOf result (Enact why) ↔ ((turns : List Turn) (pattern : Pattern) → IsRefused t r target turns pattern why))
 
-  pub told-refused : (because : EnactRefusal) (result : Result (Unit {0}) Unexplored) → IsUnprepared t r target because → result ≡ Err (Enact because) → IsTold result
+  pub told-refused : (because : EnactRefusal) (result : Result (Unit {0}) Unexplored) →
+      IsUnprepared t r target because → result ≡ Err (Enact because) → IsTold result
   told-refused because result (inl memory) is why = inl (is ∙ ap (λ (e : EnactRefusal). Err (Enact e)) memory)
   told-refused because result (inr refused) is why =
       inr (

@@ -1,7 +1,8 @@
 -- The calls of a run, one after another, and what is counted on the way.
 use Rattle.std.proofs.Common.{◌≡◌, ◌++◌, [], List, Option, sym, ap, ◌∙◌}
 use Rattle.plan_walk.specs.Path.{IsOver}
-use Rattle.definitions.specs.Run.{Progress, quiet}
+use Rattle.definitions.specs.Run.{Progress}
+use Rattle.call_laws.specs.Pieces.{quiet}
 use Rattle.plan_walk.specs.Course.{trail_on}
 use Rattle.plan_walk.specs.declared.walk.Due.{Due}
 use Rattle.explorer.specs.declared.events.Event.{Event}
@@ -22,7 +23,8 @@ module _ (start : Position) (last : Option Event) (add : List Event → Tally �
 
   -- a turn of the loop over the calls
   pub turned : (run after : Position) (due : Due) (before tally counted : Tally) → IsLater run due quiet after →
-      ((p q : Progress) → IsAt start p → IsAt run q → counted ≡ add (open_now run due quiet last) tally) → Reaches run before tally → Reaches after before counted
+      ((p q : Progress) → IsAt start p → IsAt run q → counted ≡ add (open_now run due quiet last) tally) →
+      Reaches run before tally → Reaches after before counted
   turned run after due before tally counted is here reaches p at =
       let q = reaches p at in
       let onto = after_due run quiet q.0 in
@@ -36,7 +38,8 @@ module _ (start : Position) (last : Option Event) (add : List Event → Tally �
       )
 
   -- nothing is left behind the last call
-  pub over : (run : Position) (before tally : Tally) → IsOver (trail_on run.course).rest → Reaches run before tally → (p : Progress) → IsAt start p → tally ≡ add (left start p last) before
+  pub over : (run : Position) (before tally : Tally) → IsOver (trail_on run.course).rest → Reaches run before tally →
+      (p : Progress) → IsAt start p → tally ≡ add (left start p last) before
   over run before tally ends reaches p at =
       let q = reaches p at in
       sym (counting.none tally) ∙ ap (λ (es : List Event). add es tally) (sym (left-over run q.0 last ends)) ∙ q.2

@@ -1,9 +1,10 @@
 -- Where runs branch off another one, and how they are counted.
 use Rattle.std.specs.Prelude.{◌≡◌, ◌+◌, Bool, List, map}
 use Rattle.std.specs.List.{AllByRecursion}
-use Rattle.definitions.specs.Exits.{after_exits}
-use Rattle.definitions.specs.Run.{Report, quiet}
-use Rattle.definitions.specs.Target.{handover_for}
+use Rattle.definitions.specs.Calls.{after_exits}
+use Rattle.definitions.specs.Run.{Report}
+use Rattle.call_laws.specs.Pieces.{quiet}
+use Rattle.definitions.specs.Master.{handover_for}
 use Rattle.plan_walk.specs.Course.{turns_of, trail_on}
 use Rattle.plan_walk.specs.Walk.{AsksFor}
 use Rattle.plan_executor.specs.Naming.{listed}
@@ -42,7 +43,9 @@ report_with point m = report_of_run point.run.now (One (event_here point m))
 
 -- The run in which this goes wrong at the call and, where pairs are asked for, each in which one thing more does.
 abbrev pub runs_with : BranchPoint → Bool → Mishap → List Tried
-runs_with point pairs m = with_pairs point.run.now.state.now point.run.now.target.now (turns_of point.run.now.course) point.run.now.first.now.table pairs (event_here point m)
+runs_with point pairs m =
+    with_pairs point.run.now.state.now point.run.now.target.now
+    (turns_of point.run.now.course) point.run.now.first.now.table pairs (event_here point m)
 
 -- The same for each of these events of a run.
 abbrev pub runs_with_each : Position → Bool → List Event → List Tried
@@ -61,7 +64,8 @@ abbrev pub beside_here : BranchPoint → Mishap → List Mishap
 beside_here point m =
     let run = point.run.now in
     let due = point.due.now in
-    beside (handover_for run.state.now run.target.now) due.by due.call (waiting due.call (listed run.heir)) m (after_exits (with_mishap m quiet).exits run.kernel.table)
+    beside (handover_for run.state.now run.target.now) due.by due.call (waiting due.call (listed run.heir)) m
+    (after_exits (with_mishap m quiet).exits run.kernel.table)
 
 -- The pairs of an event at the call with what more can go wrong there.
 abbrev pub pairs_beside : BranchPoint → Event → List Tried

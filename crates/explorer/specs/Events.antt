@@ -4,12 +4,11 @@ use Rattle.std.specs.List.{filter, filter_map}
 use Rattle.listener_set.specs.Numbers.{is_in}
 use Rattle.vocabulary.specs.declared.names.Name.TheVariants as name
 use Rattle.definitions.specs.Table.{Table, is_active}
-use Rattle.definitions.specs.Exits.{after_exits}
-use Rattle.definitions.specs.Calls.{Call, Fate, step_with, Handed}
+use Rattle.definitions.specs.Calls.{after_exits, Call, Fate, step_with, Handed}
 use Rattle.vocabulary.specs.Fates.{all_fates}
-use Rattle.definitions.specs.Run.{Entry, Moment, Pattern, quiet}
-use Rattle.definitions.specs.Tree.{reply_of, same_reply}
-use Rattle.definitions.specs.Manner.{is_leave_call}
+use Rattle.definitions.specs.Run.{Entry, Moment, Pattern, reply_of, same_reply}
+use Rattle.call_laws.specs.Pieces.{quiet}
+use Rattle.definitions.specs.Claims.{is_leave_call}
 use Rattle.kernel_pattern.specs.Pattern.{with_exit, with_fate}
 use Rattle.kernel_model.specs.Readers.{row_of}
 use Rattle.kernel_rows.specs.declared.process.Row.{Row}
@@ -45,7 +44,9 @@ events_in (Two e f) = 2
 
 -- A fate takes effect where the call is answered otherwise than by itself.
 abbrev pub takes_effect : Handed → ℕ → Call → Table → Fate → Bool
-takes_effect handed by call t f = not (same_reply (reply_of [] (step_with handed by call (Some f) t).answer) (reply_of [] (step_with handed by call None t).answer))
+takes_effect handed by call t f =
+    not (same_reply (reply_of [] (step_with handed by call (Some f) t).answer)
+    (reply_of [] (step_with handed by call None t).answer))
 
 -- Whose exit matters, of processes with a higher number than this: a Starting or Ready worker's, and that of a live master of
 -- one of these images.

@@ -3,10 +3,9 @@ use Rattle.std.specs.Prelude.{ℕ, ◌≡◌, ◌≢◌, ◌≤◌, ◌<◌, Boo
 use Rattle.std.specs.List.{AllPairs, AllByRecursion}
 use Rattle.vocabulary.specs.declared.targets.Target.{Target}
 use Rattle.definitions.specs.Table.{Table}
-use Rattle.definitions.specs.Record.{Record}
+use Rattle.definitions.specs.Master.{Record, sides_of, handover_for}
 use Rattle.definitions.specs.Plans.{Turn}
 use Rattle.definitions.specs.Run.{Report, report_of}
-use Rattle.definitions.specs.Target.{sides_of, handover_for}
 use Rattle.definitions.specs.Claims.{run_of, heirs_of}
 use Rattle.explorer.specs.declared.events.Mishap.{Mishap}
 use Rattle.explorer.specs.declared.events.Mishap.TheVariants.{Exit, Fail}
@@ -30,7 +29,9 @@ last_of (Two e f) = Some f
 
 -- What more can go wrong in the run in which this goes wrong: the events that it meets behind the last one.
 abbrev pub events_after : Record → Target → List Turn → Table → Tried → List Event
-events_after r target turns t tried = met (handover_for r target) (last_of tried) (pattern_of tried) (heirs_of r target) 0 t (run_of r target turns (pattern_of tried) t).entries
+events_after r target turns t tried =
+    met (handover_for r target) (last_of tried) (pattern_of tried) (heirs_of r target) 0 t
+    (run_of r target turns (pattern_of tried) t).entries
 
 -- The run in which this goes wrong and, where pairs are asked for, each in which one thing more does.
 abbrev pub with_pairs : Record → Target → List Turn → Table → Bool → Event → List Tried

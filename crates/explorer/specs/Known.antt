@@ -2,9 +2,8 @@
 use Rattle.std.specs.Prelude.{ℕ, ◌≡◌, ◌+◌, Bool, true, false, not}
 use Rattle.listener_set.specs.declared.generation.Generation.{Generation}
 use Rattle.definitions.specs.Table.{bears}
-use Rattle.definitions.specs.Exits.{Name}
+use Rattle.definitions.specs.Calls.{Name, Call, Fork, AwaitReady, Quit, Kill, AwaitGone, Usr1}
 use Rattle.vocabulary.specs.declared.names.Name.TheVariants as name
-use Rattle.definitions.specs.Calls.{Call, Fork, AwaitReady, Quit, Kill, AwaitGone, Usr1}
 use Rattle.plan_walk.specs.Course.{turns_of}
 use Rattle.explorer.specs.declared.events.Mishap.TheVariants.{Exit}
 use Rattle.explorer.specs.declared.events.Tried.TheVariants.{One}
@@ -31,7 +30,9 @@ passes_by call (name.Master i) = false
 
 -- What is known is the report of the run in which the process exits before the n-th call.
 abbrev pub IsKnownAt : Position → ℕ → Known → Type 0
-IsKnownAt run n k = k.rest.report ≡ report_under run.state.now run.target.now (turns_of run.course) run.first.now.table (One (event_at n (Exit k.name k.process)))
+IsKnownAt run n k =
+    k.rest.report ≡ report_under run.state.now run.target.now (turns_of run.course) run.first.now.table
+    (One (event_at n (Exit k.name k.process)))
 
 -- It is known of a run in which the worker exits before the next call, and the call passes it by.
 abbrev pub IsPassed : Position → Call → Known → Type 0

@@ -1,7 +1,7 @@
 -- The fewest Ready workers that are found.
 use Rattle.std.specs.Prelude.{ℕ, ◌≡◌, ◌<◌, ◌-◌, ◌^◌, List, [], ◌∷◌, Option, Some, None, Contains, ◌⊎◌, ⊤}
 use Rattle.definitions.specs.Table.{Table}
-use Rattle.definitions.specs.Exits.{Name, after_exits}
+use Rattle.definitions.specs.Calls.{Name, after_exits}
 use Rattle.explorer.specs.declared.branching.BranchPoint.{BranchPoint}
 use Rattle.explorer.specs.declared.events.Mishap.{Mishap}
 use Rattle.explorer.specs.declared.events.Mishap.TheVariants.{Exit, Fail}

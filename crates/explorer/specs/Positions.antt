@@ -5,16 +5,14 @@ use Rattle.vocabulary.specs.declared.plans.PidNote.{PidNote}
 use Rattle.vocabulary.specs.declared.targets.Target.{Target}
 use Rattle.handover_text.specs.Reading.{handed_by}
 use Rattle.definitions.specs.Table.{Table}
-use Rattle.definitions.specs.Record.{Record}
-use Rattle.definitions.specs.Exits.{after_exits}
+use Rattle.definitions.specs.Master.{Record, sides_of, handover_for}
+use Rattle.definitions.specs.Calls.{after_exits, Handed}
 use Rattle.plan_walk.specs.Path.{rest_after}
-use Rattle.call_laws.specs.Pieces.{branch}
-use Rattle.definitions.specs.Tree.{Tree, Ends, Does, reply_of}
+use Rattle.call_laws.specs.Pieces.{branch, quiet, ends_at, answered, noted}
+use Rattle.definitions.specs.Run.{Tree, Ends, Does, reply_of, Moment, Pattern, Progress, start_at, Ran, Lost, run_with}
+use Rattle.definitions.specs.Run.{after_moment, after_call}
 use Rattle.definitions.specs.Plans.{Turn}
-use Rattle.definitions.specs.Target.{sides_of, handover_for}
-use Rattle.definitions.specs.Run.{Moment, quiet, Pattern, Progress, start_at, Ran, Lost, ends_at, run_with, after_moment, after_call, answered, noted}
 use Rattle.definitions.specs.Claims.{run_of, heirs_of}
-use Rattle.definitions.specs.Calls.{Handed}
 use Rattle.kernel_pattern.specs.Pattern.{with_exit}
 use Rattle.plan_walk.specs.Fit.{height_next}
 use Rattle.plan_walk.specs.Course.{turns_of, trail_on, sides_on}
@@ -46,7 +44,8 @@ pub record EndsAlike (a b : Ran) : Type 0 where
 
 -- After n calls of a target's run, by these turns and under a pattern, this is left of its plan, these have yet to take over, and so far has it come:
 -- each run that is the same so far goes on from here, and meets the same events.
-pub record HasCome (r : Record) (target : Target) (turns : List Turn) (t : Table) (pattern : Pattern) (n : ℕ) (rest : Option Tree) (heirs : List ℕ) (p : Progress) : Type 0 where
+pub record HasCome (r : Record) (target : Target) (turns : List Turn) (t : Table) (pattern : Pattern) (n : ℕ)
+    (rest : Option Tree) (heirs : List ℕ) (p : Progress) : Type 0 where
   pub calls : p.calls ≡ n
   pub ends : (q : Pattern) → IsSameUpTo n pattern q → EndsAlike (run_of r target turns q t) (rest_run (handover_for r target) rest q p)
   pub meets : (q : Pattern) (e : Event) → IsSameUpTo n pattern q → n < e.number →
@@ -64,13 +63,15 @@ pub record IsAt (run : Position) (p : Progress) : Type 0 where
   pub table : p.table ≡ run.kernel.table
   pub handed : handed_by run.text.now ≡ handover_for run.state.now run.target.now
   pub sides : sides_on run.course ≡ sides_of run.state.now run.target.now
-  pub come : HasCome run.state.now run.target.now (turns_of run.course) run.first.now.table (pattern_of run.tried) run.made (trail_on run.course).rest (listed run.heir) p
+  pub come : HasCome run.state.now run.target.now (turns_of run.course) run.first.now.table
+      (pattern_of run.tried) run.made (trail_on run.course).rest (listed run.heir) p
 
 -- The events that are left for it to meet, behind an event where there is one.
 abbrev pub left : Position → Progress → Option Event → List Event
 left run p last =
     let handed = handover_for run.state.now run.target.now in
-    met handed last (pattern_of run.tried) (listed run.heir) run.made run.kernel.table (rest_run handed (trail_on run.course).rest (pattern_of run.tried) p).entries
+    met handed last (pattern_of run.tried) (listed run.heir) run.made run.kernel.table
+    (rest_run handed (trail_on run.course).rest (pattern_of run.tried) p).entries
 
 ---- One call more
 
@@ -100,7 +101,9 @@ after_due run moment p = moved (handover_for run.state.now run.target.now) (trai
 -- what can go wrong at the call that is due, in this moment
 abbrev pub open_now : Position → Due → Moment → Option Event → List Event
 open_now run due moment last =
-    map (event_at (run.made + 1)) (open_at (handover_for run.state.now run.target.now) due.by due.call (waiting due.call (listed run.heir)) last (run.made + 1) (after_exits moment.exits run.kernel.table))
+    map (event_at (run.made + 1))
+    (open_at (handover_for run.state.now run.target.now) due.by due.call (waiting due.call (listed run.heir)) last
+    (run.made + 1) (after_exits moment.exits run.kernel.table))
 
 -- The same run, after the call that was due, in this moment.
 pub record IsLater (before : Position) (due : Due) (moment : Moment) (after : Position) : Type 0 where
@@ -112,9 +115,12 @@ pub record IsLater (before : Position) (due : Due) (moment : Moment) (after : Po
   pub made : after.made ≡ before.made + 1
   pub fit : IsFit after
   pub lower : height_next (trail_on after.course).rest + 1 ≤ height_next (trail_on before.course).rest
-  pub rest : (p : Progress) → IsAt before p → (trail_on after.course).rest ≡ rest_moved (handover_for before.state.now before.target.now) (trail_on before.course).rest moment p
+  pub rest : (p : Progress) → IsAt before p →
+      (trail_on after.course).rest
+      ≡ rest_moved (handover_for before.state.now before.target.now) (trail_on before.course).rest moment p
   pub at : (p : Progress) → IsAt before p → IsAt after (after_due before moment p)
-  pub left : (p : Progress) (last : Option Event) → IsAt before p → left before p last ≡ open_now before due moment last ++ left after (after_due before moment p) last
+  pub left : (p : Progress) (last : Option Event) → IsAt before p →
+      left before p last ≡ open_now before due moment last ++ left after (after_due before moment p) last
 
 ---- Beginnings
 

@@ -2,10 +2,10 @@
 use Rattle.std.specs.Prelude.{ℕ, ◌≤◌, ◌-◌, ◌^◌, min, nat_lt, Bool, false, ◌&&◌, List, [], ◌∷◌, Option, Some, None, unwrap_or, count_by, if◌then◌else◌}
 use Rattle.std.specs.List.{list_any, sum_by, AllByRecursion}
 use Rattle.std.specs.FinMap.{find}
-use Rattle.definitions.specs.Table.{Address, Process, Master, Worker, Foreign, Table, is_ready, is_active, is_named, has_address, Generation}
-use Rattle.definitions.specs.Exits.{Name}
+use Rattle.definitions.specs.Table.{Address, Process, Master, Worker, Foreign, Table, is_active, has_address, Generation}
+use Rattle.call_laws.specs.Pieces.{is_named, is_ready, is_live_with}
+use Rattle.definitions.specs.Calls.{Name}
 use Rattle.vocabulary.specs.declared.names.Name.TheVariants as name
-use Rattle.definitions.specs.Service.{is_live_with}
 use Rattle.kernel_service.specs.Services.{Services, address_cmp}
 
 -- a Ready worker that holds the address

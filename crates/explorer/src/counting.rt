@@ -1,6 +1,6 @@
 //! Runs, carried out and counted.
 ghost use Rattle.std.specs.Prelude.{◌≡◌, ◌∷◌, [], IfOk, OnOk};
-ghost use Rattle.definitions.specs.Exits.{after_exits};
+ghost use Rattle.definitions.specs.Calls.{after_exits};
 ghost use Rattle.definitions.specs.Run.{Progress};
 ghost use Rattle.explorer.specs.Events.{pattern_of};
 ghost use Rattle.explorer.specs.Tallies.{counted};

@@ -2,7 +2,7 @@
 ghost use Rattle.std.specs.Prelude.{◌≡◌, ◌++◌, ◌∷◌, [], map, IfOk, OnOk};
 ghost use Rattle.std.specs.List.{filter, filter_map};
 ghost use Rattle.definitions.specs.Table.{is_active};
-ghost use Rattle.definitions.specs.Exits.{after_exits};
+ghost use Rattle.definitions.specs.Calls.{after_exits};
 ghost use Rattle.handover_text.specs.Reading.{handed_by};
 ghost use Rattle.kernel_model.specs.Readers.{row_of};
 ghost use Rattle.plan_executor.specs.Naming.{listed};

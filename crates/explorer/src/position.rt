@@ -1,6 +1,6 @@
 //! Runs on their way.
 ghost use Rattle.std.specs.Prelude.{◌≡◌, ◌≤◌, ◌<◌, ◌+◌, ◌⊎◌, IsTrue, IfOk, IfErr, IfSome, IfNone};
-ghost use Rattle.definitions.specs.Exits.{after_exits};
+ghost use Rattle.definitions.specs.Calls.{after_exits};
 ghost use Rattle.definitions.specs.Calls.{step_with};
 ghost use Rattle.call_replies.specs.Replies.{is_listed};
 ghost use Rattle.plan_walk.specs.Path.{IsOver};

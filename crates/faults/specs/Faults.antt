@@ -23,7 +23,8 @@ use Rattle.faults.specs.declared.fault.Fault.{Fault}
 use Rattle.mismatches.specs.Codes.{mismatch_code}
 use Rattle.mismatches.specs.declared.Mismatch.{Mismatch}
 use Rattle.mismatches.specs.declared.Mismatch.TheVariants as mismatch
-use Rattle.faults.specs.declared.fault.Fault.TheVariants.{Usage, Word, Config, Boot, Address, Foreign, Pattern, Transcript, Certify, Code, Orders, Running, File, Memory}
+use Rattle.faults.specs.declared.fault.Fault.TheVariants.{Usage, Word, Config, Boot, Address, Foreign, Pattern}
+use Rattle.faults.specs.declared.fault.Fault.TheVariants.{Transcript, Certify, Code, Orders, Running, File, Memory}
 
 ---- Which fault a refusal is: want of memory or a file where it is that, and else its own
 

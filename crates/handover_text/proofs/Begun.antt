@@ -1,5 +1,7 @@
 -- What stands before a faulty line begins the text of some handover.
-use Rattle.std.proofs.Common.{◌≡◌, ◌≢◌, ℕ, zero, suc, ◌+◌, ◌-◌, ◌<◌, ◌≤◌, Bool, true, false, ◌&&◌, ◌||◌, nat_eq, nat_lt, not, Option, Some, None, Result, Ok, Err, List, [], ◌∷◌, ◌++◌, length, map, take, replicate, refl, sym, ap, subst, ◌∙◌, arith, ◌⊎◌, ⊎_elim, inl, inr, append_assoc}
+use Rattle.std.proofs.Common.{◌≡◌, ◌≢◌, ℕ, zero, suc, ◌+◌, ◌-◌, ◌<◌, ◌≤◌, Bool, true, false, ◌&&◌, ◌||◌, nat_eq, nat_lt}
+use Rattle.std.proofs.Common.{not, Option, Some, None, Result, Ok, Err, List, [], ◌∷◌, ◌++◌, length, map, take}
+use Rattle.std.proofs.Common.{replicate, refl, sym, ap, subst, ◌∙◌, arith, ◌⊎◌, ⊎_elim, inl, inr, append_assoc}
 use Rattle.std.specs.Prelude.{bytes_eq, codes, ⊤, if◌then◌else◌}
 use Rattle.std.specs.Char.{is_ascii_graphic}
 use Rattle.std.specs.List.{flat_map, list_any, list_all, before_first, after_first, slice_split}
@@ -22,14 +24,21 @@ use Rattle.vocabulary.specs.declared.table.Listener.{Listener}
 use Rattle.definitions.specs.Table.{Address}
 use Rattle.definitions.specs.After.{listens_on}
 use Rattle.definitions.specs.Calls.{Handover}
-use Rattle.handover_text.specs.Spelling.{HandoverVersion, One, Two, line_of, version_line, listener_line, want_line, workers_line, group_line, pid_file_line, group_lines}
-use Rattle.handover_text.specs.Reading.{Reached, AtVersion, AtOldPid, AtGeneration, AtFirstListener, AtListeners, AtWants, AtGroup, AtPidFile, AtEnd, Over, Read, nothing_read, is_space, is_address, listener_read, one_more, joined, with_old_pid, with_generation, with_listener, with_want, with_groups, with_workers, can_begin, with_group, read_wanted, read_behind, read_pid_file, read_end, read_if, read_line, then_read, read_rest, read_pieces, reading}
+use Rattle.handover_text.specs.Spelling.{HandoverVersion, One, Two, line_of, version_line, listener_line, want_line}
+use Rattle.handover_text.specs.Spelling.{workers_line, group_line, pid_file_line, group_lines}
+use Rattle.handover_text.specs.Reading.{Reached, AtVersion, AtOldPid, AtGeneration, AtFirstListener, AtListeners}
+use Rattle.handover_text.specs.Reading.{AtWants, AtGroup, AtPidFile, AtEnd, Over, Read, nothing_read, is_space}
+use Rattle.handover_text.specs.Reading.{is_address, listener_read, one_more, joined, with_old_pid, with_generation}
+use Rattle.handover_text.specs.Reading.{with_listener, with_want, with_groups, with_workers, can_begin, with_group}
+use Rattle.handover_text.specs.Reading.{read_wanted, read_behind, read_pid_file, read_end, read_if, read_line}
+use Rattle.handover_text.specs.Reading.{then_read, read_rest, read_pieces, reading}
 use Rattle.master_listeners.specs.Listeners.{is_above}
 use Rattle.plain_text.specs.Cuts.{after_prefix}
 use Rattle.handover_text.specs.Ranges.{IsUnasked, IsBegun, IsAsked, AreParts, IsReadTo}
 use Rattle.handover_text.specs.Faults.{Begins, IsFull, IsFaultless, lines_before}
 use Rattle.handover_text.proofs.SoFar.{IfRead, line_read, nothing_in_range, read_in_range, sole-groups, parts-more, is_newline}
-use Rattle.handover_text.proofs.Spelled.{old_pid_line, generation_line, to_generation, to_listeners, to_wants, to_pid_file, so_far, IsText, line_went, group-begun, group-more}
+use Rattle.handover_text.proofs.Spelled.{old_pid_line, generation_line, to_generation, to_listeners, to_wants}
+use Rattle.handover_text.proofs.Spelled.{to_pid_file, so_far, IsText, line_went, group-begun, group-more}
 
 ---- An address that is not among some
 
@@ -66,7 +75,9 @@ told-length : (want : List Address) (k : ℕ) → has want (slashes k) ≡ true 
 told-length [] k on = cc
 told-length (b ∷ want) k on = at (bytes_eq b (slashes k)) refl on (told-length want k)
   where
-    at : (t : Bool) → bytes_eq b (slashes k) ≡ t → (t || has want (slashes k)) ≡ true → (has want (slashes k) ≡ true → list_any (nat_eq k) (lengths want) ≡ true) → list_any (nat_eq k) (lengths (b ∷ want)) ≡ true
+    at : (t : Bool) → bytes_eq b (slashes k) ≡ t → (t || has want (slashes k)) ≡ true →
+        (has want (slashes k) ≡ true → list_any (nat_eq k) (lengths want) ≡ true) →
+        list_any (nat_eq k) (lengths (b ∷ want)) ≡ true
     at true same h later =
         let is : length b - 1 ≡ k = ap (λ (x : Address). length x - 1) (same_text b (slashes k) (sym same)) ∙ omega (arith, repeated k) in
         ap (λ j. list_any (nat_eq k) (j ∷ lengths want)) is ∙ ap (λ b. b || list_any (nat_eq k) (lengths want)) (same-number k)
@@ -76,7 +87,9 @@ gap : (xs : List ℕ) (n : ℕ) → ((q : ℕ) × (q < n) × (list_any (nat_eq q
 gap xs zero = inr (λ q lt. absurd (omega (arith, lt)))
 gap xs (suc n) = ⊎_elim (λ found. inl (found.0, omega (arith, found.1), found.2)) (λ all. at (list_any (nat_eq n) xs) refl all) (gap xs n)
   where
-    at : (b : Bool) → list_any (nat_eq n) xs ≡ b → ((q : ℕ) → q < n → list_any (nat_eq q) xs ≡ true) → ((q : ℕ) × (q < suc n) × (list_any (nat_eq q) xs ≡ false)) ⊎ ((q : ℕ) → q < suc n → list_any (nat_eq q) xs ≡ true)
+    at : (b : Bool) → list_any (nat_eq n) xs ≡ b → ((q : ℕ) → q < n → list_any (nat_eq q) xs ≡ true) →
+        ((q : ℕ) × (q < suc n) × (list_any (nat_eq q) xs ≡ false)) ⊎
+        ((q : ℕ) → q < suc n → list_any (nat_eq q) xs ≡ true)
     at false e all = inl (n, omega arith, e)
     at true e all = inr (λ q lt. here q lt (nat_eq q n) refl)
       where
@@ -97,7 +110,8 @@ begins-part : (start behind : List ℕ) → Begins (start ++ behind) → Begins 
 begins-part start behind b = record { version = b.version; told = b.told; is = b.is; tells = b.tells; more = behind ++ b.more; goes_on = sym (append_assoc start behind b.more) ∙ b.goes_on }
 
 -- All that is wanted was read, and no pid file: the end can follow.
-asked-begins : (version : HandoverVersion) (h : Handover) → AreParts h → 1 ≤ h.old_pid → 1 ≤ length h.listeners → IsAsked version h → h.pid_file ≡ None → Begins (to_pid_file version h)
+asked-begins : (version : HandoverVersion) (h : Handover) → AreParts h → 1 ≤ h.old_pid → 1 ≤ length h.listeners →
+    IsAsked version h → h.pid_file ≡ None → Begins (to_pid_file version h)
 asked-begins version h parts pid listener asked none = record {
   version = version;
   told = h;
@@ -108,7 +122,8 @@ asked-begins version h parts pid listener asked none = record {
 }
 
 -- an address more, in a group that can have one
-group-begins : (g : Group) (h : Handover) → AreParts h → 1 ≤ h.old_pid → 1 ≤ length h.listeners → IsBegun g h → h.pid_file ≡ None → g.addresses ≡ 0 → length h.want < 64 → Begins (so_far (AtGroup g) h)
+group-begins : (g : Group) (h : Handover) → AreParts h → 1 ≤ h.old_pid → 1 ≤ length h.listeners → IsBegun g h →
+    h.pid_file ≡ None → g.addresses ≡ 0 → length h.want < 64 → Begins (so_far (AtGroup g) h)
 group-begins g h parts pid listener begun none empty few =
     let new = fresh h.want few in
     let a = new.0 in
@@ -123,7 +138,8 @@ group-begins g h parts pid listener begun none empty few =
     (subst Begins (ap (λ t. to_wants Two h ++ t) (group-more h.groups g h.want a begun.counts) ∙ sym (append_assoc (to_wants Two h) (group_lines (h.groups ++ g ∷ []) h.want) (want_line a)))
     (asked-begins Two h' parts' pid listener (record { groups = groups'; add_up = omega (arith, sum, begun.counts, length-append h.want (a ∷ [])); tells = tt }) none))
 
-closed-begins : (g : Group) (h : Handover) → AreParts h → 1 ≤ h.old_pid → 1 ≤ length h.listeners → IsBegun g h → h.pid_file ≡ None → 1 ≤ g.addresses → Begins (so_far (AtGroup g) h)
+closed-begins : (g : Group) (h : Handover) → AreParts h → 1 ≤ h.old_pid → 1 ≤ length h.listeners → IsBegun g h →
+    h.pid_file ≡ None → 1 ≤ g.addresses → Begins (so_far (AtGroup g) h)
 closed-begins g h parts pid listener begun none some =
     let fits : Fits h.groups g = record { few = λ e. absurd (omega (arith, e, begun.few)); listens = some; addresses = omega (arith, begun.counts, parts.most); workers = begun.workers } in
     let refused : group_refused h.groups g ≡ None = none-where h.groups g fits in
@@ -133,7 +149,8 @@ closed-begins g h parts pid listener begun none some =
     asked-begins Two h' parts' pid listener (record { groups = groups'; add_up = sum_by_push (λ (x : Group). x.addresses) h.groups g ∙ begun.counts; tells = tt }) none
 
 -- A group that was begun where 64 addresses were read before.
-full-group : (g : Group) (h : Handover) → AreParts h → 1 ≤ h.old_pid → 1 ≤ length h.listeners → IsBegun g h → h.pid_file ≡ None → g.addresses ≡ 0 → 64 ≤ length h.want → IsFull (so_far (AtGroup g) h)
+full-group : (g : Group) (h : Handover) → AreParts h → 1 ≤ h.old_pid → 1 ≤ length h.listeners → IsBegun g h →
+    h.pid_file ≡ None → g.addresses ≡ 0 → 64 ≤ length h.want → IsFull (so_far (AtGroup g) h)
 full-group g h parts pid listener begun none empty many =
     let g' : Group = record { addresses = 0; workers = g.workers } in
     let same : g ≡ g' = ap (λ k. record { addresses = k; workers = g.workers }) empty in
@@ -150,7 +167,8 @@ full-group g h parts pid listener begun none empty many =
       goes_on = append_assoc (to_wants Two h) (group_lines h.groups h.want) (group_line g.workers) ∙ ap (λ t. to_wants Two h ++ t) (sym (group-begun h.groups g.workers h.want)) ∙ ap (λ (x : Group). to_wants Two h ++ group_lines (h.groups ++ x ∷ []) h.want) (sym same);
     }
 
-begun-faultless : (g : Group) (h : Handover) → AreParts h → 1 ≤ h.old_pid → 1 ≤ length h.listeners → IsBegun g h → h.pid_file ≡ None → IsFaultless (so_far (AtGroup g) h)
+begun-faultless : (g : Group) (h : Handover) → AreParts h → 1 ≤ h.old_pid → 1 ≤ length h.listeners → IsBegun g h →
+    h.pid_file ≡ None → IsFaultless (so_far (AtGroup g) h)
 begun-faultless g h parts pid listener begun none = at (nat_eq g.addresses 0) refl
   where
     at : (b : Bool) → nat_eq g.addresses 0 ≡ b → IsFaultless (so_far (AtGroup g) h)
@@ -165,7 +183,8 @@ begun-faultless g h parts pid listener begun none = at (nat_eq g.addresses 0) re
         inl (closed-begins g h parts pid listener begun none (omega (arith, some)))
 
 -- The addresses of version 1, of which there is one at least: its workers can follow.
-some-begins : (h : Handover) → AreParts h → 1 ≤ h.old_pid → 1 ≤ length h.listeners → h.pid_file ≡ None → 1 ≤ length h.want → Begins (to_wants One h ++ flat_map want_line h.want)
+some-begins : (h : Handover) → AreParts h → 1 ≤ h.old_pid → 1 ≤ length h.listeners → h.pid_file ≡ None →
+    1 ≤ length h.want → Begins (to_wants One h ++ flat_map want_line h.want)
 some-begins h parts pid listener none some =
     let g : Group = record { addresses = length h.want; workers = 0 } in
     let h' : Handover = record h { groups = g ∷ [] } in
@@ -184,21 +203,24 @@ wants-begin h parts pid listener none nobody =
     begins-part (to_wants One h) (flat_map want_line (h.want ++ new.0 ∷ []))
     (some-begins h' (parts-more 0 h parts new.0 new.1 new.2 few) pid listener none (omega (arith, length-append h.want (new.0 ∷ []))))
 
-listeners-begin : (version : HandoverVersion) (h : Handover) → AreParts h → 1 ≤ h.old_pid → 1 ≤ length h.listeners → h.pid_file ≡ None → IsUnasked h → Begins (to_wants version h)
+listeners-begin : (version : HandoverVersion) (h : Handover) → AreParts h → 1 ≤ h.old_pid → 1 ≤ length h.listeners →
+    h.pid_file ≡ None → IsUnasked h → Begins (to_wants version h)
 listeners-begin One h parts pid listener none unasked = wants-begin h parts pid listener none unasked.0
 listeners-begin Two h parts pid listener none unasked =
     let g : Group = record { addresses = 0; workers = 0 } in
     let begun : IsBegun g h = record { before = inl unasked.1; counts = omega (arith, ap addresses_in unasked.1, ap length unasked.0); few = omega (arith, ap length unasked.1); workers = omega (arith, ap workers_in unasked.1) } in
     begins-part (to_wants Two h) (group_lines (h.groups ++ g ∷ []) h.want) (group-begins g h parts pid listener begun none refl (omega (arith, ap length unasked.0)))
 
-first-begins : (version : HandoverVersion) (h : Handover) → AreParts h → 1 ≤ h.old_pid → h.listeners ≡ [] → h.pid_file ≡ None → IsUnasked h → Begins (to_listeners version h)
+first-begins : (version : HandoverVersion) (h : Handover) → AreParts h → 1 ≤ h.old_pid → h.listeners ≡ [] →
+    h.pid_file ≡ None → IsUnasked h → Begins (to_listeners version h)
 first-begins version h parts pid nobody none unasked =
     let l : Listener = record { descriptor = 3; address = slashes 0 } in
     let h' : Handover = record h { listeners = l ∷ [] } in
     let parts' : AreParts h' = record { old_pid = parts.old_pid; image = parts.image; config = parts.config; listed = (omega arith, omega arith, refl, tt); listened = and_from _ _ (slashes-address 0 (omega arith)) refl; wanted = parts.wanted; distinct = parts.distinct; most = parts.most; path = parts.path } in
     begins-part (to_listeners version h) (flat_map listener_line (l ∷ [])) (listeners-begin version h' parts' pid (omega arith) none unasked)
 
-generation-begins : (version : HandoverVersion) (h : Handover) → AreParts h → 1 ≤ h.old_pid → h.listeners ≡ [] → h.pid_file ≡ None → IsUnasked h → Begins (to_generation version h)
+generation-begins : (version : HandoverVersion) (h : Handover) → AreParts h → 1 ≤ h.old_pid → h.listeners ≡ [] →
+    h.pid_file ≡ None → IsUnasked h → Begins (to_generation version h)
 generation-begins version h parts pid nobody none unasked = begins-part (to_generation version h) (generation_line h.generation.image h.generation.config) (first-begins version h parts pid nobody none unasked)
 
 version-begins : (version : HandoverVersion) (h : Handover) → AreParts h → h.listeners ≡ [] → h.pid_file ≡ None → IsUnasked h → Begins (version_line version)
@@ -265,7 +287,8 @@ abbrev pub IfFault : ℕ → Read → Type 0
 IfFault n (Ok at) = ⊤
 IfFault n (Err e) = NamesLine n e
 
-if-fault : (n : ℕ) (o : Option (List ℕ)) (read : List ℕ → Read) (otherwise : Read) → ((rest : List ℕ) → IfFault n (read rest)) → IfFault n otherwise → IfFault n (read_if o read otherwise)
+if-fault : (n : ℕ) (o : Option (List ℕ)) (read : List ℕ → Read) (otherwise : Read) →
+    ((rest : List ℕ) → IfFault n (read rest)) → IfFault n otherwise → IfFault n (read_if o read otherwise)
 if-fault n None read otherwise some none = none
 if-fault n (Some rest) read otherwise some none = some rest
 
@@ -376,13 +399,19 @@ rest-names (AtEnd version) h rest e m is named = cut-unnamed e m (read_rest (AtE
 rest-names (Over version) h [] e m is named = cc
 rest-names (Over version) h (c ∷ cs) e m is named = trailing-unnamed e m (read_rest (Over version) h (c ∷ cs)) refl is named
 
-pieces-begin : (n : ℕ) (place : Reached) (h : Handover) (text : List ℕ) (pieces : List (List ℕ)) (e : HandoverRefusal) (m : ℕ) → IsReadTo n place h → IsText text place h → read_pieces n place h pieces ≡ Err e → Named e m → Before n m text pieces
+pieces-begin : (n : ℕ) (place : Reached) (h : Handover) (text : List ℕ) (pieces : List (List ℕ)) (e : HandoverRefusal)
+    (m : ℕ) → IsReadTo n place h → IsText text place h → read_pieces n place h pieces ≡ Err e → Named e m →
+    Before n m text pieces
 pieces-begin n place h text [] e m s t is named = absurd (rest-names place h [] e m is named)
 pieces-begin n place h text (rest ∷ []) e m s t is named = absurd (rest-names place h rest e m is named)
 pieces-begin n place h text (line ∷ next ∷ more) e m s t is named =
     at (read_line n place h line) (line_read n place h line s) (line_went n place h line text s t) (line-names n place h line) is (λ place' h'. pieces-begin (n + 1) place' h' (text ++ line_of line) (next ∷ more) e m)
   where
-    at : (r : Read) → IfRead (IsReadTo (n + 1)) r → IfRead (IsText (text ++ line_of line)) r → IfFault n r → then_read r (λ place' h'. read_pieces (n + 1) place' h' (next ∷ more)) ≡ Err e → ((place' : Reached) (h' : Handover) → IsReadTo (n + 1) place' h' → IsText (text ++ line_of line) place' h' → read_pieces (n + 1) place' h' (next ∷ more) ≡ Err e → Named e m → Before (n + 1) m (text ++ line_of line) (next ∷ more)) → Before n m text (line ∷ next ∷ more)
+    at : (r : Read) → IfRead (IsReadTo (n + 1)) r → IfRead (IsText (text ++ line_of line)) r → IfFault n r →
+        then_read r (λ place' h'. read_pieces (n + 1) place' h' (next ∷ more)) ≡ Err e →
+        ((place' : Reached) (h' : Handover) → IsReadTo (n + 1) place' h' → IsText (text ++ line_of line) place' h' →
+        read_pieces (n + 1) place' h' (next ∷ more) ≡ Err e → Named e m →
+        Before (n + 1) m (text ++ line_of line) (next ∷ more)) → Before n m text (line ∷ next ∷ more)
     at (Err why) read went names is' later =
         let same : why ≡ e = cc in
         record { lines = 0; counted = names-it n m e (subst (NamesLine n) same names) named ∙ omega arith; begins = subst IsFaultless (t ∙ sym (append-nil text)) (faultless-at n place h s) }

@@ -8,7 +8,9 @@ use Rattle.vocabulary.specs.declared.handover.HandoverRefusal.{HandoverRefusal}
 use Rattle.vocabulary.specs.declared.handover.HandoverRefusal.TheVariants as refusal
 use Rattle.definitions.specs.Calls.{Handover}
 use Rattle.handover_text.specs.Spelling.{HandoverVersion, spelled}
-use Rattle.handover_text.specs.Reading.{Reached, AtVersion, AtOldPid, AtGeneration, AtFirstListener, AtListeners, AtWants, AtGroup, AtPidFile, AtEnd, Over, Read, nothing_read, read_line, then_read, read_rest, read_pieces, reading}
+use Rattle.handover_text.specs.Reading.{Reached, AtVersion, AtOldPid, AtGeneration, AtFirstListener, AtListeners}
+use Rattle.handover_text.specs.Reading.{AtWants, AtGroup, AtPidFile, AtEnd, Over, Read, nothing_read, read_line}
+use Rattle.handover_text.specs.Reading.{then_read, read_rest, read_pieces, reading}
 use Rattle.handover_text.specs.Ranges.{IsHandover, IsTold}
 use Rattle.handover_text.proofs.SoFar.{is_newline, reading_in_range}
 use Rattle.handover_text.proofs.Spelled.{spelling-reading}
@@ -23,7 +25,9 @@ joined (x ∷ []) [] = x ∷ []
 joined (x ∷ []) (z ∷ zs) = (x ++ z) ∷ zs
 joined (x ∷ y ∷ more) zs = x ∷ joined (y ∷ more) zs
 
-split_cases : (P : List (List ℕ) → Type 0) (text : List ℕ) → ((piece : List ℕ) (pieces : List (List ℕ)) → slice_split is_newline text ≡ piece ∷ pieces → P (piece ∷ pieces)) → P (slice_split is_newline text)
+split_cases : (P : List (List ℕ) → Type 0) (text : List ℕ) →
+    ((piece : List ℕ) (pieces : List (List ℕ)) → slice_split is_newline text ≡ piece ∷ pieces → P (piece ∷ pieces)) →
+    P (slice_split is_newline text)
 split_cases P text some = at (slice_split is_newline text) refl (length-slice_split is_newline text)
   where
     at : (pieces : List (List ℕ)) → slice_split is_newline text ≡ pieces → length pieces ≡ count_by is_newline text + 1 → P pieces
@@ -43,7 +47,10 @@ pieces_joined (c ∷ cs) b =
     (λ x xs e same. at (is_newline c) x xs same)
     rest
   where
-    at : (newline : Bool) (x : List ℕ) (xs : List (List ℕ)) → slice_split is_newline (cs ++ b) ≡ joined (x ∷ xs) (slice_split is_newline b) → cond newline ([] ∷ slice_split is_newline (cs ++ b)) (onto_first c (slice_split is_newline (cs ++ b))) ≡ joined (cond newline ([] ∷ x ∷ xs) (onto_first c (x ∷ xs))) (slice_split is_newline b)
+    at : (newline : Bool) (x : List ℕ) (xs : List (List ℕ)) →
+        slice_split is_newline (cs ++ b) ≡ joined (x ∷ xs) (slice_split is_newline b) →
+        cond newline ([] ∷ slice_split is_newline (cs ++ b)) (onto_first c (slice_split is_newline (cs ++ b)))
+        ≡ joined (cond newline ([] ∷ x ∷ xs) (onto_first c (x ∷ xs))) (slice_split is_newline b)
     at true x xs same = ap (λ ys. [] ∷ ys) same
     at false x xs same = ap (onto_first c) same ∙ onto_joined c x xs (slice_split is_newline b)
 
@@ -65,7 +72,8 @@ kept_itself (refusal.OutOfOrder n) = refl
 kept_itself refusal.Cut = tt
 kept_itself refusal.Trailing = refl
 
-rest_kept : (n : ℕ) (place : Reached) (h : Handover) (rest : List ℕ) (zs : List (List ℕ)) → IsKept (read_rest place h rest) (read_pieces n place h (joined (rest ∷ []) zs))
+rest_kept : (n : ℕ) (place : Reached) (h : Handover) (rest : List ℕ) (zs : List (List ℕ)) →
+    IsKept (read_rest place h rest) (read_pieces n place h (joined (rest ∷ []) zs))
 rest_kept n AtVersion h rest zs = tt
 rest_kept n (AtOldPid version) h rest zs = tt
 rest_kept n (AtGeneration version) h rest zs = tt
@@ -80,18 +88,25 @@ rest_kept n (Over version) h (c ∷ cs) [] = refl
 rest_kept n (Over version) h (c ∷ cs) (z ∷ []) = refl
 rest_kept n (Over version) h (c ∷ cs) (z ∷ y ∷ zs) = refl
 
-line_joined : (n : ℕ) (place : Reached) (h : Handover) (line next : List ℕ) (more zs : List (List ℕ)) → read_pieces n place h (line ∷ joined (next ∷ more) zs) ≡ then_read (read_line n place h line) (λ place' h'. read_pieces (n + 1) place' h' (joined (next ∷ more) zs))
+line_joined : (n : ℕ) (place : Reached) (h : Handover) (line next : List ℕ) (more zs : List (List ℕ)) →
+    read_pieces n place h (line ∷ joined (next ∷ more) zs)
+    ≡ then_read (read_line n place h line) (λ place' h'. read_pieces (n + 1) place' h' (joined (next ∷ more) zs))
 line_joined n place h line next [] [] = refl
 line_joined n place h line next [] (z ∷ zs) = refl
 line_joined n place h line next (y ∷ more) zs = refl
 
-pieces_kept : (n : ℕ) (place : Reached) (h : Handover) (rest : List ℕ) (pieces zs : List (List ℕ)) → IsKept (read_pieces n place h (rest ∷ pieces)) (read_pieces n place h (joined (rest ∷ pieces) zs))
+pieces_kept : (n : ℕ) (place : Reached) (h : Handover) (rest : List ℕ) (pieces zs : List (List ℕ)) →
+    IsKept (read_pieces n place h (rest ∷ pieces)) (read_pieces n place h (joined (rest ∷ pieces) zs))
 pieces_kept n place h rest [] zs = rest_kept n place h rest zs
 pieces_kept n place h line (next ∷ more) zs =
     subst (IsKept (read_pieces n place h (line ∷ next ∷ more))) (sym (line_joined n place h line next more zs))
     (at (read_line n place h line) (λ place' h'. pieces_kept (n + 1) place' h' next more zs))
   where
-    at : (r : Read) → ((place' : Reached) (h' : Handover) → IsKept (read_pieces (n + 1) place' h' (next ∷ more)) (read_pieces (n + 1) place' h' (joined (next ∷ more) zs))) → IsKept (then_read r (λ place' h'. read_pieces (n + 1) place' h' (next ∷ more))) (then_read r (λ place' h'. read_pieces (n + 1) place' h' (joined (next ∷ more) zs)))
+    at : (r : Read) → ((place' : Reached) (h' : Handover) →
+        IsKept (read_pieces (n + 1) place' h' (next ∷ more))
+        (read_pieces (n + 1) place' h' (joined (next ∷ more) zs))) →
+        IsKept (then_read r (λ place' h'. read_pieces (n + 1) place' h' (next ∷ more)))
+        (then_read r (λ place' h'. read_pieces (n + 1) place' h' (joined (next ∷ more) zs)))
     at (Err e) later = kept_itself e
     at (Ok state) later = later state.0 state.1
 
@@ -102,7 +117,9 @@ reading_kept a b =
     (λ x xs e. pieces_kept 1 AtVersion nothing_read x xs (slice_split is_newline b)))
 
 -- A text that ends before its end is a cut.
-pub cut_short : (version : HandoverVersion) (told : Handover) (start : List ℕ) (byte : ℕ) (more : List ℕ) → IsHandover told → IsTold version told → start ++ byte ∷ more ≡ spelled version told → reading start ≡ Err refusal.Cut
+pub cut_short : (version : HandoverVersion) (told : Handover) (start : List ℕ) (byte : ℕ) (more : List ℕ) →
+    IsHandover told → IsTold version told → start ++ byte ∷ more ≡ spelled version told →
+    reading start ≡ Err refusal.Cut
 cut_short version told start byte more h tells e =
     at (reading start) refl (subst (IsKept (reading start)) (ap reading e ∙ reading-spelling version told h tells) (reading_kept start (byte ∷ more)))
   where

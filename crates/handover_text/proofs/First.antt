@@ -25,7 +25,8 @@ pieces-lines : (text : List ℕ) → AllByRecursion IsLine (slice_split is_newli
 pieces-lines [] = (refl, tt)
 pieces-lines (c ∷ cs) = at (is_newline c) refl (pieces-lines cs)
   where
-    at : (b : Bool) → is_newline c ≡ b → AllByRecursion IsLine (slice_split is_newline cs) → AllByRecursion IsLine (cond b ([] ∷ slice_split is_newline cs) (onto_first c (slice_split is_newline cs)))
+    at : (b : Bool) → is_newline c ≡ b → AllByRecursion IsLine (slice_split is_newline cs) →
+        AllByRecursion IsLine (cond b ([] ∷ slice_split is_newline cs) (onto_first c (slice_split is_newline cs)))
     at true e all = (refl, all)
     at false e all = onto-line c e (slice_split is_newline cs) all
 
@@ -44,7 +45,9 @@ lines-split (line ∷ lines) all =
 
 ---- The lines up to a faulty one are refused as the text is
 
-line-more : (n : ℕ) (place : Reached) (h : Handover) (line : List ℕ) (lines : List (List ℕ)) → read_pieces n place h (line ∷ (lines ++ [] ∷ [])) ≡ then_read (read_line n place h line) (λ place' h'. read_pieces (n + 1) place' h' (lines ++ [] ∷ []))
+line-more : (n : ℕ) (place : Reached) (h : Handover) (line : List ℕ) (lines : List (List ℕ)) →
+    read_pieces n place h (line ∷ (lines ++ [] ∷ []))
+    ≡ then_read (read_line n place h line) (λ place' h'. read_pieces (n + 1) place' h' (lines ++ [] ∷ []))
 line-more n place h line [] = refl
 line-more n place h line (next ∷ lines) = refl
 
@@ -54,13 +57,17 @@ record UpTo (n m : ℕ) (place : Reached) (h : Handover) (pieces : List (List �
   counted : m + 1 ≡ n + lines
   refused : read_pieces n place h (take lines pieces ++ [] ∷ []) ≡ Err e
 
-pieces-to : (n : ℕ) (place : Reached) (h : Handover) (pieces : List (List ℕ)) (e : HandoverRefusal) (m : ℕ) → read_pieces n place h pieces ≡ Err e → Named e m → UpTo n m place h pieces e
+pieces-to : (n : ℕ) (place : Reached) (h : Handover) (pieces : List (List ℕ)) (e : HandoverRefusal) (m : ℕ) →
+    read_pieces n place h pieces ≡ Err e → Named e m → UpTo n m place h pieces e
 pieces-to n place h [] e m is named = absurd (rest-names place h [] e m is named)
 pieces-to n place h (rest ∷ []) e m is named = absurd (rest-names place h rest e m is named)
 pieces-to n place h (line ∷ next ∷ more) e m is named =
     at (read_line n place h line) refl (line-names n place h line) is (λ place' h'. pieces-to (n + 1) place' h' (next ∷ more) e m)
   where
-    at : (r : Read) → read_line n place h line ≡ r → IfFault n r → then_read r (λ place' h'. read_pieces (n + 1) place' h' (next ∷ more)) ≡ Err e → ((place' : Reached) (h' : Handover) → read_pieces (n + 1) place' h' (next ∷ more) ≡ Err e → Named e m → UpTo (n + 1) m place' h' (next ∷ more) e) → UpTo n m place h (line ∷ next ∷ more) e
+    at : (r : Read) → read_line n place h line ≡ r → IfFault n r →
+        then_read r (λ place' h'. read_pieces (n + 1) place' h' (next ∷ more)) ≡ Err e →
+        ((place' : Reached) (h' : Handover) → read_pieces (n + 1) place' h' (next ∷ more) ≡ Err e → Named e m →
+        UpTo (n + 1) m place' h' (next ∷ more) e) → UpTo n m place h (line ∷ next ∷ more) e
     at (Err why) read names is' later =
         let same : why ≡ e = cc in
         record {

@@ -1,5 +1,6 @@
 -- What is read, line by line.
-use Rattle.std.proofs.Common.{◌≡◌, ℕ, ◌≤◌, ◌<◌, Bool, true, false, ◌==◌, Option, Some, None, Result, Ok, Err, List, [], ◌∷◌, ◌++◌, length, refl, sym, ap, ◌∙◌, arith}
+use Rattle.std.proofs.Common.{◌≡◌, ℕ, ◌≤◌, ◌<◌, Bool, true, false, ◌==◌, Option, Some, None, Result, Ok, Err, List, []}
+use Rattle.std.proofs.Common.{◌∷◌, ◌++◌, length, refl, sym, ap, ◌∙◌, arith}
 use Rattle.std.specs.List.{before_first, after_first}
 use Rattle.std.proofs.lemmas.Bool.{and_from, le-leb, lt-ltb}
 use Rattle.std.proofs.lemmas.Option.{none-some, same_Some}
@@ -27,7 +28,9 @@ number_most text n e = let lt = (decimal-number_of text n e).1 in omega (arith, 
 pub listener_bounds : (rest : List ℕ) (l : Listener) → listener_read rest ≡ Some l → (3 ≤ l.descriptor) × (l.descriptor < 67) × (is_address l.address ≡ true)
 listener_bounds rest l e = at (number_within 3 66 (before_first is_space rest)) refl (is_address (after_first is_space rest)) refl e
   where
-    at : (o : Option ℕ) → number_within 3 66 (before_first is_space rest) ≡ o → (b : Bool) → is_address (after_first is_space rest) ≡ b → listener_if o (after_first is_space rest) b ≡ Some l → (3 ≤ l.descriptor) × (l.descriptor < 67) × (is_address l.address ≡ true)
+    at : (o : Option ℕ) → number_within 3 66 (before_first is_space rest) ≡ o → (b : Bool) →
+        is_address (after_first is_space rest) ≡ b → listener_if o (after_first is_space rest) b ≡ Some l →
+        (3 ≤ l.descriptor) × (l.descriptor < 67) × (is_address l.address ≡ true)
     at None number b address h = cc
     at (Some fd) number false address h = cc
     at (Some fd) number true address h =
@@ -47,7 +50,19 @@ address_read text a e = at (check text) refl e
     at (Err refusal) is h = cc
 
 -- an address that is taken up
-pub want_taken : (n : ℕ) (place : Reached) (h : Handover) (text a : List ℕ) (new : List (List ℕ)) → reading text ≡ Ok a → has h.want a ≡ false → length h.want < 64 → new ≡ h.want ++ a ∷ [] → Ok (place, record { old_pid = h.old_pid; generation = h.generation; listeners = h.listeners; want = new; groups = h.groups; pid_file = h.pid_file }) ≡ with_want n place h text
+pub want_taken : (n : ℕ) (place : Reached) (h : Handover) (text a : List ℕ) (new : List (List ℕ)) →
+    reading text ≡ Ok a → has h.want a ≡ false → length h.want < 64 → new ≡ h.want ++ a ∷ [] →
+    Ok (
+      place,
+      record {
+        old_pid = h.old_pid;
+        generation = h.generation;
+        listeners = h.listeners;
+        want = new;
+        groups = h.groups;
+        pid_file = h.pid_file;
+      },
+    ) ≡ with_want n place h text
 want_taken n place h text a new e absent room is =
     let read = address_read text a e in
     let absent' : has h.want text ≡ false = rw (sym read.0) absent in
@@ -55,7 +70,20 @@ want_taken n place h text a new e absent room is =
     rw (read.1, absent', lt-ltb (length h.want) 64 room, more) refl
 
 -- a listener that is taken up
-pub listener_taken : (n : ℕ) (version : HandoverVersion) (h : Handover) (o : Option Listener) (l : Listener) (new : List Listener) → o ≡ Some l → is_above l.descriptor h.listeners ≡ true → listens_on h.listeners l.address ≡ false → new ≡ h.listeners ++ l ∷ [] → Ok (AtListeners version, record { old_pid = h.old_pid; generation = h.generation; listeners = new; want = h.want; groups = h.groups; pid_file = h.pid_file }) ≡ with_listener n version h o
+pub listener_taken : (n : ℕ) (version : HandoverVersion) (h : Handover) (o : Option Listener) (l : Listener)
+    (new : List Listener) → o ≡ Some l → is_above l.descriptor h.listeners ≡ true →
+    listens_on h.listeners l.address ≡ false → new ≡ h.listeners ++ l ∷ [] →
+    Ok (
+      AtListeners version,
+      record {
+        old_pid = h.old_pid;
+        generation = h.generation;
+        listeners = new;
+        want = h.want;
+        groups = h.groups;
+        pid_file = h.pid_file;
+      },
+    ) ≡ with_listener n version h o
 listener_taken n version h o l new read above absent is = rw (read, above, absent, is) refl
 
 -- the path of a file that leaves room for a suffix

@@ -1,5 +1,7 @@
 -- What is read line by line is in range.
-use Rattle.std.proofs.Common.{◌≡◌, ◌≢◌, ℕ, ◌+◌, ◌≤◌, ◌<◌, Bool, true, false, ◌&&◌, nat_lt, not, Option, Some, None, Result, Ok, Err, List, [], ◌∷◌, ◌++◌, length, refl, sym, ap, subst, ◌∙◌, arith, ◌⊎◌, ⊎_elim, inl, inr}
+use Rattle.std.proofs.Common.{◌≡◌, ◌≢◌, ℕ, ◌+◌, ◌≤◌, ◌<◌, Bool, true, false, ◌&&◌, nat_lt, not, Option, Some, None}
+use Rattle.std.proofs.Common.{Result, Ok, Err, List, [], ◌∷◌, ◌++◌, length, refl, sym, ap, subst, ◌∙◌, arith, ◌⊎◌}
+use Rattle.std.proofs.Common.{⊎_elim, inl, inr}
 use Rattle.std.specs.Prelude.{bytes_eq, codes, ⊤, IfOk, ◌==◌, nat_le, is_none, if◌then◌else◌}
 use Rattle.std.specs.List.{list_all, before_first, after_first, slice_split, position_or_len, count_by}
 use Rattle.std.specs.Char.{is_ascii_graphic}
@@ -19,7 +21,12 @@ use Rattle.vocabulary.specs.declared.table.Listener.{Listener}
 use Rattle.definitions.specs.After.{listens_on}
 use Rattle.definitions.specs.Calls.{Handover}
 use Rattle.handover_text.specs.Spelling.{HandoverVersion, One, Two}
-use Rattle.handover_text.specs.Reading.{Reached, AtVersion, AtOldPid, AtGeneration, AtFirstListener, AtListeners, AtWants, AtGroup, AtPidFile, AtEnd, Over, Read, nothing_read, then_read, read_rest, read_pieces, reading, is_space, is_address, listener_read, one_more, joined, with_old_pid, with_generation, with_listener, with_want, with_groups, with_workers, can_begin, with_group, with_pid_file, read_wanted, read_behind, read_pid_file, read_end, read_if, read_line}
+use Rattle.handover_text.specs.Reading.{Reached, AtVersion, AtOldPid, AtGeneration, AtFirstListener, AtListeners}
+use Rattle.handover_text.specs.Reading.{AtWants, AtGroup, AtPidFile, AtEnd, Over, Read, nothing_read, then_read}
+use Rattle.handover_text.specs.Reading.{read_rest, read_pieces, reading, is_space, is_address, listener_read, one_more}
+use Rattle.handover_text.specs.Reading.{joined, with_old_pid, with_generation, with_listener, with_want, with_groups}
+use Rattle.handover_text.specs.Reading.{with_workers, can_begin, with_group, with_pid_file, read_wanted, read_behind}
+use Rattle.handover_text.specs.Reading.{read_pid_file, read_end, read_if, read_line}
 use Rattle.master_listeners.specs.Listeners.{is_above}
 use Rattle.plain_text.specs.Cuts.{after_prefix}
 use Rattle.vocabulary.specs.Settings.{HasSuffixRoom}
@@ -38,7 +45,8 @@ abbrev pub IfRead : (Reached → Handover → Type 0) → Read → Type 0
 IfRead P (Ok at) = P at.0 at.1
 IfRead P (Err refusal) = ⊤
 
-if_read : (P : Reached → Handover → Type 0) (o : Option (List ℕ)) (read : List ℕ → Read) (otherwise : Read) → ((rest : List ℕ) → IfRead P (read rest)) → IfRead P otherwise → IfRead P (read_if o read otherwise)
+if_read : (P : Reached → Handover → Type 0) (o : Option (List ℕ)) (read : List ℕ → Read) (otherwise : Read) →
+    ((rest : List ℕ) → IfRead P (read rest)) → IfRead P otherwise → IfRead P (read_if o read otherwise)
 if_read P None read otherwise some none = none
 if_read P (Some rest) read otherwise some none = some rest
 
@@ -46,7 +54,8 @@ if_read P (Some rest) read otherwise some none = some rest
 pub joined-some : (gs : List Group) (g : Group) (groups : List Group) → joined gs g ≡ Some groups → (groups ≡ gs ++ g ∷ []) × (group_refused gs g ≡ None)
 joined-some gs g groups e = go (group_refused gs g) refl e
   where
-    go : (o : Option GroupRefusal) → group_refused gs g ≡ o → (if is_none o then Some (gs ++ g ∷ []) else None) ≡ Some groups → (groups ≡ gs ++ g ∷ []) × (o ≡ None)
+    go : (o : Option GroupRefusal) → group_refused gs g ≡ o →
+        (if is_none o then Some (gs ++ g ∷ []) else None) ≡ Some groups → (groups ≡ gs ++ g ∷ []) × (o ≡ None)
     go None is e' = (sym (same_Some _ _ e'), refl)
     go (Some why) is e' = absurd (none-some groups e')
 
@@ -63,7 +72,9 @@ module _ (n : ℕ) (h : Handover) (parts : AreParts h) where
   version_read : (version : HandoverVersion) → IsReadTo n AtVersion h → Next (AtOldPid version) h
   version_read version s = record { parts = parts; count = omega (arith, s.count); pid = tt; listener = s.listener; groups = s.groups; no_path = s.no_path }
 
-  old_pid_read : (version : HandoverVersion) (o : Option ℕ) → ((pid : ℕ) → o ≡ Some pid → (1 ≤ pid) × (pid ≤ 4294967295)) → IsReadTo n (AtOldPid version) h → IfRead Next (with_old_pid n version h o)
+  old_pid_read : (version : HandoverVersion) (o : Option ℕ) →
+      ((pid : ℕ) → o ≡ Some pid → (1 ≤ pid) × (pid ≤ 4294967295)) → IsReadTo n (AtOldPid version) h →
+      IfRead Next (with_old_pid n version h o)
   old_pid_read version None within s = tt
   old_pid_read version (Some pid) within s = record {
     parts = record { old_pid = (within pid refl).1; image = parts.image; config = parts.config; listed = parts.listed; listened = parts.listened; wanted = parts.wanted; distinct = parts.distinct; most = parts.most; path = parts.path };
@@ -74,7 +85,9 @@ module _ (n : ℕ) (h : Handover) (parts : AreParts h) where
     no_path = s.no_path;
   }
 
-  generation_read : (version : HandoverVersion) (image config : Option ℕ) → ((i : ℕ) → image ≡ Some i → i ≤ 4294967295) → ((c : ℕ) → config ≡ Some c → c ≤ 4294967295) → IsReadTo n (AtGeneration version) h → IfRead Next (with_generation n version h image config)
+  generation_read : (version : HandoverVersion) (image config : Option ℕ) →
+      ((i : ℕ) → image ≡ Some i → i ≤ 4294967295) → ((c : ℕ) → config ≡ Some c → c ≤ 4294967295) →
+      IsReadTo n (AtGeneration version) h → IfRead Next (with_generation n version h image config)
   generation_read version None config image_most config_most s = tt
   generation_read version (Some i) None image_most config_most s = tt
   generation_read version (Some i) (Some c) image_most config_most s = record {
@@ -86,7 +99,10 @@ module _ (n : ℕ) (h : Handover) (parts : AreParts h) where
     no_path = s.no_path;
   }
 
-  listener_read_to : (version : HandoverVersion) (o : Option Listener) → ((l : Listener) → o ≡ Some l → (3 ≤ l.descriptor) × (l.descriptor < 67) × (is_address l.address ≡ true)) → 1 ≤ h.old_pid → IsUnasked h → h.pid_file ≡ None → n ≤ 4 + length h.listeners + length h.groups + length h.want → IfRead Next (with_listener n version h o)
+  listener_read_to : (version : HandoverVersion) (o : Option Listener) →
+      ((l : Listener) → o ≡ Some l → (3 ≤ l.descriptor) × (l.descriptor < 67) × (is_address l.address ≡ true)) →
+      1 ≤ h.old_pid → IsUnasked h → h.pid_file ≡ None → n ≤ 4 + length h.listeners + length h.groups + length h.want →
+      IfRead Next (with_listener n version h o)
   listener_read_to version None within pid unasked no_path count = tt
   listener_read_to version (Some l) within pid unasked no_path count =
       let bounds = within l refl in
@@ -127,7 +143,9 @@ module _ (n : ℕ) (h : Handover) (parts : AreParts h) where
     path = parts.path;
   }
 
-  want_read : (place : Reached) (a : List ℕ) → (AreParts (record h { want = h.want ++ a ∷ [] }) → Next place (record h { want = h.want ++ a ∷ [] })) → IfRead Next (with_want n place h a)
+  want_read : (place : Reached) (a : List ℕ) →
+      (AreParts (record h { want = h.want ++ a ∷ [] }) → Next place (record h { want = h.want ++ a ∷ [] })) →
+      IfRead Next (with_want n place h a)
   want_read place a next =
       cond_both (is_address a && (not (has h.want a) && nat_lt (length h.want) 64)) _ _ (IfRead Next)
       (λ taken.
@@ -137,7 +155,9 @@ module _ (n : ℕ) (h : Handover) (parts : AreParts h) where
       (λ refused. tt)
 
   -- all addresses are of one group
-  single-read : (w : ℕ) (o : Option (List Group)) → joined [] (record { addresses = length h.want; workers = w }) ≡ o → h.groups ≡ [] → 1 ≤ h.old_pid → 1 ≤ length h.listeners → h.pid_file ≡ None → n ≤ 4 + length h.listeners + length h.groups + length h.want → IfRead Next (with_groups n AtPidFile h o)
+  single-read : (w : ℕ) (o : Option (List Group)) → joined [] (record { addresses = length h.want; workers = w }) ≡ o →
+      h.groups ≡ [] → 1 ≤ h.old_pid → 1 ≤ length h.listeners → h.pid_file ≡ None →
+      n ≤ 4 + length h.listeners + length h.groups + length h.want → IfRead Next (with_groups n AtPidFile h o)
   single-read w None e none pid listener no_path count = tt
   single-read w (Some groups) e none pid listener no_path count =
       let g : Group = record { addresses = length h.want; workers = w } in
@@ -155,7 +175,9 @@ module _ (n : ℕ) (h : Handover) (parts : AreParts h) where
   workers_read None s = tt
   workers_read (Some w) s = single-read w (joined [] (record { addresses = length h.want; workers = w })) refl s.groups s.pid s.listener s.no_path s.count
 
-  group_read : (o : Option ℕ) → (h.groups ≡ []) ⊎ AreGroups h.groups → addresses_in h.groups ≡ length h.want → 1 ≤ h.old_pid → 1 ≤ length h.listeners → h.pid_file ≡ None → n ≤ 4 + length h.listeners + length h.groups + length h.want → IfRead Next (with_group n h o)
+  group_read : (o : Option ℕ) → (h.groups ≡ []) ⊎ AreGroups h.groups → addresses_in h.groups ≡ length h.want →
+      1 ≤ h.old_pid → 1 ≤ length h.listeners → h.pid_file ≡ None →
+      n ≤ 4 + length h.listeners + length h.groups + length h.want → IfRead Next (with_group n h o)
   group_read None before add_up pid listener no_path count = tt
   group_read (Some w) before add_up pid listener no_path count =
       cond_both (can_begin h.groups w) _ _ (IfRead Next)
@@ -169,7 +191,9 @@ module _ (n : ℕ) (h : Handover) (parts : AreParts h) where
       })
       (λ refused. tt)
 
-  pid_file_read : (version : HandoverVersion) (path : List ℕ) → IsAsked version h → 1 ≤ h.old_pid → 1 ≤ length h.listeners → n ≤ 5 + length h.listeners + length h.groups + length h.want → IfRead Next (with_pid_file n version h path)
+  pid_file_read : (version : HandoverVersion) (path : List ℕ) → IsAsked version h → 1 ≤ h.old_pid →
+      1 ≤ length h.listeners → n ≤ 5 + length h.listeners + length h.groups + length h.want →
+      IfRead Next (with_pid_file n version h path)
   pid_file_read version path asked pid listener count =
       cond_both (is_path path) _ _ (IfRead Next)
       (λ is. record {
@@ -186,20 +210,23 @@ module _ (n : ℕ) (h : Handover) (parts : AreParts h) where
       tells-still One e = e
       tells-still Two e = tt
 
-  end_read : (version : HandoverVersion) (line : List ℕ) → IsAsked version h → 1 ≤ h.old_pid → 1 ≤ length h.listeners → n ≤ 6 + length h.listeners + length h.groups + length h.want → IfRead Next (read_end n version h line)
+  end_read : (version : HandoverVersion) (line : List ℕ) → IsAsked version h → 1 ≤ h.old_pid → 1 ≤ length h.listeners →
+      n ≤ 6 + length h.listeners + length h.groups + length h.want → IfRead Next (read_end n version h line)
   end_read version line asked pid listener count =
       cond_both (bytes_eq line (codes "end")) _ _ (IfRead Next)
       (λ is. record { parts = parts; count = omega (arith, count); pid = pid; listener = listener; groups = asked; no_path = tt })
       (λ refused. tt)
 
-  file_read : (version : HandoverVersion) (line : List ℕ) → IsAsked version h → 1 ≤ h.old_pid → 1 ≤ length h.listeners → n ≤ 5 + length h.listeners + length h.groups + length h.want → IfRead Next (read_pid_file n version h line)
+  file_read : (version : HandoverVersion) (line : List ℕ) → IsAsked version h → 1 ≤ h.old_pid → 1 ≤ length h.listeners →
+      n ≤ 5 + length h.listeners + length h.groups + length h.want → IfRead Next (read_pid_file n version h line)
   file_read version line asked pid listener count =
       if_read Next (after_prefix (codes "pid-file ") line) _ _
       (λ rest. pid_file_read version rest asked pid listener count)
       (end_read version line asked pid listener (omega (arith, count)))
 
 -- a group that was begun takes its place
-pub closed-asked : (h : Handover) (g : Group) (groups : List Group) → IsBegun g h → joined h.groups g ≡ Some groups → (AreGroups groups) × (addresses_in groups ≡ length h.want) × (length groups ≡ length h.groups + 1)
+pub closed-asked : (h : Handover) (g : Group) (groups : List Group) → IsBegun g h → joined h.groups g ≡ Some groups →
+    (AreGroups groups) × (addresses_in groups ≡ length h.want) × (length groups ≡ length h.groups + 1)
 closed-asked h g groups begun e =
     let is = joined-some h.groups g groups e in
     let fits = fits-where h.groups g is.1 in (
@@ -208,7 +235,8 @@ closed-asked h g groups begun e =
       ap length is.0 ∙ length-append h.groups (g ∷ []),
     )
 
-behind_read : (n : ℕ) (h : Handover) (g : Group) (line : List ℕ) (o : Option (List Group)) → joined h.groups g ≡ o → IsReadTo n (AtGroup g) h → IfRead (IsReadTo (n + 1)) (read_behind n h o line)
+behind_read : (n : ℕ) (h : Handover) (g : Group) (line : List ℕ) (o : Option (List Group)) → joined h.groups g ≡ o →
+    IsReadTo n (AtGroup g) h → IfRead (IsReadTo (n + 1)) (read_behind n h o line)
 behind_read n h g line None e s = tt
 behind_read n h g line (Some groups) e s =
     let is = closed-asked h g groups s.groups e in
@@ -345,30 +373,49 @@ nothing_in_range = record {
 abbrev pub is_newline : ℕ → Bool
 is_newline c = c == 10
 
-pub pieces_more : (n : ℕ) (place : Reached) (h : Handover) (line : List ℕ) (rest : List ℕ) → read_pieces n place h (line ∷ slice_split is_newline rest) ≡ then_read (read_line n place h line) (λ place' h'. read_pieces (n + 1) place' h' (slice_split is_newline rest))
+pub pieces_more : (n : ℕ) (place : Reached) (h : Handover) (line : List ℕ) (rest : List ℕ) →
+    read_pieces n place h (line ∷ slice_split is_newline rest)
+    ≡ then_read (read_line n place h line) (λ place' h'. read_pieces (n + 1) place' h' (slice_split is_newline rest))
 pieces_more n place h line rest = at (slice_split is_newline rest) (length-slice_split is_newline rest)
   where
-    at : (pieces : List (List ℕ)) → length pieces ≡ count_by is_newline rest + 1 → read_pieces n place h (line ∷ pieces) ≡ then_read (read_line n place h line) (λ place' h'. read_pieces (n + 1) place' h' pieces)
+    at : (pieces : List (List ℕ)) → length pieces ≡ count_by is_newline rest + 1 →
+        read_pieces n place h (line ∷ pieces)
+        ≡ then_read (read_line n place h line) (λ place' h'. read_pieces (n + 1) place' h' pieces)
     at [] e = absurd (omega (arith, e))
     at (piece ∷ pieces) e = refl
 
 -- a line and what follows it
-pub pieces_line : (n : ℕ) (place : Reached) (h : Handover) (rest : List ℕ) → position_or_len is_newline rest < length rest → read_pieces n place h (slice_split is_newline rest) ≡ then_read (read_line n place h (before_first is_newline rest)) (λ place' h'. read_pieces (n + 1) place' h' (slice_split is_newline (after_first is_newline rest)))
+pub pieces_line : (n : ℕ) (place : Reached) (h : Handover) (rest : List ℕ) →
+    position_or_len is_newline rest < length rest →
+    read_pieces n place h (slice_split is_newline rest)
+    ≡ then_read (read_line n place h (before_first is_newline rest))
+    (λ place' h'. read_pieces (n + 1) place' h' (slice_split is_newline (after_first is_newline rest)))
 pieces_line n place h rest within =
     ap (read_pieces n place h) (slice_split_first is_newline rest 0 within)
     ∙ pieces_more n place h (before_first is_newline rest) (after_first is_newline rest)
 
 -- no newline is left
-pub pieces_last : (n : ℕ) (place : Reached) (h : Handover) (rest : List ℕ) → length rest ≤ position_or_len is_newline rest → read_pieces n place h (slice_split is_newline rest) ≡ read_rest place h rest
+pub pieces_last : (n : ℕ) (place : Reached) (h : Handover) (rest : List ℕ) →
+    length rest ≤ position_or_len is_newline rest →
+    read_pieces n place h (slice_split is_newline rest) ≡ read_rest place h rest
 pieces_last n place h rest past =
     ap (read_pieces n place h) (slice_split_none is_newline rest (λ k d lt. fails_before_first is_newline rest k d (omega (arith, lt, past))))
 
 -- what a line leaves to be read
-module _ (n : ℕ) (place : Reached) (h : Handover) (state : Reached × Handover) (rest : List ℕ) (r : Result (Unit {0}) HandoverRefusal) (within : position_or_len is_newline rest < length rest) (read : read_to r state ≡ read_line n place h (before_first is_newline rest)) where
-  line_is : (o : Read) → o ≡ read_to r state → read_pieces n place h (slice_split is_newline rest) ≡ then_read o (λ place' h'. read_pieces (n + 1) place' h' (slice_split is_newline (after_first is_newline rest)))
-  line_is o e = pieces_line n place h rest within ∙ ap (λ o'. then_read o' (λ place' h'. read_pieces (n + 1) place' h' (slice_split is_newline (after_first is_newline rest)))) (sym (e ∙ read))
+module _ (n : ℕ) (place : Reached) (h : Handover) (state : Reached × Handover) (rest : List ℕ)
+    (r : Result (Unit {0}) HandoverRefusal) (within : position_or_len is_newline rest < length rest)
+    (read : read_to r state ≡ read_line n place h (before_first is_newline rest)) where
+  line_is : (o : Read) → o ≡ read_to r state →
+      read_pieces n place h (slice_split is_newline rest)
+      ≡ then_read o (λ place' h'. read_pieces (n + 1) place' h' (slice_split is_newline (after_first is_newline rest)))
+  line_is o e =
+      pieces_line n place h rest within ∙
+      ap (λ o'. then_read o' (λ place' h'. read_pieces (n + 1) place' h'
+      (slice_split is_newline (after_first is_newline rest)))) (sym (e ∙ read))
 
-  pub line_taken : r ≡ Ok tt → read_pieces (n + 1) state.0 state.1 (slice_split is_newline (after_first is_newline rest)) ≡ read_pieces n place h (slice_split is_newline rest)
+  pub line_taken : r ≡ Ok tt →
+      read_pieces (n + 1) state.0 state.1 (slice_split is_newline (after_first is_newline rest))
+      ≡ read_pieces n place h (slice_split is_newline rest)
   line_taken ok = sym (line_is (Ok state) (ap (λ q. read_to q state) (sym ok)))
 
   pub line_refused : (refusal : HandoverRefusal) → r ≡ Err refusal → Err refusal ≡ read_pieces n place h (slice_split is_newline rest)
@@ -385,7 +432,10 @@ pieces_in_range n place h (rest ∷ []) s = rest_in_range n place h rest s
 pieces_in_range n place h (line ∷ next ∷ more) s =
     at (read_line n place h line) (line_read n place h line s) (λ place' h'. pieces_in_range (n + 1) place' h' (next ∷ more))
   where
-    at : (r : Read) → IfRead (IsReadTo (n + 1)) r → ((place' : Reached) (h' : Handover) → IsReadTo (n + 1) place' h' → IfOk (read_pieces (n + 1) place' h' (next ∷ more)) IsHandover) → IfOk (then_read r (λ place' h'. read_pieces (n + 1) place' h' (next ∷ more))) IsHandover
+    at : (r : Read) → IfRead (IsReadTo (n + 1)) r →
+        ((place' : Reached) (h' : Handover) → IsReadTo (n + 1) place' h' →
+        IfOk (read_pieces (n + 1) place' h' (next ∷ more)) IsHandover) →
+        IfOk (then_read r (λ place' h'. read_pieces (n + 1) place' h' (next ∷ more))) IsHandover
     at (Err refusal) read later = tt
     at (Ok state) read later = later state.0 state.1 read
 

@@ -1,5 +1,7 @@
 -- What is read is spelled as it stands.
-use Rattle.std.proofs.Common.{◌≡◌, ℕ, ◌+◌, Bool, true, false, ◌&&◌, nat_eq, nat_lt, not, Option, Some, None, Result, Ok, Err, List, [], ◌∷◌, ◌++◌, length, take, drop, ◌≤◌, refl, sym, ap, subst, ◌∙◌, arith, inl, inr, append_assoc}
+use Rattle.std.proofs.Common.{◌≡◌, ℕ, ◌+◌, Bool, true, false, ◌&&◌, nat_eq, nat_lt, not, Option, Some, None, Result, Ok}
+use Rattle.std.proofs.Common.{Err, List, [], ◌∷◌, ◌++◌, length, take, drop, ◌≤◌, refl, sym, ap, subst, ◌∙◌, arith, inl}
+use Rattle.std.proofs.Common.{inr, append_assoc}
 use Rattle.std.specs.Prelude.{bytes_eq, codes, IfOk}
 use Rattle.std.specs.Fmt.{decimal}
 use Rattle.std.specs.List.{flat_map, before_first, after_first, slice_split, join_with_byte, position_or_len}
@@ -18,8 +20,14 @@ use Rattle.vocabulary.specs.declared.handover.HandoverRefusal.{HandoverRefusal}
 use Rattle.vocabulary.specs.declared.table.Listener.{Listener}
 use Rattle.definitions.specs.After.{listens_on}
 use Rattle.definitions.specs.Calls.{Handover}
-use Rattle.handover_text.specs.Spelling.{HandoverVersion, One, Two, line_of, version_line, listener_line, want_line, workers_line, group_line, pid_file_line, group_lines, wanted_lines, spelled}
-use Rattle.handover_text.specs.Reading.{Reached, AtVersion, AtOldPid, AtGeneration, AtFirstListener, AtListeners, AtWants, AtGroup, AtPidFile, AtEnd, Over, Read, nothing_read, is_space, is_address, listener_if, listener_read, one_more, joined, with_old_pid, with_generation, with_listener, with_want, with_groups, with_workers, can_begin, with_group, with_pid_file, read_wanted, read_behind, read_pid_file, read_end, read_if, read_line, then_read, read_rest, read_pieces, reading}
+use Rattle.handover_text.specs.Spelling.{HandoverVersion, One, Two, line_of, version_line, listener_line, want_line}
+use Rattle.handover_text.specs.Spelling.{workers_line, group_line, pid_file_line, group_lines, wanted_lines, spelled}
+use Rattle.handover_text.specs.Reading.{Reached, AtVersion, AtOldPid, AtGeneration, AtFirstListener, AtListeners}
+use Rattle.handover_text.specs.Reading.{AtWants, AtGroup, AtPidFile, AtEnd, Over, Read, nothing_read, is_space}
+use Rattle.handover_text.specs.Reading.{is_address, listener_if, listener_read, one_more, joined, with_old_pid}
+use Rattle.handover_text.specs.Reading.{with_generation, with_listener, with_want, with_groups, with_workers, can_begin}
+use Rattle.handover_text.specs.Reading.{with_group, with_pid_file, read_wanted, read_behind, read_pid_file, read_end}
+use Rattle.handover_text.specs.Reading.{read_if, read_line, then_read, read_rest, read_pieces, reading}
 use Rattle.master_listeners.specs.Listeners.{is_above}
 use Rattle.plain_text.specs.Cuts.{after_prefix}
 use Rattle.definitions.specs.Table.{Address}
@@ -54,7 +62,9 @@ spaced rest some =
 listener_spelled : (rest : List ℕ) (l : Listener) → listener_read rest ≡ Some l → rest ≡ decimal l.descriptor ++ 32 ∷ l.address
 listener_spelled rest l e = at (number_within 3 66 (before_first is_space rest)) refl (is_address (after_first is_space rest)) refl e
   where
-    at : (o : Option ℕ) → number_within 3 66 (before_first is_space rest) ≡ o → (b : Bool) → is_address (after_first is_space rest) ≡ b → listener_if o (after_first is_space rest) b ≡ Some l → rest ≡ decimal l.descriptor ++ 32 ∷ l.address
+    at : (o : Option ℕ) → number_within 3 66 (before_first is_space rest) ≡ o → (b : Bool) →
+        is_address (after_first is_space rest) ≡ b → listener_if o (after_first is_space rest) b ≡ Some l →
+        rest ≡ decimal l.descriptor ++ 32 ∷ l.address
     at None number b address h = absurd (none-some l h)
     at (Some fd) number false address h = absurd (none-some l h)
     at (Some fd) number true address h =
@@ -63,14 +73,17 @@ listener_spelled rest l e = at (number_within 3 66 (before_first is_space rest))
         ∙ ap (λ front. front ++ 32 ∷ after_first is_space rest) (decimal-number_within 3 66 (before_first is_space rest) fd number).0
         ∙ ap (λ (m : Listener). decimal m.descriptor ++ 32 ∷ m.address) same
 
-generation_spelled : (rest : List ℕ) (i c : ℕ) → number_of (before_first is_space rest) ≡ Some i → number_of (after_first is_space rest) ≡ Some c → rest ≡ decimal i ++ 32 ∷ decimal c
+generation_spelled : (rest : List ℕ) (i c : ℕ) → number_of (before_first is_space rest) ≡ Some i →
+    number_of (after_first is_space rest) ≡ Some c → rest ≡ decimal i ++ 32 ∷ decimal c
 generation_spelled rest i c image config =
     spaced rest (λ none. none-some c (ap number_of (sym none) ∙ config))
     ∙ ap (λ front. front ++ 32 ∷ after_first is_space rest) (decimal-number_of (before_first is_space rest) i image).0
     ∙ ap (λ back. decimal i ++ 32 ∷ back) (decimal-number_of (after_first is_space rest) c config).0
 
 -- a line that is read if it has a prefix, which the reader then knows
-if_prefixed : (P : Reached → Handover → Type 0) (p line : List ℕ) (read : List ℕ → Read) (otherwise : Read) → ((rest : List ℕ) → line ≡ p ++ rest → IfRead P (read rest)) → IfRead P otherwise → IfRead P (read_if (after_prefix p line) read otherwise)
+if_prefixed : (P : Reached → Handover → Type 0) (p line : List ℕ) (read : List ℕ → Read) (otherwise : Read) →
+    ((rest : List ℕ) → line ≡ p ++ rest → IfRead P (read rest)) → IfRead P otherwise →
+    IfRead P (read_if (after_prefix p line) read otherwise)
 if_prefixed P p line read otherwise some none = at (after_prefix p line) refl
   where
     at : (o : Option (List ℕ)) → after_prefix p line ≡ o → IfRead P (read_if o read otherwise)
@@ -118,12 +131,15 @@ IsText text place h = so_far place h ≡ text
 ---- The lines of groups
 
 -- a group that begins has a line of its own
-pub group-begun : (gs : List Group) (w : ℕ) (want : List Address) → group_lines (gs ++ record { addresses = 0; workers = w } ∷ []) want ≡ group_lines gs want ++ group_line w
+pub group-begun : (gs : List Group) (w : ℕ) (want : List Address) →
+    group_lines (gs ++ record { addresses = 0; workers = w } ∷ []) want ≡ group_lines gs want ++ group_line w
 group-begun [] w want = simp append-nil refl
 group-begun (g ∷ gs) w want = ap (λ t. (group_line g.workers ++ flat_map want_line (take g.addresses want)) ++ t) (group-begun gs w (drop g.addresses want)) ∙ sym (append_assoc (group_line g.workers ++ flat_map want_line (take g.addresses want)) (group_lines gs (drop g.addresses want)) (group_line w))
 
 -- and an address more of the last one
-pub group-more : (gs : List Group) (g : Group) (want : List Address) (a : Address) → addresses_in gs + g.addresses ≡ length want → group_lines (gs ++ one_more g ∷ []) (want ++ a ∷ []) ≡ group_lines (gs ++ g ∷ []) want ++ want_line a
+pub group-more : (gs : List Group) (g : Group) (want : List Address) (a : Address) →
+    addresses_in gs + g.addresses ≡ length want →
+    group_lines (gs ++ one_more g ∷ []) (want ++ a ∷ []) ≡ group_lines (gs ++ g ∷ []) want ++ want_line a
 group-more [] g want a e =
     let all : take g.addresses want ≡ want = take_all g.addresses want (omega (arith, e)) in
     let more : take (g.addresses + 1) (want ++ a ∷ []) ≡ want ++ a ∷ [] = take_all (g.addresses + 1) (want ++ a ∷ []) (omega (arith, e, length-append want (a ∷ []))) in
@@ -154,11 +170,15 @@ module _ (n : ℕ) (h : Handover) (line text : List ℕ) where
   version_went : (version : HandoverVersion) → version_line version ≡ line_of line → text ≡ [] → Went (AtOldPid version) h
   version_went version is start = is ∙ ap (λ t. t ++ line_of line) (sym start)
 
-  old_pid_went : (version : HandoverVersion) (o : Option ℕ) → ((pid : ℕ) → o ≡ Some pid → line ≡ codes "old-pid " ++ decimal pid) → version_line version ≡ text → IfRead Went (with_old_pid n version h o)
+  old_pid_went : (version : HandoverVersion) (o : Option ℕ) →
+      ((pid : ℕ) → o ≡ Some pid → line ≡ codes "old-pid " ++ decimal pid) → version_line version ≡ text →
+      IfRead Went (with_old_pid n version h o)
   old_pid_went version None spelled start = tt
   old_pid_went version (Some pid) spelled start = then_line (version_line version) (old_pid_line pid) start (ap line_of (sym (spelled pid refl)))
 
-  generation_went : (version : HandoverVersion) (image config : Option ℕ) → ((i c : ℕ) → image ≡ Some i → config ≡ Some c → line ≡ codes "generation " ++ decimal i ++ 32 ∷ decimal c) → to_generation version h ≡ text → h.listeners ≡ [] → IfRead Went (with_generation n version h image config)
+  generation_went : (version : HandoverVersion) (image config : Option ℕ) →
+      ((i c : ℕ) → image ≡ Some i → config ≡ Some c → line ≡ codes "generation " ++ decimal i ++ 32 ∷ decimal c) →
+      to_generation version h ≡ text → h.listeners ≡ [] → IfRead Went (with_generation n version h image config)
   generation_went version None config spelled start none = tt
   generation_went version (Some i) None spelled start none = tt
   generation_went version (Some i) (Some c) spelled start none =
@@ -166,7 +186,9 @@ module _ (n : ℕ) (h : Handover) (line text : List ℕ) where
       ∙ append-nil _
       ∙ then_line (to_generation version h) (generation_line i c) start (ap line_of (sym (spelled i c refl refl)))
 
-  listener_went : (version : HandoverVersion) (o : Option Listener) → ((l : Listener) → o ≡ Some l → line_of line ≡ listener_line l) → to_wants version h ≡ text → IfRead Went (with_listener n version h o)
+  listener_went : (version : HandoverVersion) (o : Option Listener) →
+      ((l : Listener) → o ≡ Some l → line_of line ≡ listener_line l) → to_wants version h ≡ text →
+      IfRead Went (with_listener n version h o)
   listener_went version None spelled start = tt
   listener_went version (Some l) spelled start =
       cond_both (not (is_above l.descriptor h.listeners)) _ _ (IfRead Went)
@@ -181,7 +203,8 @@ module _ (n : ℕ) (h : Handover) (line text : List ℕ) where
       (λ taken. went)
       (λ refused. tt)
 
-  single_went : (w : ℕ) (o : Option (List Group)) → joined [] (record { addresses = length h.want; workers = w }) ≡ o → line ≡ codes "workers " ++ decimal w → so_far AtWants h ≡ text → IfRead Went (with_groups n AtPidFile h o)
+  single_went : (w : ℕ) (o : Option (List Group)) → joined [] (record { addresses = length h.want; workers = w }) ≡ o →
+      line ≡ codes "workers " ++ decimal w → so_far AtWants h ≡ text → IfRead Went (with_groups n AtPidFile h o)
   single_went w None e spelled start = tt
   single_went w (Some groups) e spelled start =
       let is = joined-some [] (record { addresses = length h.want; workers = w }) groups e in
@@ -204,7 +227,8 @@ module _ (n : ℕ) (h : Handover) (line text : List ℕ) where
       ∙ then_line (to_pid_file Two h) (group_line w) start (ap line_of (sym (spelled w refl))))
       (λ refused. tt)
 
-  pid_file_went : (version : HandoverVersion) (path : List ℕ) → line ≡ codes "pid-file " ++ path → to_pid_file version h ≡ text → IfRead Went (with_pid_file n version h path)
+  pid_file_went : (version : HandoverVersion) (path : List ℕ) → line ≡ codes "pid-file " ++ path →
+      to_pid_file version h ≡ text → IfRead Went (with_pid_file n version h path)
   pid_file_went version path spelled start =
       cond_both (is_path path) _ _ (IfRead Went)
       (λ is. then_line (to_pid_file version h) (pid_file_line (Some path)) start (ap line_of (sym spelled)))
@@ -228,7 +252,9 @@ listener_line_is line rest l is read = ap line_of is ∙ ap (λ r. line_of (code
 number_line_is : (p line rest : List ℕ) (least most n : ℕ) → line ≡ p ++ rest → number_within least most rest ≡ Some n → line ≡ p ++ decimal n
 number_line_is p line rest least most n is read = is ∙ ap (λ r. p ++ r) (decimal-number_within least most rest n read).0
 
-behind_went : (n : ℕ) (h : Handover) (g : Group) (line text : List ℕ) (o : Option (List Group)) → joined h.groups g ≡ o → h.pid_file ≡ None → so_far (AtGroup g) h ≡ text → IfRead (IsText (text ++ line_of line)) (read_behind n h o line)
+behind_went : (n : ℕ) (h : Handover) (g : Group) (line text : List ℕ) (o : Option (List Group)) →
+    joined h.groups g ≡ o → h.pid_file ≡ None → so_far (AtGroup g) h ≡ text →
+    IfRead (IsText (text ++ line_of line)) (read_behind n h o line)
 behind_went n h g line text None e none start = tt
 behind_went n h g line text (Some groups) e none start =
     let is = (joined-some h.groups g groups e).0 in
@@ -238,7 +264,8 @@ behind_went n h g line text (Some groups) e none start =
     (λ rest is. group_went n h' line text (number_within 0 1024 rest) (λ w e. number_line_is (codes "group ") line rest 0 1024 w is e) begun)
     (file_went n h' line text Two begun none)
 
-pub line_went : (n : ℕ) (place : Reached) (h : Handover) (line text : List ℕ) → IsReadTo n place h → IsText text place h → IfRead (IsText (text ++ line_of line)) (read_line n place h line)
+pub line_went : (n : ℕ) (place : Reached) (h : Handover) (line text : List ℕ) → IsReadTo n place h →
+    IsText text place h → IfRead (IsText (text ++ line_of line)) (read_line n place h line)
 line_went n AtVersion h line text s start =
     cond_both (bytes_eq line (codes "handover 1")) _ _ (IfRead (IsText (text ++ line_of line)))
     (λ is. version_went n h line text One (ap line_of (sym (same_text line (codes "handover 1") (sym is)))) (sym start))
@@ -296,7 +323,8 @@ line_went n (Over version) h line text s start = tt
 pub spelled_whole : (version : HandoverVersion) (h : Handover) → so_far (Over version) h ≡ spelled version h
 spelled_whole version h = refl
 
-rest_spelled : (n : ℕ) (place : Reached) (h told : Handover) (text rest : List ℕ) → IsReadTo n place h → IsText text place h → read_rest place h rest ≡ Ok told → IsSpelling (text ++ rest) told
+rest_spelled : (n : ℕ) (place : Reached) (h told : Handover) (text rest : List ℕ) → IsReadTo n place h →
+    IsText text place h → read_rest place h rest ≡ Ok told → IsSpelling (text ++ rest) told
 rest_spelled n AtVersion h told text rest s t e = cc
 rest_spelled n (AtOldPid version) h told text rest s t e = cc
 rest_spelled n (AtGeneration version) h told text rest s t e = cc
@@ -311,13 +339,20 @@ rest_spelled n (Over version) h told text [] s t e =
     record { version = version; tells = subst (IsTold version) same s.groups.tells; spelled = ap (spelled version) (sym same) ∙ sym (spelled_whole version h) ∙ t ∙ sym (append-nil text) }
 rest_spelled n (Over version) h told text (c ∷ cs) s t e = cc
 
-pieces_spelled : (n : ℕ) (place : Reached) (h told : Handover) (text : List ℕ) (pieces : List (List ℕ)) → IsReadTo n place h → IsText text place h → read_pieces n place h pieces ≡ Ok told → IsSpelling (text ++ join_with_byte 10 pieces) told
+pieces_spelled : (n : ℕ) (place : Reached) (h told : Handover) (text : List ℕ) (pieces : List (List ℕ)) →
+    IsReadTo n place h → IsText text place h → read_pieces n place h pieces ≡ Ok told →
+    IsSpelling (text ++ join_with_byte 10 pieces) told
 pieces_spelled n place h told text [] s t e = rest_spelled n place h told text [] s t e
 pieces_spelled n place h told text (rest ∷ []) s t e = rest_spelled n place h told text rest s t e
 pieces_spelled n place h told text (line ∷ next ∷ more) s t e =
     at (read_line n place h line) (line_read n place h line s) (line_went n place h line text s t) e (λ place' h'. pieces_spelled (n + 1) place' h' told (text ++ line_of line) (next ∷ more))
   where
-    at : (r : Read) → IfRead (IsReadTo (n + 1)) r → IfRead (IsText (text ++ line_of line)) r → then_read r (λ place' h'. read_pieces (n + 1) place' h' (next ∷ more)) ≡ Ok told → ((place' : Reached) (h' : Handover) → IsReadTo (n + 1) place' h' → IsText (text ++ line_of line) place' h' → read_pieces (n + 1) place' h' (next ∷ more) ≡ Ok told → IsSpelling ((text ++ line_of line) ++ join_with_byte 10 (next ∷ more)) told) → IsSpelling (text ++ (line ++ 10 ∷ join_with_byte 10 (next ∷ more))) told
+    at : (r : Read) → IfRead (IsReadTo (n + 1)) r → IfRead (IsText (text ++ line_of line)) r →
+        then_read r (λ place' h'. read_pieces (n + 1) place' h' (next ∷ more)) ≡ Ok told →
+        ((place' : Reached) (h' : Handover) → IsReadTo (n + 1) place' h' → IsText (text ++ line_of line) place' h' →
+        read_pieces (n + 1) place' h' (next ∷ more) ≡ Ok told →
+        IsSpelling ((text ++ line_of line) ++ join_with_byte 10 (next ∷ more)) told) →
+        IsSpelling (text ++ (line ++ 10 ∷ join_with_byte 10 (next ∷ more))) told
     at (Err refusal) read went e' later = cc
     at (Ok state) read went e' later = subst (λ t. IsSpelling t told) (simp append_assoc refl) (later state.0 state.1 read went e')
 

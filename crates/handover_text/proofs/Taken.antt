@@ -1,5 +1,7 @@
 -- What is spelled is read back.
-use Rattle.std.proofs.Common.{◌≡◌, ℕ, suc, ◌+◌, ◌≤◌, ◌<◌, Bool, true, false, ◌&&◌, ◌==◌, nat_eq, nat_le, not, Option, Some, None, Result, Ok, Err, List, [], ◌∷◌, ◌++◌, length, take, drop, get_or, refl, sym, ap, subst, ◌∙◌, arith, inl, inr, append_assoc}
+use Rattle.std.proofs.Common.{◌≡◌, ℕ, suc, ◌+◌, ◌≤◌, ◌<◌, Bool, true, false, ◌&&◌, ◌==◌, nat_eq, nat_le, not, Option}
+use Rattle.std.proofs.Common.{Some, None, Result, Ok, Err, List, [], ◌∷◌, ◌++◌, length, take, drop, get_or, refl, sym}
+use Rattle.std.proofs.Common.{ap, subst, ◌∙◌, arith, inl, inr, append_assoc}
 use Rattle.std.specs.Prelude.{bytes_eq, codes, is_none, if◌then◌else◌}
 use Rattle.std.specs.Fmt.{decimal}
 use Rattle.std.specs.Char.{is_ascii_digit, is_ascii_graphic}
@@ -23,8 +25,14 @@ use Rattle.vocabulary.specs.declared.handover.HandoverRefusal.TheVariants as ref
 use Rattle.vocabulary.specs.declared.table.Listener.{Listener}
 use Rattle.definitions.specs.After.{listens_on}
 use Rattle.definitions.specs.Calls.{Handover}
-use Rattle.handover_text.specs.Spelling.{HandoverVersion, One, Two, line_of, version_line, listener_line, want_line, workers_line, group_line, pid_file_line, group_lines, wanted_lines, spelled}
-use Rattle.handover_text.specs.Reading.{Reached, AtVersion, AtOldPid, AtGeneration, AtFirstListener, AtListeners, AtWants, AtGroup, AtPidFile, AtEnd, Over, nothing_read, passes, is_space, is_address, listener_if, listener_read, one_more, joined, with_old_pid, with_generation, with_listener, with_want, with_groups, with_workers, can_begin, with_group, read_behind, read_pid_file, read_if, read_line, then_read, read_pieces, reading}
+use Rattle.handover_text.specs.Spelling.{HandoverVersion, One, Two, line_of, version_line, listener_line, want_line}
+use Rattle.handover_text.specs.Spelling.{workers_line, group_line, pid_file_line, group_lines, wanted_lines, spelled}
+use Rattle.handover_text.specs.Reading.{Reached, AtVersion, AtOldPid, AtGeneration, AtFirstListener, AtListeners}
+use Rattle.handover_text.specs.Reading.{AtWants, AtGroup, AtPidFile, AtEnd, Over, nothing_read, passes, is_space}
+use Rattle.handover_text.specs.Reading.{is_address, listener_if, listener_read, one_more, joined, with_old_pid}
+use Rattle.handover_text.specs.Reading.{with_generation, with_listener, with_want, with_groups, with_workers, can_begin}
+use Rattle.handover_text.specs.Reading.{with_group, read_behind, read_pid_file, read_if, read_line, then_read}
+use Rattle.handover_text.specs.Reading.{read_pieces, reading}
 use Rattle.master_listeners.specs.Listeners.{is_above, AreListedFrom}
 use Rattle.plain_text.specs.Cuts.{after_prefix}
 use Rattle.worker_groups.specs.declared.groups.Group.{Group}
@@ -73,14 +81,17 @@ line-path text h = line_if is_ascii_graphic refl text (AllPass-from_list_all is_
 apart : (n : ℕ) → n ≤ 4294967295 → All (λ c. is_space c ≡ false) (decimal n)
 apart n most = decimal_all is_space false (digit_apart 32 refl) n (omega arith)
 
-generation-decimal : (n : ℕ) (version : HandoverVersion) (h : Handover) (i c : ℕ) → i ≤ 4294967295 → c ≤ 4294967295 → read_line n (AtGeneration version) h (codes "generation " ++ decimal i ++ 32 ∷ decimal c) ≡ with_generation n version h (Some i) (Some c)
+generation-decimal : (n : ℕ) (version : HandoverVersion) (h : Handover) (i c : ℕ) → i ≤ 4294967295 → c ≤ 4294967295 →
+    read_line n (AtGeneration version) h (codes "generation " ++ decimal i ++ 32 ∷ decimal c)
+    ≡ with_generation n version h (Some i) (Some c)
 generation-decimal n version h i c image config =
     ap (λ t. with_generation n version h (number_of t) (number_of (after_first is_space (decimal i ++ 32 ∷ decimal c)))) (before_first-at is_space (decimal i) 32 (decimal c) (apart i image) refl)
     ∙ ap (λ t. with_generation n version h (number_of (decimal i)) (number_of t)) (after_first-at is_space (decimal i) 32 (decimal c) (apart i image) refl)
     ∙ ap (λ o. with_generation n version h o (number_of (decimal c))) (number_of-decimal i (omega arith))
     ∙ ap (λ o. with_generation n version h (Some i) o) (number_of-decimal c (omega arith))
 
-listener-decimal : (l : Listener) → 3 ≤ l.descriptor → l.descriptor < 67 → is_address l.address ≡ true → listener_read (decimal l.descriptor ++ 32 ∷ l.address) ≡ Some l
+listener-decimal : (l : Listener) → 3 ≤ l.descriptor → l.descriptor < 67 → is_address l.address ≡ true →
+    listener_read (decimal l.descriptor ++ 32 ∷ l.address) ≡ Some l
 listener-decimal l low high address =
     let none = apart l.descriptor (omega arith) in
     let before = before_first-at is_space (decimal l.descriptor) 32 l.address none refl in
@@ -102,7 +113,8 @@ goes_then f g = record { on = λ n. let x = f.on n in let y = g.on x.0 in (y.0, 
 stays : (p : Reached) (h : Handover) (text : List ℕ) → Goes p h text p h text
 stays p h text = record { on = λ n. (n, refl) }
 
-goes_line : (place : Reached) (h : Handover) (line more : List ℕ) (place' : Reached) (h' : Handover) → IsLine line → ((n : ℕ) → read_line n place h line ≡ Ok (place', h')) → Goes place h (line_of line ++ more) place' h' more
+goes_line : (place : Reached) (h : Handover) (line more : List ℕ) (place' : Reached) (h' : Handover) → IsLine line →
+    ((n : ℕ) → read_line n place h line ≡ Ok (place', h')) → Goes place h (line_of line ++ more) place' h' more
 goes_line place h line more place' h' is reads = record {
   on = λ n. (
     n + 1,
@@ -116,7 +128,9 @@ goes_line place h line more place' h' is reads = record {
 ---- Lists
 
 -- what listeners keep of the one behind them
-listed_before : (fd : ℕ) (done : List Listener) (l : Listener) (ls : List Listener) → AreListedFrom fd (done ++ l ∷ ls) → (fd ≤ l.descriptor) × (l.descriptor < 67) × (is_above l.descriptor done ≡ true) × (listens_on done l.address ≡ false)
+listed_before : (fd : ℕ) (done : List Listener) (l : Listener) (ls : List Listener) →
+    AreListedFrom fd (done ++ l ∷ ls) → (fd ≤ l.descriptor) × (l.descriptor < 67) × (is_above l.descriptor done ≡ true)
+    × (listens_on done l.address ≡ false)
 listed_before fd [] l ls h = (h.0, h.1, refl, refl)
 listed_before fd (m ∷ ms) l ls h =
     let rest = listed_before (m.descriptor + 1) ms l ls h.3 in
@@ -145,7 +159,10 @@ module _ (t : Handover) where
   abbrev at_asked : List Group → List (List ℕ) → Handover
   at_asked gs ws = record { old_pid = t.old_pid; generation = t.generation; listeners = t.listeners; want = ws; groups = gs; pid_file = None }
 
-  listener_ok : (n : ℕ) (version : HandoverVersion) (done : List Listener) (l : Listener) (ls : List Listener) → AreListedFrom 3 (done ++ l ∷ ls) → is_address l.address ≡ true → with_listener n version (at_listeners done) (listener_read (decimal l.descriptor ++ 32 ∷ l.address)) ≡ Ok (AtListeners version, at_listeners (done ++ l ∷ []))
+  listener_ok : (n : ℕ) (version : HandoverVersion) (done : List Listener) (l : Listener) (ls : List Listener) →
+      AreListedFrom 3 (done ++ l ∷ ls) → is_address l.address ≡ true →
+      with_listener n version (at_listeners done) (listener_read (decimal l.descriptor ++ 32 ∷ l.address))
+      ≡ Ok (AtListeners version, at_listeners (done ++ l ∷ []))
   listener_ok n version done l ls listed address =
       let h = listed_before 3 done l ls listed in
       ap (with_listener n version (at_listeners done)) (listener-decimal l h.0 h.1 address)
@@ -154,7 +171,10 @@ module _ (t : Handover) where
   line-listener : (l : Listener) → l.descriptor < 67 → is_address l.address ≡ true → IsLine (codes "listener " ++ decimal l.descriptor ++ 32 ∷ l.address)
   line-listener l low address = line-append (codes "listener " ++ decimal l.descriptor) (32 ∷ l.address) (line-append (codes "listener ") (decimal l.descriptor) refl (line-decimal l.descriptor (omega arith))) (line-append (32 ∷ []) l.address refl (line-address l.address address))
 
-  pub listeners_go : (version : HandoverVersion) (done ls : List Listener) (more : List ℕ) → AreListedFrom 3 (done ++ ls) → list_all (λ (l : Listener). is_address l.address) ls ≡ true → Goes (AtListeners version) (at_listeners done) (flat_map listener_line ls ++ more) (AtListeners version) (at_listeners (done ++ ls)) more
+  pub listeners_go : (version : HandoverVersion) (done ls : List Listener) (more : List ℕ) →
+      AreListedFrom 3 (done ++ ls) → list_all (λ (l : Listener). is_address l.address) ls ≡ true →
+      Goes (AtListeners version) (at_listeners done) (flat_map listener_line ls ++ more) (AtListeners version)
+      (at_listeners (done ++ ls)) more
   listeners_go version done [] more listed addresses = subst (λ ks. Goes (AtListeners version) (at_listeners done) more (AtListeners version) (at_listeners ks) more) (sym (append-nil done)) (stays (AtListeners version) (at_listeners done) more)
   listeners_go version done (l ∷ ls) more listed addresses =
       let h = listed_before 3 done l ls listed in
@@ -165,14 +185,21 @@ module _ (t : Handover) where
       subst (λ text. Goes (AtListeners version) (at_listeners done) text (AtListeners version) (at_listeners (done ++ l ∷ ls)) more) (sym (append_assoc (listener_line l) (flat_map listener_line ls) more))
       (subst (λ ks. Goes (AtListeners version) (at_listeners done) (listener_line l ++ (flat_map listener_line ls ++ more)) (AtListeners version) (at_listeners ks) more) again (goes_then first rest))
 
-  want_ok : (n : ℕ) (place : Reached) (gs : List Group) (done : List (List ℕ)) (a : List ℕ) (more : List (List ℕ)) → AreDistinct (done ++ a ∷ more) → length (done ++ a ∷ more) ≤ 64 → is_address a ≡ true → with_want n place (at_asked gs done) a ≡ Ok (place, at_asked gs (done ++ a ∷ []))
+  want_ok : (n : ℕ) (place : Reached) (gs : List Group) (done : List (List ℕ)) (a : List ℕ) (more : List (List ℕ)) →
+      AreDistinct (done ++ a ∷ more) → length (done ++ a ∷ more) ≤ 64 → is_address a ≡ true →
+      with_want n place (at_asked gs done) a ≡ Ok (place, at_asked gs (done ++ a ∷ []))
   want_ok n place gs done a more distinct most address =
       let room = lt-ltb (length done) 64 (omega (arith, most, length-append done (a ∷ more))) in
       rw (address, distinct_before done a more distinct, room) refl
 
   -- Addresses that are wanted, one after another, where each leads from one place to the next.
-  module _ (place : ℕ → Reached) (gs : List Group) (reads : (n k : ℕ) (h : Handover) (a : List ℕ) → read_line n (place k) h (codes "want " ++ a) ≡ with_want n (place (k + 1)) h a) where
-    pub wants_go : (k : ℕ) (done ws rest : List (List ℕ)) (more : List ℕ) → AreDistinct (done ++ (ws ++ rest)) → length (done ++ (ws ++ rest)) ≤ 64 → list_all is_address ws ≡ true → Goes (place k) (at_asked gs done) (flat_map want_line ws ++ more) (place (k + length ws)) (at_asked gs (done ++ ws)) more
+  module _ (place : ℕ → Reached) (gs : List Group)
+      (reads : (n k : ℕ) (h : Handover) (a : List ℕ) →
+      read_line n (place k) h (codes "want " ++ a) ≡ with_want n (place (k + 1)) h a) where
+    pub wants_go : (k : ℕ) (done ws rest : List (List ℕ)) (more : List ℕ) → AreDistinct (done ++ (ws ++ rest)) →
+        length (done ++ (ws ++ rest)) ≤ 64 → list_all is_address ws ≡ true →
+        Goes (place k) (at_asked gs done) (flat_map want_line ws ++ more) (place (k + length ws))
+        (at_asked gs (done ++ ws)) more
     wants_go k done [] rest more distinct most addresses =
         subst (λ j. Goes (place k) (at_asked gs done) more (place j) (at_asked gs (done ++ [])) more) (omega arith)
         (subst (λ ks. Goes (place k) (at_asked gs done) more (place k) (at_asked gs ks) more) (sym (append-nil done)) (stays (place k) (at_asked gs done) more))
@@ -180,12 +207,17 @@ module _ (t : Handover) where
         let tests = and_parts (is_address a) _ addresses in
         let again = append_assoc done (a ∷ []) ws in
         let all = append_assoc done (a ∷ []) (ws ++ rest) in
-        let first = goes_line (place k) (at_asked gs done) (codes "want " ++ a) (flat_map want_line ws ++ more) (place (k + 1)) (at_asked gs (done ++ a ∷ [])) (line-append (codes "want ") a refl (line-address a tests.0)) (λ n. reads n k (at_asked gs done) a ∙ want_ok n (place (k + 1)) gs done a (ws ++ rest) distinct most tests.0) in
+        let first = goes_line (place k) (at_asked gs done) (codes "want " ++ a) (flat_map want_line ws ++ more)
+        (place (k + 1)) (at_asked gs (done ++ a ∷ [])) (line-append (codes "want ") a refl (line-address a tests.0))
+        (λ n. reads n k (at_asked gs done) a ∙
+        want_ok n (place (k + 1)) gs done a (ws ++ rest) distinct most tests.0) in
         let behind = wants_go (k + 1) (done ++ a ∷ []) ws rest more (subst AreDistinct (sym all) distinct) (rw all most) tests.1 in
         let counted : k + 1 + length ws ≡ k + length (a ∷ ws) = omega arith in
-        subst (λ text. Goes (place k) (at_asked gs done) text (place (k + length (a ∷ ws))) (at_asked gs (done ++ a ∷ ws)) more) (sym (append_assoc (want_line a) (flat_map want_line ws) more))
+        subst (λ text. Goes (place k) (at_asked gs done) text (place (k + length (a ∷ ws)))
+        (at_asked gs (done ++ a ∷ ws)) more) (sym (append_assoc (want_line a) (flat_map want_line ws) more))
         (subst (λ j. Goes (place k) (at_asked gs done) (want_line a ++ (flat_map want_line ws ++ more)) (place j) (at_asked gs (done ++ a ∷ ws)) more) counted
-        (subst (λ ks. Goes (place k) (at_asked gs done) (want_line a ++ (flat_map want_line ws ++ more)) (place (k + 1 + length ws)) (at_asked gs ks) more) again (goes_then first behind)))
+        (subst (λ ks. Goes (place k) (at_asked gs done) (want_line a ++ (flat_map want_line ws ++ more))
+        (place (k + 1 + length ws)) (at_asked gs ks) more) again (goes_then first behind)))
 
   ---- Groups
 
@@ -218,13 +250,21 @@ module _ (t : Handover) where
   line-group w most = line-append (codes "group ") (decimal w) refl (line-decimal w (omega (arith, most)))
 
   -- a group begins behind others
-  begins : (n : ℕ) (ds : List Group) (dw : List (List ℕ)) (g : Group) → length ds < 16 → Fits ds g → with_group n (at_asked ds dw) (number_within 0 1024 (decimal g.workers)) ≡ Ok (AtGroup (record { addresses = 0; workers = g.workers }), at_asked ds dw)
+  begins : (n : ℕ) (ds : List Group) (dw : List (List ℕ)) (g : Group) → length ds < 16 → Fits ds g →
+      with_group n (at_asked ds dw) (number_within 0 1024 (decimal g.workers))
+      ≡ Ok (AtGroup (record { addresses = 0; workers = g.workers }), at_asked ds dw)
   begins n ds dw g few fits =
       ap (with_group n (at_asked ds dw)) (number_within-decimal 0 1024 g.workers (omega arith) (omega (arith, fits.workers)) (omega (arith, fits.workers)))
       ∙ rw (can-begin ds g few fits) refl
 
   -- a group's line and those of its addresses, from where its line can be read
-  group_goes : (place : Reached) (from : Handover) (ds : List Group) (dw ws rest : List (List ℕ)) (g : Group) (more : List ℕ) → length ds < 16 → Fits ds g → length ws ≡ g.addresses → AreDistinct (dw ++ (ws ++ rest)) → length (dw ++ (ws ++ rest)) ≤ 64 → list_all is_address ws ≡ true → ((n : ℕ) → read_line n place from (codes "group " ++ decimal g.workers) ≡ with_group n (at_asked ds dw) (number_within 0 1024 (decimal g.workers))) → Goes place from (group_line g.workers ++ (flat_map want_line ws ++ more)) (AtGroup g) (at_asked ds (dw ++ ws)) more
+  group_goes : (place : Reached) (from : Handover) (ds : List Group) (dw ws rest : List (List ℕ)) (g : Group)
+      (more : List ℕ) → length ds < 16 → Fits ds g → length ws ≡ g.addresses → AreDistinct (dw ++ (ws ++ rest)) →
+      length (dw ++ (ws ++ rest)) ≤ 64 → list_all is_address ws ≡ true →
+      ((n : ℕ) → read_line n place from (codes "group " ++ decimal g.workers)
+      ≡ with_group n (at_asked ds dw) (number_within 0 1024 (decimal g.workers))) →
+      Goes place from (group_line g.workers ++ (flat_map want_line ws ++ more)) (AtGroup g)
+      (at_asked ds (dw ++ ws)) more
   group_goes place from ds dw ws rest g more few fits counted distinct most addresses reads =
       let begun : Group = record { addresses = 0; workers = g.workers } in
       let first = goes_line place from (codes "group " ++ decimal g.workers) (flat_map want_line ws ++ more) (AtGroup begun) (at_asked ds dw) (line-group g.workers (omega (arith, fits.workers))) (λ n. reads n ∙ begins n ds dw g few fits) in
@@ -239,7 +279,9 @@ module _ (t : Handover) where
     fits : Fits before last
     goes : Goes place from text (AtGroup last) (at_asked before want) more
 
-  groups_go : (gs ds : List Group) (g : Group) (dw ws : List (List ℕ)) (more : List ℕ) → AreGroups (ds ++ g ∷ gs) → addresses_in gs ≡ length ws → AreDistinct (dw ++ ws) → length (dw ++ ws) ≤ 64 → list_all is_address ws ≡ true → GoesOn (AtGroup g) (at_asked ds dw) (ds ++ g ∷ gs) (dw ++ ws) (group_lines gs ws ++ more) more
+  groups_go : (gs ds : List Group) (g : Group) (dw ws : List (List ℕ)) (more : List ℕ) → AreGroups (ds ++ g ∷ gs) →
+      addresses_in gs ≡ length ws → AreDistinct (dw ++ ws) → length (dw ++ ws) ≤ 64 → list_all is_address ws ≡ true →
+      GoesOn (AtGroup g) (at_asked ds dw) (ds ++ g ∷ gs) (dw ++ ws) (group_lines gs ws ++ more) more
   groups_go [] ds g dw ws more are counts distinct most addresses =
       let none : ws ≡ [] = length-nil ws (omega (arith, counts)) in
       record {
@@ -296,17 +338,24 @@ module _ (version : HandoverVersion) (t : Handover) (h : IsHandover t) where
       (line-append (codes "old-pid ") (decimal t.old_pid) refl (line-decimal t.old_pid h.parts.old_pid))
       (λ n. ap (with_old_pid n version nothing_read) (number_within-decimal 1 4294967295 t.old_pid h.in_range.old_pid h.parts.old_pid (omega (arith, h.parts.old_pid))))
 
-  generation_goes : (more : List ℕ) → Goes (AtGeneration version) at_generation (generation_line t.generation.image t.generation.config ++ more) (AtFirstListener version) (at_listeners t []) more
+  generation_goes : (more : List ℕ) →
+      Goes (AtGeneration version) at_generation (generation_line t.generation.image t.generation.config ++ more)
+      (AtFirstListener version) (at_listeners t []) more
   generation_goes more =
       goes_line (AtGeneration version) at_generation (codes "generation " ++ decimal t.generation.image ++ 32 ∷ decimal t.generation.config) more (AtFirstListener version) (at_listeners t [])
       (line-append (codes "generation " ++ decimal t.generation.image) (32 ∷ decimal t.generation.config) (line-append (codes "generation ") (decimal t.generation.image) refl (line-decimal t.generation.image h.parts.image)) (line-append (32 ∷ []) (decimal t.generation.config) refl (line-decimal t.generation.config h.parts.config)))
       (λ n. generation-decimal n version at_generation t.generation.image t.generation.config h.parts.image h.parts.config)
 
   -- the first listener, and those behind it
-  listeners_goes : (more : List ℕ) → Goes (AtFirstListener version) (at_listeners t []) (flat_map listener_line t.listeners ++ more) (AtListeners version) (at_asked t [] []) more
+  listeners_goes : (more : List ℕ) →
+      Goes (AtFirstListener version) (at_listeners t []) (flat_map listener_line t.listeners ++ more)
+      (AtListeners version) (at_asked t [] []) more
   listeners_goes more = at t.listeners h.in_range.listens h.parts.listed h.parts.listened
     where
-      at : (ls : List Listener) → 1 ≤ length ls → AreListedFrom 3 ls → list_all (λ (l : Listener). is_address l.address) ls ≡ true → Goes (AtFirstListener version) (at_listeners t []) (flat_map listener_line ls ++ more) (AtListeners version) (at_listeners t ls) more
+      at : (ls : List Listener) → 1 ≤ length ls → AreListedFrom 3 ls →
+          list_all (λ (l : Listener). is_address l.address) ls ≡ true →
+          Goes (AtFirstListener version) (at_listeners t []) (flat_map listener_line ls ++ more) (AtListeners version)
+          (at_listeners t ls) more
       at [] some listed addresses = absurd (omega (arith, some))
       at (l ∷ ls) some listed addresses =
           let tests = and_parts (is_address l.address) _ addresses in
@@ -319,7 +368,10 @@ module _ (version : HandoverVersion) (t : Handover) (h : IsHandover t) where
   with_path o = record { old_pid = t.old_pid; generation = t.generation; listeners = t.listeners; want = t.want; groups = t.groups; pid_file = o }
 
   -- the pid file, if there is one, and the end, from where they can be read
-  end_goes : (place : Reached) (from : Handover) (more : List ℕ) → ((n : ℕ) (line : List ℕ) → after_prefix (codes "want ") line ≡ None → after_prefix (codes "group ") line ≡ None → read_line n place from line ≡ read_pid_file n version (with_path None) line) → Goes place from (pid_file_line t.pid_file ++ (line_of (codes "end") ++ more)) (Over version) t more
+  end_goes : (place : Reached) (from : Handover) (more : List ℕ) →
+      ((n : ℕ) (line : List ℕ) → after_prefix (codes "want ") line ≡ None → after_prefix (codes "group ") line ≡ None →
+      read_line n place from line ≡ read_pid_file n version (with_path None) line) →
+      Goes place from (pid_file_line t.pid_file ++ (line_of (codes "end") ++ more)) (Over version) t more
   end_goes place from more reads = at t.pid_file h.parts.path
     where
       at : (o : Option (List ℕ)) → is_path_if o ≡ true → Goes place from (pid_file_line o ++ (line_of (codes "end") ++ more)) (Over version) (with_path o) more
@@ -333,13 +385,17 @@ apart_four : (a b c d : List ℕ) → (((a ++ b) ++ c) ++ d) ≡ (a ++ (b ++ (c 
 apart_four a b c d = simp append_assoc refl
 
 -- Version 1: the addresses, and the workers of a single group.
-asked_one : (t : Handover) (h : IsHandover t) → length t.groups ≡ 1 → (more : List ℕ) → Goes (AtListeners One) (at_asked t [] []) (wanted_lines One t.groups t.want ++ (pid_file_line t.pid_file ++ (line_of (codes "end") ++ more))) (Over One) t more
+asked_one : (t : Handover) (h : IsHandover t) → length t.groups ≡ 1 → (more : List ℕ) →
+    Goes (AtListeners One) (at_asked t [] [])
+    (wanted_lines One t.groups t.want ++ (pid_file_line t.pid_file ++ (line_of (codes "end") ++ more)))
+    (Over One) t more
 asked_one t h sole more = at t.groups refl sole t.want refl
   where
     to_end : List ℕ
     to_end = pid_file_line t.pid_file ++ (line_of (codes "end") ++ more)
 
-    at : (gs : List Group) → gs ≡ t.groups → length gs ≡ 1 → (ws : List (List ℕ)) → ws ≡ t.want → Goes (AtListeners One) (at_asked t [] []) (wanted_lines One gs ws ++ to_end) (Over One) t more
+    at : (gs : List Group) → gs ≡ t.groups → length gs ≡ 1 → (ws : List (List ℕ)) → ws ≡ t.want →
+        Goes (AtListeners One) (at_asked t [] []) (wanted_lines One gs ws ++ to_end) (Over One) t more
     at [] is one ws same = absurd (omega (arith, one))
     at (g ∷ x ∷ gs) is one ws same = absurd (omega (arith, one))
     at (g ∷ []) is one [] same =
@@ -366,7 +422,10 @@ asked_one t h sole more = at t.groups refl sole t.want refl
         (goes_then first (goes_then behind (goes_then workers last)))
 
 -- Version 2: groups, each with its addresses.
-asked_two : (t : Handover) (h : IsHandover t) (more : List ℕ) → Goes (AtListeners Two) (at_asked t [] []) (wanted_lines Two t.groups t.want ++ (pid_file_line t.pid_file ++ (line_of (codes "end") ++ more))) (Over Two) t more
+asked_two : (t : Handover) (h : IsHandover t) (more : List ℕ) →
+    Goes (AtListeners Two) (at_asked t [] [])
+    (wanted_lines Two t.groups t.want ++ (pid_file_line t.pid_file ++ (line_of (codes "end") ++ more)))
+    (Over Two) t more
 asked_two t h more = at t.groups refl
   where
     to_end : List ℕ
@@ -392,14 +451,20 @@ asked_two t h more = at t.groups refl
         (sym (append_assoc (group_line g.workers ++ flat_map want_line own) (group_lines gs others) to_end ∙ append_assoc (group_line g.workers) (flat_map want_line own) (group_lines gs others ++ to_end)))
         (goes_then first (goes_then behind.goes last))
       where
-        ends : (n : ℕ) (line : List ℕ) (before : List Group) (last : Group) (want : List (List ℕ)) → before ++ last ∷ [] ≡ t.groups → want ≡ t.want → Fits before last → after_prefix (codes "want ") line ≡ None → after_prefix (codes "group ") line ≡ None → read_line n (AtGroup last) (at_asked t before want) line ≡ read_pid_file n Two (with_path Two t h None) line
+        ends : (n : ℕ) (line : List ℕ) (before : List Group) (last : Group) (want : List (List ℕ)) → before ++ last
+            ∷ [] ≡ t.groups → want ≡ t.want → Fits before last → after_prefix (codes "want ") line ≡ None →
+            after_prefix (codes "group ") line ≡ None →
+            read_line n (AtGroup last) (at_asked t before want) line ≡ read_pid_file n Two (with_path Two t h None) line
         ends n line before last want are same fits no_want no_group =
             ap (λ o. read_if o (with_want n (AtGroup (one_more last)) (at_asked t before want)) (read_behind n (at_asked t before want) (joined before last) line)) no_want
             ∙ ap (λ o. read_behind n (at_asked t before want) o line) (joined-fits t before last fits)
             ∙ ap (λ o. read_if o (λ rest. with_group n (at_asked t (before ++ last ∷ []) want) (number_within 0 1024 rest)) (read_pid_file n Two (at_asked t (before ++ last ∷ []) want) line)) no_group
             ∙ (λ i. read_pid_file n Two (at_asked t (are i) (same i)) line)
 
-asked : (version : HandoverVersion) (t : Handover) (h : IsHandover t) → IsTold version t → (more : List ℕ) → Goes (AtListeners version) (at_asked t [] []) (wanted_lines version t.groups t.want ++ (pid_file_line t.pid_file ++ (line_of (codes "end") ++ more))) (Over version) t more
+asked : (version : HandoverVersion) (t : Handover) (h : IsHandover t) → IsTold version t → (more : List ℕ) →
+    Goes (AtListeners version) (at_asked t [] [])
+    (wanted_lines version t.groups t.want ++ (pid_file_line t.pid_file ++ (line_of (codes "end") ++ more)))
+    (Over version) t more
 asked One t h tells more = asked_one t h tells more
 asked Two t h tells more = asked_two t h more
 
@@ -414,7 +479,9 @@ module _ (version : HandoverVersion) (t : Handover) (h : IsHandover t) (tells : 
       let to_generation : List ℕ = generation_line t.generation.image t.generation.config ++ to_listeners in
       let to_old_pid : List ℕ = old_pid_line t.old_pid ++ to_generation in
       subst (λ text. Goes AtVersion nothing_read text (Over version) t more)
-      (sym (apart_all (version_line version) (old_pid_line t.old_pid) (generation_line t.generation.image t.generation.config) (flat_map listener_line t.listeners) (wanted_lines version t.groups t.want) (pid_file_line t.pid_file) (line_of (codes "end")) more))
+      (sym (apart_all (version_line version) (old_pid_line t.old_pid)
+      (generation_line t.generation.image t.generation.config) (flat_map listener_line t.listeners)
+      (wanted_lines version t.groups t.want) (pid_file_line t.pid_file) (line_of (codes "end")) more))
       (goes_then (version_goes version t h to_old_pid)
       (goes_then (old_pid_goes version t h to_generation)
       (goes_then (generation_goes version t h to_listeners)
@@ -453,7 +520,10 @@ same_version One Two a b e = absurd (let differs = ap (λ t. get_or t 9 0) e in 
 same_version Two One a b e = absurd (let differs = ap (λ t. get_or t 9 0) e in omega (arith, differs))
 
 -- No spelling begins another, of either version.
-pub spellings_apart : (version : HandoverVersion) (told : Handover) (other_version : HandoverVersion) (other : Handover) (more : List ℕ) → IsHandover told → IsTold version told → IsHandover other → IsTold other_version other → spelled version told ++ more ≡ spelled other_version other → (more ≡ []) × (told ≡ other) × (version ≡ other_version)
+pub spellings_apart : (version : HandoverVersion) (told : Handover) (other_version : HandoverVersion) (other : Handover)
+    (more : List ℕ) → IsHandover told → IsTold version told → IsHandover other → IsTold other_version other →
+    spelled version told ++ more ≡ spelled other_version other → (more ≡ []) × (told ≡ other) ×
+    (version ≡ other_version)
 spellings_apart version told other_version other [] h ht k kt e =
     let same = sym (reading-spelling version told h ht) ∙ ap reading (sym (append-nil (spelled version told)) ∙ e) ∙ reading-spelling other_version other k kt in
     let alike : told ≡ other = cc in

@@ -9,7 +9,8 @@ use Rattle.vocabulary.specs.Settings.{HasSuffixRoom}
 use Rattle.definitions.specs.Table.{FilePath}
 use Rattle.definitions.specs.Calls.{Handover}
 use Rattle.handover_text.specs.Spelling.{HandoverVersion, One, Two, spelled}
-use Rattle.handover_text.specs.Reading.{Reached, AtVersion, AtOldPid, AtGeneration, AtFirstListener, AtListeners, AtWants, AtGroup, AtPidFile, AtEnd, Over, is_address}
+use Rattle.handover_text.specs.Reading.{Reached, AtVersion, AtOldPid, AtGeneration, AtFirstListener, AtListeners}
+use Rattle.handover_text.specs.Reading.{AtWants, AtGroup, AtPidFile, AtEnd, Over, is_address}
 use Rattle.master_listeners.specs.Listeners.{AreListed}
 
 -- a process number of at least 1, at least one listener, groups that take all addresses that are wanted, and a pid file's path of

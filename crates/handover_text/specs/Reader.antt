@@ -2,7 +2,8 @@
 use Rattle.std.specs.Prelude.{Result, Ok, Err, Option, Some, None, List, []}
 use Rattle.worker_groups.specs.declared.groups.Group.{Group}
 use Rattle.definitions.specs.Calls.{Handover}
-use Rattle.handover_text.specs.Reading.{Reached, Read, AtVersion, AtOldPid, AtGeneration, AtFirstListener, AtListeners, AtWants, AtGroup, AtPidFile, AtEnd, Over}
+use Rattle.handover_text.specs.Reading.{Reached, Read, AtVersion, AtOldPid, AtGeneration, AtFirstListener, AtListeners}
+use Rattle.handover_text.specs.Reading.{AtWants, AtGroup, AtPidFile, AtEnd, Over}
 use Rattle.vocabulary.specs.declared.handover.HandoverRefusal.{HandoverRefusal}
 use Rattle.handover_text.specs.declared.reader.NextLine.{NextLine}
 use Rattle.handover_text.specs.declared.reader.NextLine.TheVariants as next

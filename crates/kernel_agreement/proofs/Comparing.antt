@@ -1,5 +1,6 @@
 -- Numbers and sockets compared one by one.
-use Rattle.std.proofs.Common.{◌≡◌, ℕ, ◌+◌, ◌<◌, ◌≤◌, Bool, true, false, not, ◌&&◌, ◌||◌, nat_eq, nat_le, List, [], ◌∷◌, Some, None, refl, sym, ap, ◌∙◌, inl, inr, arith}
+use Rattle.std.proofs.Common.{◌≡◌, ℕ, ◌+◌, ◌<◌, ◌≤◌, Bool, true, false, not, ◌&&◌, ◌||◌, nat_eq, nat_le, List, [], ◌∷◌}
+use Rattle.std.proofs.Common.{Some, None, refl, sym, ap, ◌∙◌, inl, inr, arith}
 use Rattle.std.specs.List.{list_any}
 use Rattle.std.specs.Option.{option_eq}
 use Rattle.std.proofs.lemmas.Bool.{cases_lt, cases_eq, true≢false}
@@ -8,7 +9,7 @@ use Rattle.listener_set.specs.Numbers.{is_in, first_from, without_number, RisesF
 use Rattle.listener_set.specs.Descriptors.{descriptors_of, socket_of}
 use Rattle.listener_set.proofs.Rising.{is_in-below}
 use Rattle.definitions.specs.Table.{Address, Hold, Process, Caller, Table, live_master}
-use Rattle.definitions.specs.Record.{Agrees}
+use Rattle.definitions.specs.Master.{Agrees}
 use Rattle.kernel_rows.specs.declared.process.Holder.{Holder}
 use Rattle.kernel_rows.specs.Holds.{seen_hold, seen_holds}
 use Rattle.kernel_agreement.specs.declared.agreement.Running.{Running}
@@ -73,7 +74,9 @@ socket_of-first : (p : ℕ × ℕ) (ps : List (ℕ × ℕ)) → socket_of (p ∷
 socket_of-first p ps = let same : nat_eq p.0 p.0 ≡ true = grind (arith, nat_tests) in rw same refl
 
 -- the same sockets under all descriptors
-pub same_pairs : (ps qs : List (ℕ × ℕ)) (b limit : ℕ) → RisesFrom b (descriptors_of ps) → RisesFrom b (descriptors_of qs) → AreBelow limit (descriptors_of ps) → AreBelow limit (descriptors_of qs) → ((d : ℕ) → b ≤ d → d < limit → socket_of ps d ≡ socket_of qs d) → ps ≡ qs
+pub same_pairs : (ps qs : List (ℕ × ℕ)) (b limit : ℕ) → RisesFrom b (descriptors_of ps) →
+    RisesFrom b (descriptors_of qs) → AreBelow limit (descriptors_of ps) → AreBelow limit (descriptors_of qs) →
+    ((d : ℕ) → b ≤ d → d < limit → socket_of ps d ≡ socket_of qs d) → ps ≡ qs
 same_pairs [] [] b limit g h k l same = refl
 same_pairs [] (q ∷ qs) b limit g h k l same = let e = same q.0 h.0 l.0 ∙ socket_of-first q qs in cc
 same_pairs (p ∷ ps) [] b limit g h k l same = let e = sym (socket_of-first p ps) ∙ same p.0 g.0 k.0 in cc
@@ -113,16 +116,24 @@ same_sockets addresses (p ∷ ps) (q ∷ qs) e =
 ---- Rows that are still to come
 
 -- a test of the rows, of which one is the first
-pub any_next : (test : Process → Bool) (addresses : List Address) (left rest : List Holder) (h : Holder) → left ≡ h ∷ rest → list_any test (seen_rows addresses left) ≡ (test (seen_holder addresses h) || list_any test (seen_rows addresses rest))
+pub any_next : (test : Process → Bool) (addresses : List Address) (left rest : List Holder) (h : Holder) → left ≡ h
+    ∷ rest → list_any test (seen_rows addresses left)
+    ≡ (test (seen_holder addresses h) || list_any test (seen_rows addresses rest))
 any_next test addresses left rest h turn = ap (λ hs. list_any test (seen_rows addresses hs)) turn
 
-pub found_first : (test : Process → Bool) (addresses : List Address) (all left rest : List Holder) (h : Holder) (gone : Bool) → left ≡ h ∷ rest → list_any test (seen_rows addresses all) ≡ (list_any test (seen_rows addresses left) || gone) → list_any test (seen_rows addresses all) ≡ ((test (seen_holder addresses h) || list_any test (seen_rows addresses rest)) || gone)
+pub found_first : (test : Process → Bool) (addresses : List Address) (all left rest : List Holder) (h : Holder)
+    (gone : Bool) → left ≡ h ∷ rest →
+    list_any test (seen_rows addresses all) ≡ (list_any test (seen_rows addresses left) || gone) →
+    list_any test (seen_rows addresses all)
+    ≡ ((test (seen_holder addresses h) || list_any test (seen_rows addresses rest)) || gone)
 found_first test addresses all left rest h gone turn found = found ∙ ap (λ b. b || gone) (any_next test addresses left rest h turn)
 
 ---- Numbers that are missing
 
 -- a number that was found is missing no longer
-pub found_next : (whole here later listed missing now same : Bool) → whole ≡ ((here || later) || (listed && not missing)) → here ≡ same → now ≡ (missing && not same) → (same ≡ true → listed ≡ true) → whole ≡ (later || (listed && not now))
+pub found_next : (whole here later listed missing now same : Bool) →
+    whole ≡ ((here || later) || (listed && not missing)) → here ≡ same → now ≡ (missing && not same) →
+    (same ≡ true → listed ≡ true) → whole ≡ (later || (listed && not now))
 found_next whole here later listed missing now same found is left known =
     found ∙ ap (λ b. (b || later) || (listed && not missing)) is ∙ turn same later listed missing known
     ∙ ap (λ b. later || (listed && not b)) (sym left)
@@ -150,7 +161,9 @@ none_in (n ∷ ns) none =
 ---- The record and the table
 
 -- what a record says of the live master of its image
-pub agreed : (t : Table) (m : Caller) (c : Running) (wanted retries timeout : ℕ) → Some m ≡ live_master c.crew.generation.image t.rows → Agrees t (running c wanted retries timeout) → MasterAgrees t.rows m c × WorkersAgree t.rows m c
+pub agreed : (t : Table) (m : Caller) (c : Running) (wanted retries timeout : ℕ) →
+    Some m ≡ live_master c.crew.generation.image t.rows → Agrees t (running c wanted retries timeout) →
+    MasterAgrees t.rows m c × WorkersAgree t.rows m c
 agreed t m c wanted retries timeout found a =
     let lives : Some m ≡ Some (record { number = c.pid; holds = a.holds }) = found ∙ a.lives in
     let is : m ≡ record { number = c.pid; holds = a.holds } = cc in

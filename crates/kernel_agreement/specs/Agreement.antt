@@ -2,9 +2,9 @@
 use Rattle.std.specs.Prelude.{ℕ, ◌≡◌, List, map, count_by}
 use Rattle.std.specs.List.{list_any, AllByRecursion}
 use Rattle.listener_set.specs.Numbers.{is_in}
-use Rattle.definitions.specs.Table.{Generation, Hold, Process, Caller, is_master, is_ready, is_worker}
-use Rattle.definitions.specs.Crew.{Crew}
-use Rattle.definitions.specs.Record.{Record, IsRunning, listener_of}
+use Rattle.definitions.specs.Table.{Generation, Hold, Process, Caller, is_master, is_worker}
+use Rattle.call_laws.specs.Pieces.{is_ready, listener_of}
+use Rattle.definitions.specs.Master.{Crew, Record, IsRunning}
 use Rattle.kernel_agreement.specs.declared.agreement.Running.{Running}
 
 -- A record of these parts. What it wants does not matter to the table.

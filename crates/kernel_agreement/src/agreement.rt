@@ -4,7 +4,7 @@ ghost use Rattle.std.specs.Bool.{OnTrue};
 ghost use Rattle.listener_set.specs.Numbers.{is_in};
 ghost use Rattle.vocabulary.specs.Settings.{HasSuffixRoom};
 ghost use Rattle.definitions.specs.Table.{is_master};
-ghost use Rattle.definitions.specs.Record.{Agrees, FilesAre, IsRunning};
+ghost use Rattle.definitions.specs.Master.{Agrees, FilesAre, IsRunning};
 ghost use Rattle.kernel_rows.specs.Holds.{seen_holds};
 ghost use Rattle.kernel_rows.specs.Seen.{seen_caller, seen_holder, seen_rows};
 ghost use Rattle.kernel_table.specs.Seen.{seen, seen_file};

@@ -6,7 +6,7 @@ use Rattle.std.proofs.lemmas.Bool.Decides.{nat_tests}
 use Rattle.std.proofs.lemmas.Slice.Eq.{bytes_eq-Decides}
 use Rattle.vocabulary.specs.declared.table.Listener.{Listener}
 use Rattle.definitions.specs.Table.{Hold}
-use Rattle.definitions.specs.Record.{listener_of}
+use Rattle.call_laws.specs.Pieces.{listener_of}
 use Rattle.definitions.specs.Calls.{Handover, are_listeners, suits}
 use Rattle.kernel_model.proofs.CallSteps.{and-both}
 
@@ -37,7 +37,8 @@ alike false true f g = absurd (false≢true (g refl))
 alike false false f g = refl
 
 -- the handover of the image suits where its listeners are the holds
-pub suits-image : (h : Handover) (image : ℕ) (hs : List Hold) (b : Bool) → h.generation.image ≡ image → (b ≡ true) ↔ (map listener_of hs ≡ h.listeners) → b ≡ suits (Some h) image hs
+pub suits-image : (h : Handover) (image : ℕ) (hs : List Hold) (b : Bool) → h.generation.image ≡ image →
+    (b ≡ true) ↔ (map listener_of hs ≡ h.listeners) → b ≡ suits (Some h) image hs
 suits-image h image hs b same is =
     let own : nat_eq h.generation.image image ≡ true = grind (arith, nat_tests) in
     alike b (are_listeners h.listeners hs) (λ t. ap (λ ls. are_listeners ls hs) (sym (is.0 t)) ∙ listed-again hs) (λ t. is.1 (all-listed h.listeners hs t))

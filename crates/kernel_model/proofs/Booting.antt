@@ -1,5 +1,7 @@
 -- How a start comes about.
-use Rattle.std.proofs.Common.{◌≡◌, ℕ, suc, zero, ◌+◌, ◌-◌, ◌<◌, ◌≤◌, Bool, true, false, cond, ◌&&◌, ◌||◌, nat_eq, nat_lt, Option, Result, Ok, Err, List, [], ◌∷◌, ◌++◌, map, length, take, get_or, count_by, refl, sym, ap, subst, ◌∙◌, arith, add-one}
+use Rattle.std.proofs.Common.{◌≡◌, ℕ, suc, zero, ◌+◌, ◌-◌, ◌<◌, ◌≤◌, Bool, true, false, cond, ◌&&◌, ◌||◌, nat_eq}
+use Rattle.std.proofs.Common.{nat_lt, Option, Result, Ok, Err, List, [], ◌∷◌, ◌++◌, map, length, take, get_or, count_by}
+use Rattle.std.proofs.Common.{refl, sym, ap, subst, ◌∙◌, arith, add-one}
 use Rattle.std.specs.Prelude.{IfOk, IsErr}
 use Rattle.std.specs.List.{AllByRecursion, list_any}
 use Rattle.std.proofs.lemmas.Bool.{false≢true}
@@ -10,12 +12,12 @@ use Rattle.std.proofs.lemmas.List.Folds.{list_any-append}
 use Rattle.listener_set.specs.Numbers.{numbers_below, is_in}
 use Rattle.listener_set.specs.Descriptors as pairs
 use Rattle.vocabulary.specs.declared.table.Limits.{Limits}
-use Rattle.definitions.specs.Table.{Address, FilePath, Generation, same_generation, Hold, Process, Master, is_active, is_worker}
+use Rattle.definitions.specs.Table.{Address, FilePath, Generation, same_generation, Hold, Process, Master, is_active}
+use Rattle.definitions.specs.Table.{is_worker, IsQuiet, HasParent, IsAscending}
 use Rattle.worker_groups.specs.Crews.{first_posts}
-use Rattle.definitions.specs.Crew.{Posts, Group, fds_of}
+use Rattle.definitions.specs.Master.{Posts, Group, fds_of}
 use Rattle.call_laws.specs.Start.{first_generation, holds_from, first_worker, first_rows, first_files, booted}
 use Rattle.definitions.specs.Calls.{is_image}
-use Rattle.definitions.specs.Table.{IsQuiet, HasParent, IsAscending}
 use Rattle.kernel_rows.specs.Holds.{address_of, seen_hold, seen_holds}
 use Rattle.kernel_table.specs.declared.store.Store.{Store}
 use Rattle.kernel_rows.specs.Seen.{seen_rows}
@@ -53,7 +55,8 @@ taken-first (suc n) k lt = list_any-append (λ (p : ℕ × ℕ). nat_eq p.0 (3 +
     or-last true b e = refl
     or-last false b e = ap (λ c. c || false) e
 
-    at : (b : Bool) → nat_lt k n ≡ b → (k < n → list_any (λ (p : ℕ × ℕ). nat_eq p.0 (3 + k)) (first_pairs n) ≡ true) → (list_any (λ (p : ℕ × ℕ). nat_eq p.0 (3 + k)) (first_pairs n) || (nat_eq (3 + n) (3 + k) || false)) ≡ true
+    at : (b : Bool) → nat_lt k n ≡ b → (k < n → list_any (λ (p : ℕ × ℕ). nat_eq p.0 (3 + k)) (first_pairs n) ≡ true) →
+        (list_any (λ (p : ℕ × ℕ). nat_eq p.0 (3 + k)) (first_pairs n) || (nat_eq (3 + n) (3 + k) || false)) ≡ true
     at true e ih = or-true _ (nat_eq (3 + n) (3 + k) || false) (ih (grind (arith, nat_tests)))
     at false e ih = or-last (list_any (λ (p : ℕ × ℕ). nat_eq p.0 (3 + k)) (first_pairs n)) (nat_eq (3 + n) (3 + k)) (grind (arith, nat_tests))
 
@@ -86,7 +89,9 @@ put-last (p ∷ ps) fd s h =
     rw no (ap (λ qs. p ∷ qs) (put-last ps fd s h.1))
 
 -- one descriptor more
-pub first_pairs-put : {E : Type 0} (r : Result ℕ E) (old new : List (ℕ × ℕ)) (n : ℕ) → n < 64 → old ≡ first_pairs n → IfOk r (λ fd. fd ≡ pairs.lowest_free (pairs.descriptors_of old)) → IfOk r (λ fd. new ≡ pairs.put_pair old fd (n + 1)) → (IsErr r → length old ≡ 64) → new ≡ first_pairs (n + 1)
+pub first_pairs-put : {E : Type 0} (r : Result ℕ E) (old new : List (ℕ × ℕ)) (n : ℕ) → n < 64 → old ≡ first_pairs n →
+    IfOk r (λ fd. fd ≡ pairs.lowest_free (pairs.descriptors_of old)) →
+    IfOk r (λ fd. new ≡ pairs.put_pair old fd (n + 1)) → (IsErr r → length old ≡ 64) → new ≡ first_pairs (n + 1)
 first_pairs-put (Ok fd) old new n lt is lowest after full =
     let low : fd ≡ 3 + n = lowest ∙ ap (λ ps. pairs.lowest_free (pairs.descriptors_of ps)) is ∙ lowest-first n in
     after ∙ rw (is, low) (put-last (first_pairs n) (3 + n) (n + 1) (below-first n) ∙ sym (first_pairs-more n))
@@ -96,7 +101,9 @@ first_pairs-put (Err e) old new n lt is lowest after full =
     absurd (omega arith)
 
 -- ---- the first holds
-holds_from-push : (fd s : ℕ) (xs : List Address) (a : Address) → holds_from fd s (xs ++ a ∷ []) ≡ holds_from fd s xs ++ (record { fd = fd + length xs; socket = s + length xs; address = a }) ∷ []
+holds_from-push : (fd s : ℕ) (xs : List Address) (a : Address) →
+    holds_from fd s (xs ++ a ∷ [])
+    ≡ holds_from fd s xs ++ (record { fd = fd + length xs; socket = s + length xs; address = a }) ∷ []
 holds_from-push fd s [] a =
     let d : fd ≡ fd + 0 = omega arith in
     let n : s ≡ s + 0 = omega arith in
@@ -137,7 +144,9 @@ first_rows-more posts holds n =
     ∙ ap (λ rows. Master 100 1 1 true holds ∷ rows) (map-push (first_worker posts holds) (numbers_below n) n)
 
 module _ (posts : Posts) (holds : List Hold) where
-  all-workers : (P : Process → Type 0) (limit n : ℕ) → n ≤ limit → ((k : ℕ) → k < limit → P (first_worker posts holds k)) → AllByRecursion P (map (first_worker posts holds) (numbers_below n))
+  all-workers : (P : Process → Type 0) (limit n : ℕ) → n ≤ limit →
+      ((k : ℕ) → k < limit → P (first_worker posts holds k)) →
+      AllByRecursion P (map (first_worker posts holds) (numbers_below n))
   all-workers P limit zero le h = tt
   all-workers P limit (suc n) le h =
       subst (AllByRecursion P) (sym (map-push (first_worker posts holds) (numbers_below n) n))
@@ -158,16 +167,22 @@ module _ (posts : Posts) (holds : List Hold) where
         let is = last.1 in
         grind (arith, nat_tests)
 
-    count-workers : (n : ℕ) → (n ≤ k → count_by (is_worker is_active q g k) (map (first_worker posts holds) (numbers_below n)) ≡ 0) × (count_by (is_worker is_active q g k) (map (first_worker posts holds) (numbers_below n)) ≤ 1)
+    count-workers : (n : ℕ) →
+        (n ≤ k → count_by (is_worker is_active q g k) (map (first_worker posts holds) (numbers_below n)) ≡ 0) ×
+        (count_by (is_worker is_active q g k) (map (first_worker posts holds) (numbers_below n)) ≤ 1)
     count-workers zero = (λ le. refl, omega arith)
     count-workers (suc n) =
         let more = ap (count_by (is_worker is_active q g k)) (map-push (first_worker posts holds) (numbers_below n) n) ∙ count-append (is_worker is_active q g k) (map (first_worker posts holds) (numbers_below n)) (first_worker posts holds n) in
         at (is_worker is_active q g k (first_worker posts holds n)) (number-of n) (count-workers n) more
       where
         at : (b : Bool) → (b ≡ true → n ≡ k)
-            → (n ≤ k → count_by (is_worker is_active q g k) (map (first_worker posts holds) (numbers_below n)) ≡ 0) × (count_by (is_worker is_active q g k) (map (first_worker posts holds) (numbers_below n)) ≤ 1)
-            → count_by (is_worker is_active q g k) (map (first_worker posts holds) (numbers_below (suc n))) ≡ count_by (is_worker is_active q g k) (map (first_worker posts holds) (numbers_below n)) + cond b 1 0
-            → (suc n ≤ k → count_by (is_worker is_active q g k) (map (first_worker posts holds) (numbers_below (suc n))) ≡ 0) × (count_by (is_worker is_active q g k) (map (first_worker posts holds) (numbers_below (suc n))) ≤ 1)
+            → (n ≤ k → count_by (is_worker is_active q g k) (map (first_worker posts holds) (numbers_below n)) ≡ 0) ×
+            (count_by (is_worker is_active q g k) (map (first_worker posts holds) (numbers_below n)) ≤ 1)
+            → count_by (is_worker is_active q g k) (map (first_worker posts holds) (numbers_below (suc n)))
+            ≡ count_by (is_worker is_active q g k) (map (first_worker posts holds) (numbers_below n)) + cond b 1 0
+            → (suc n ≤ k → count_by (is_worker is_active q g k) (map (first_worker posts holds) (numbers_below (suc n)))
+            ≡ 0) ×
+            (count_by (is_worker is_active q g k) (map (first_worker posts holds) (numbers_below (suc n))) ≤ 1)
         at true same ih more = let e = same refl in let none = ih.0 (omega arith) in (λ le. absurd (omega arith), omega arith)
         at false same ih more = (λ le. (let none = ih.0 (omega arith) in omega arith), (let most = ih.1 in omega arith))
 
@@ -183,12 +198,14 @@ one-at-most : (b : Bool) {m n : ℕ} → m ≡ cond b 1 0 + n → n ≡ 0 → m 
 one-at-most true e z = omega (arith, e, z)
 one-at-most false e z = omega (arith, e, z)
 
-within-from : (next fd s : ℕ) (xs : List Address) → 1 ≤ s → s + length xs ≤ next → AllByRecursion (λ (h : Hold). (1 ≤ h.socket) × (h.socket < next)) (holds_from fd s xs)
+within-from : (next fd s : ℕ) (xs : List Address) → 1 ≤ s → s + length xs ≤ next →
+    AllByRecursion (λ (h : Hold). (1 ≤ h.socket) × (h.socket < next)) (holds_from fd s xs)
 within-from next fd s [] least le = tt
 within-from next fd s (x ∷ xs) least le = ((least, omega arith), within-from next (fd + 1) (s + 1) xs (omega arith) (omega arith))
 
 -- a start keeps what every table keeps
-pub IsKept-booted : (listeners : List Address) (groups : List Group) (n : ℕ) (pid_file : Option FilePath) (limits : Limits) → limits.descriptors ≤ 64 → IsKept (booted listeners groups n pid_file limits)
+pub IsKept-booted : (listeners : List Address) (groups : List Group) (n : ℕ) (pid_file : Option FilePath)
+    (limits : Limits) → limits.descriptors ≤ 64 → IsKept (booted listeners groups n pid_file limits)
 IsKept-booted listeners groups n pid_file limits most =
     let posts = first_posts groups in
     let holds = holds_from 3 1 listeners in
@@ -214,7 +231,13 @@ IsKept-booted listeners groups n pid_file limits most =
       descriptors = most;
     }
 
-module _ (s : Store) (listeners : List Address) (groups : List Group) (n : ℕ) (pid_file : Option FilePath) (limits : Limits) (first : List (ℕ × ℕ)) (same : s.addresses.items ≡ listeners) (holds : first ≡ first_pairs (length listeners)) (rows : (addresses : List Address) → seen_rows addresses s.holders.items ≡ first_rows (first_posts groups) (seen_holds addresses first) n) (files : map seen_file s.files.items ≡ first_files pid_file) (next : s.next_process ≡ 101 + n) (limit : s.limits ≡ limits) where
+module _ (s : Store) (listeners : List Address) (groups : List Group) (n : ℕ) (pid_file : Option FilePath)
+    (limits : Limits) (first : List (ℕ × ℕ)) (same : s.addresses.items ≡ listeners)
+    (holds : first ≡ first_pairs (length listeners))
+    (rows : (addresses : List Address) →
+    seen_rows addresses s.holders.items ≡ first_rows (first_posts groups) (seen_holds addresses first) n)
+    (files : map seen_file s.files.items ≡ first_files pid_file) (next : s.next_process ≡ 101 + n)
+    (limit : s.limits ≡ limits) where
   -- the store of a start
   pub seen-booted : seen s ≡ booted listeners groups n pid_file limits
   seen-booted =

@@ -3,18 +3,23 @@ use Rattle.std.proofs.Common.{◌≡◌, ℕ, ◌≤◌, Bool, true, false, cond
 use Rattle.std.specs.List.{list_any}
 use Rattle.vocabulary.specs.declared.table.Stance.TheVariants.{Starting}
 use Rattle.vocabulary.specs.declared.calls.Call.{Call}
-use Rattle.vocabulary.specs.declared.calls.Call.TheVariants.{OpenAt, CloseAt, Fork, AwaitReady, Quit, Kill, Census, AwaitGone, SpawnMaster, Adopt, WritePid, MovePid, RemovePid, Alive, Leave, Usr1, TermMaster, Ask}
+use Rattle.vocabulary.specs.declared.calls.Call.TheVariants.{OpenAt, CloseAt, Fork, AwaitReady, Quit, Kill, Census}
+use Rattle.vocabulary.specs.declared.calls.Call.TheVariants.{AwaitGone, SpawnMaster, Adopt, WritePid, MovePid}
+use Rattle.vocabulary.specs.declared.calls.Call.TheVariants.{RemovePid, Alive, Leave, Usr1, TermMaster, Ask}
 use Rattle.vocabulary.specs.declared.calls.Answer.{Answer}
 use Rattle.vocabulary.specs.declared.calls.Fate.{Fate}
 use Rattle.vocabulary.specs.declared.names.Name.{Name}
-use Rattle.definitions.specs.Table.{Address, FilePath, File, owner_at, Generation, Hold, Process, Master, Worker, Table, with_rows, is_active, is_starting, is_exited, is_any, is_worker, is_held, Caller, live_master}
-use Rattle.definitions.specs.Exits.{after_exits}
-use Rattle.definitions.specs.Calls.{is_image, opened, forked, spawned, awaited, moved_if, asked_alive, suits, with_files, Stepped, made_ready, made_draining, with_holds, lacks_address, lowest_free, is_of, is_exited_of, has_process_room, with_new_row, shared, with_new_socket, own_step, fault_or_own, step_by, step_with}
-use Rattle.call_laws.specs.Pieces.{killed, fault_at}
-use Rattle.definitions.specs.Calls.{Handed}
+use Rattle.definitions.specs.Table.{Address, FilePath, File, owner_at, Generation, Hold, Process, Master, Worker, Table}
+use Rattle.definitions.specs.Table.{is_active, is_worker, is_held, Caller, live_master}
+use Rattle.call_laws.specs.Pieces.{with_rows, is_starting, is_exited, is_any, with_new_socket, opened, forked, spawned}
+use Rattle.call_laws.specs.Pieces.{awaited, moved_if, asked_alive, with_files, made_ready, made_draining, lacks_address}
+use Rattle.call_laws.specs.Pieces.{fault_or_own, killed, fault_at}
+use Rattle.definitions.specs.Calls.{after_exits, is_image, Stepped, with_holds, lowest_free, is_of, is_exited_of}
+use Rattle.definitions.specs.Calls.{has_process_room, with_new_row, shared, own_step, step_by, step_with, suits, Handed}
 use Rattle.kernel_table.specs.Room.{IsKept}
 use Rattle.kernel_table.proofs.Keeping.{AreKept}
-use Rattle.kernel_model.proofs.Steps.{same-draining, same-ready, same-holds, worker-named, worker-of, kept-change, kept-dropped, drains_so, ready_so, closes_so, kept-all_exited}
+use Rattle.kernel_model.proofs.Steps.{same-draining, same-ready, same-holds, worker-named, worker-of, kept-change}
+use Rattle.kernel_model.proofs.Steps.{kept-dropped, drains_so, ready_so, closes_so, kept-all_exited}
 use Rattle.kernel_model.proofs.CallSteps.{live-caller, caller-sockets, within-shared, kept-fork, kept-open}
 use Rattle.kernel_model.proofs.MasterSteps.{kept-spawn, kept-reaped, kept-left, kept-terminated}
 
@@ -22,7 +27,8 @@ use Rattle.kernel_model.proofs.MasterSteps.{kept-spawn, kept-reaped, kept-left, 
 pub kept-table : (t : Table) → IsKept t → AreKept t.rows t.next_process t.next_socket
 kept-table t h = record { once = h.formed.once; masters = h.masters; quiet = h.formed.quiet; parents = h.formed.parents; ascending = h.formed.ascending; sockets = h.sockets }
 
-pub kept-rows : (t t' : Table) → IsKept t → AreKept t'.rows t'.next_process t'.next_socket → t.next_socket ≤ t'.next_socket → t'.limits.descriptors ≡ t.limits.descriptors → IsKept t'
+pub kept-rows : (t t' : Table) → IsKept t → AreKept t'.rows t'.next_process t'.next_socket →
+    t.next_socket ≤ t'.next_socket → t'.limits.descriptors ≡ t.limits.descriptors → IsKept t'
 kept-rows t t' h rows le same = record {
   masters = rows.masters;
   formed = record { once = rows.once; quiet = rows.quiet; parents = rows.parents; ascending = rows.ascending };
@@ -119,10 +125,12 @@ module _ (handed : Handed) (image : ℕ) (c : Caller) (t : Table) (h : IsKept t)
   faulted-kept None call = own_step-kept call
   faulted-kept (Some a) call = h
 
-step_by-kept : (handed : Handed) (image : ℕ) (c : Option Caller) (call : Call) (f : Option Fate) (t : Table) → IsKept t → live_master image t.rows ≡ c → (let z : Stepped = step_by handed image c call f t in IsKept z.table)
+step_by-kept : (handed : Handed) (image : ℕ) (c : Option Caller) (call : Call) (f : Option Fate) (t : Table) →
+    IsKept t → live_master image t.rows ≡ c → (let z : Stepped = step_by handed image c call f t in IsKept z.table)
 step_by-kept handed image None call f t h e = h
 step_by-kept handed image (Some c) call f t h e = faulted-kept handed image c t h e (fault_at c call f t) call
 
 -- A call keeps what every table keeps.
-pub IsKept-step : (handed : Handed) (image : ℕ) (call : Call) (f : Option Fate) (t : Table) → IsKept t → (let z : Stepped = step_with handed image call f t in IsKept z.table)
+pub IsKept-step : (handed : Handed) (image : ℕ) (call : Call) (f : Option Fate) (t : Table) → IsKept t →
+    (let z : Stepped = step_with handed image call f t in IsKept z.table)
 IsKept-step handed image call f t h = step_by-kept handed image (live_master image t.rows) call f t h refl

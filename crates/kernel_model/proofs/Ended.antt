@@ -2,8 +2,9 @@
 use Rattle.std.proofs.Common.{◌≡◌, ℕ, ◌+◌, ◌≤◌, Bool, true, false, cond, ◌&&◌, ◌||◌, nat_eq, List, [], ◌∷◌, count_by, refl, sym, arith}
 use Rattle.std.specs.List.{filter_map, list_any}
 use Rattle.std.proofs.lemmas.List.Sums.{sum_by-cons}
-use Rattle.definitions.specs.Table.{Process, Master, Worker, Foreign, owner_if}
-use Rattle.definitions.specs.Calls.{drop_where, is_image, is_image_row, is_of_image}
+use Rattle.definitions.specs.Table.{Process, Master, Worker, Foreign}
+use Rattle.call_laws.specs.Pieces.{owner_if, is_image_row}
+use Rattle.definitions.specs.Calls.{drop_where, is_image, is_of_image}
 use Rattle.kernel_rows.specs.Seen.{is_number}
 use Rattle.kernel_rows.specs.Edits.{is_of_either}
 use Rattle.kernel_rows.specs.Rows.{master_number}
@@ -18,7 +19,10 @@ module _ (image q : ℕ) where
   no-rows (Foreign n hs ∷ rows) e = let first = counted-on (Foreign n hs) rows in no-rows rows (omega (arith, first, e))
   no-rows (Master n q' i live hs ∷ rows) e = at (nat_eq i image) (counted-on (Master n q' i live hs) rows) (no-rows rows)
     where
-      at : (b : Bool) → count_by (is_image image) (Master n q' i live hs ∷ rows) ≡ cond b 1 0 + count_by (is_image image) rows → (count_by (is_image image) rows ≡ 0 → list_any (is_image_row image q) rows ≡ false) → ((b && nat_eq n q) || list_any (is_image_row image q) rows) ≡ false
+      at : (b : Bool) → count_by (is_image image) (Master n q' i live hs ∷ rows)
+          ≡ cond b 1 0 + count_by (is_image image) rows →
+          (count_by (is_image image) rows ≡ 0 → list_any (is_image_row image q) rows ≡ false) →
+          ((b && nat_eq n q) || list_any (is_image_row image q) rows) ≡ false
       at true first ih = absurd (omega (arith, first, e))
       at false first ih = ih (omega (arith, first, e))
 
@@ -39,10 +43,13 @@ module _ (image q : ℕ) where
       at true first ih = sym (or-false (nat_eq n q) _ (no-rows rows (omega (arith, first, le))))
       at false first ih = ih (omega (arith, first, le))
 
-ended-alike : (image : ℕ) (all : List Process) → count_by (is_image image) all ≤ 1 → (p : Process) → is_of_either image (master_number image all) p ≡ is_of_image image all p
+ended-alike : (image : ℕ) (all : List Process) → count_by (is_image image) all ≤ 1 → (p : Process) →
+    is_of_either image (master_number image all) p ≡ is_of_image image all p
 ended-alike image all le (Master n q i live hs) = refl
 ended-alike image all le (Worker n q g k s hs) = number-alike image q all le
 ended-alike image all le (Foreign n hs) = refl
 
-pub ended-all : (image : ℕ) (all rows : List Process) → count_by (is_image image) all ≤ 1 → filter_map (drop_where (is_of_either image (master_number image all))) rows ≡ filter_map (drop_where (is_of_image image all)) rows
+pub ended-all : (image : ℕ) (all rows : List Process) → count_by (is_image image) all ≤ 1 →
+    filter_map (drop_where (is_of_either image (master_number image all))) rows
+    ≡ filter_map (drop_where (is_of_image image all)) rows
 ended-all image all rows le = λ i. filter_map (drop_where (λ p. ended-alike image all le p i)) rows

@@ -2,8 +2,9 @@
 use Rattle.std.proofs.Common.{◌≡◌, ℕ, ◌+◌, ◌<◌, List, [], ◌∷◌, length, get_or, drop, sym, ap, subst, ◌∙◌, arith}
 use Rattle.std.proofs.lemmas.List.{drop_more}
 use Rattle.vocabulary.specs.declared.names.Name.{Name}
-use Rattle.definitions.specs.Table.{Table, with_rows}
-use Rattle.definitions.specs.Exits.{exited, after_exits}
+use Rattle.definitions.specs.Table.{Table}
+use Rattle.call_laws.specs.Pieces.{with_rows}
+use Rattle.definitions.specs.Calls.{exited, after_exits}
 use Rattle.kernel_table.specs.declared.store.Store.{Store}
 use Rattle.kernel_table.specs.Room.{EditsRows, IsKept}
 use Rattle.kernel_model.proofs.CallsKept.{IsKept-exits}

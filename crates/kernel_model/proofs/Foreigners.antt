@@ -1,11 +1,13 @@
 -- A process of somebody else leaves what every table keeps.
-use Rattle.std.proofs.Common.{◌≡◌, ℕ, ◌+◌, ◌<◌, ◌≤◌, ◌^◌, Bool, true, false, ◌||◌, List, [], ◌∷◌, ◌++◌, length, refl, sym, ap, subst, ◌∙◌, inl, inr, nat_lt, arith}
+use Rattle.std.proofs.Common.{◌≡◌, ℕ, ◌+◌, ◌<◌, ◌≤◌, ◌^◌, Bool, true, false, ◌||◌, List, [], ◌∷◌, ◌++◌, length, refl}
+use Rattle.std.proofs.Common.{sym, ap, subst, ◌∙◌, inl, inr, nat_lt, arith}
 use Rattle.std.specs.List.{list_any}
 use Rattle.std.proofs.lemmas.Bool.Decides.{nat_tests}
 use Rattle.std.proofs.lemmas.List.Folds.{list_any-append}
-use Rattle.definitions.specs.Table.{Address, Process, Foreign, Table, holds_of, is_active, is_worker, is_live_master}
+use Rattle.definitions.specs.Table.{Address, Process, Foreign, Table, holds_of, is_active, is_worker, IsQuiet}
+use Rattle.definitions.specs.Table.{HasParent}
+use Rattle.call_laws.specs.Pieces.{is_live_master}
 use Rattle.definitions.specs.Calls.{is_image}
-use Rattle.definitions.specs.Table.{IsQuiet, HasParent}
 use Rattle.kernel_table.specs.declared.store.Store.{Store}
 use Rattle.kernel_table.specs.Seen.{seen}
 use Rattle.kernel_table.specs.Room.{GrowsByOne, HasMemoryFor, LacksNumbers, HasSockets, IsKept, IsSound}
@@ -21,7 +23,8 @@ use Rattle.kernel_model.proofs.CallsKept.{kept-table, kept-rows}
 abbrev foreign_at : ℕ → ℕ → Address → Process
 foreign_at n s a = Foreign n ((record { fd = 3; socket = s; address = a }) ∷ [])
 
-kept-foreign : (rows : List Process) (next socket : ℕ) (a : Address) → 1 ≤ socket → AreKept rows next socket → AreKept (rows ++ foreign_at next socket a ∷ []) (next + 1) (socket + 1)
+kept-foreign : (rows : List Process) (next socket : ℕ) (a : Address) → 1 ≤ socket → AreKept rows next socket →
+    AreKept (rows ++ foreign_at next socket a ∷ []) (next + 1) (socket + 1)
 kept-foreign rows next socket a first h =
     let p = foreign_at next socket a in
     let up : KeepsMasters rows (rows ++ p ∷ []) = λ q e. list_any-append (is_live_master q) rows (p ∷ []) ∙ ap (λ b. b || list_any (is_live_master q) (p ∷ [])) e in
@@ -46,7 +49,10 @@ no-less m n h = at (nat_lt m n) refl
     at true e = absurd (h (grind (arith, nat_tests)))
     at false e = grind (arith, nat_tests)
 
-pub sound-foreign : (old middle new : Store) (room needed : ℕ) (a : Address) → needed ≡ room + 1 → seen middle ≡ seen old → HasMemoryFor needed middle → (LacksNumbers (seen old) needed → ⊥) → IsKept (seen old) → seen new ≡ with_foreign a (seen middle) → GrowsByOne middle new → middle.free ≡ old.free → middle.lone ≡ old.lone → KnowsNames old → IsSound room new
+pub sound-foreign : (old middle new : Store) (room needed : ℕ) (a : Address) → needed ≡ room + 1 →
+    seen middle ≡ seen old → HasMemoryFor needed middle → (LacksNumbers (seen old) needed → ⊥) → IsKept (seen old) →
+    seen new ≡ with_foreign a (seen middle) → GrowsByOne middle new → middle.free ≡ old.free → middle.lone ≡ old.lone →
+    KnowsNames old → IsSound room new
 sound-foreign old middle new room needed a more same memory enough kept table grows free lone known =
     let processes = no-less (2 ^ 32) (old.next_process + needed) (λ lt. enough (inl lt)) in
     let sockets = no-less (2 ^ 32) (length old.addresses.items + 1 + needed) (λ lt. enough (inr lt)) in

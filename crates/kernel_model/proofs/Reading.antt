@@ -1,5 +1,6 @@
 -- Rows, holds and files, one at a time.
-use Rattle.std.proofs.Common.{◌≡◌, ℕ, suc, zero, ◌+◌, ◌-◌, ◌<◌, ◌≤◌, List, [], ◌∷◌, ◌++◌, map, length, get_or, Option, Some, None, refl, sym, ap, subst, ◌∙◌, arith}
+use Rattle.std.proofs.Common.{◌≡◌, ℕ, suc, zero, ◌+◌, ◌-◌, ◌<◌, ◌≤◌, List, [], ◌∷◌, ◌++◌, map, length, get_or, Option}
+use Rattle.std.proofs.Common.{Some, None, refl, sym, ap, subst, ◌∙◌, arith}
 use Rattle.std.specs.Prelude.{slice_get}
 use Rattle.std.specs.List.{AllByRecursion}
 use Rattle.std.specs.Option.{option_map}
@@ -24,7 +25,8 @@ row-again (row.Master n q i live) hs = refl
 row-again (row.Worker n q g k s) hs = refl
 row-again (row.Foreign n) hs = refl
 
-pub rows-again : (addresses : List Address) (holders : List Holder) (i : ℕ) → option_map (λ (h : Holder). h.row) (slice_get holders i) ≡ slice_get (map row_of (seen_rows addresses holders)) i
+pub rows-again : (addresses : List Address) (holders : List Holder) (i : ℕ) →
+    option_map (λ (h : Holder). h.row) (slice_get holders i) ≡ slice_get (map row_of (seen_rows addresses holders)) i
 rows-again addresses [] i = refl
 rows-again addresses (h ∷ holders) zero = ap Some (sym (row-again h.row (seen_holds addresses h.holds)))
 rows-again addresses (h ∷ holders) (suc i) = rows-again addresses holders i
@@ -45,14 +47,18 @@ module _ (addresses : List Address) (h : Holder) where
   pub length-holds_in : length (holds_in (seen_holder addresses h)) ≡ length h.holds
   length-holds_in = ap length holds-again ∙ length-map (seen_holds addresses h.holds) (hold_row (number_of (seen_holder addresses h))) ∙ length-map h.holds (seen_hold addresses)
 
-  pub hold-at : (i : ℕ) → slice_get (holds_in (seen_holder addresses h)) i ≡ option_map (λ (p : ℕ × ℕ). hold_row (number_of (seen_holder addresses h)) (seen_hold addresses p)) (slice_get h.holds i)
+  pub hold-at : (i : ℕ) → slice_get (holds_in (seen_holder addresses h)) i
+      ≡ option_map (λ (p : ℕ × ℕ). hold_row (number_of (seen_holder addresses h)) (seen_hold addresses p))
+      (slice_get h.holds i)
   hold-at i =
       ap (λ rows. slice_get rows i) holds-again
       ∙ slice_get-map (hold_row (number_of (seen_holder addresses h))) (seen_holds addresses h.holds) i
       ∙ ap (option_map (hold_row (number_of (seen_holder addresses h)))) (slice_get-map (seen_hold addresses) h.holds i)
       ∙ twice (slice_get h.holds i)
     where
-      twice : (o : Option (ℕ × ℕ)) → option_map (hold_row (number_of (seen_holder addresses h))) (option_map (seen_hold addresses) o) ≡ option_map (λ (p : ℕ × ℕ). hold_row (number_of (seen_holder addresses h)) (seen_hold addresses p)) o
+      twice : (o : Option (ℕ × ℕ)) →
+          option_map (hold_row (number_of (seen_holder addresses h))) (option_map (seen_hold addresses) o)
+          ≡ option_map (λ (p : ℕ × ℕ). hold_row (number_of (seen_holder addresses h)) (seen_hold addresses p)) o
       twice None = refl
       twice (Some p) = refl
 
@@ -70,13 +76,17 @@ slice_get-none (x ∷ xs) (suc k) e = let le = slice_get-none xs k e in omega ar
 pub address-found : (addresses : List Address) (socket : ℕ) (a : Address) → slice_get addresses (socket - 1) ≡ Some a → a ≡ address_of addresses socket
 address-found addresses socket a e = sym (slice_get-get_or addresses (socket - 1) a e)
 
-within-at : (next : ℕ) (hs : List Hold) (i : ℕ) (h : Hold) → AllByRecursion (λ (x : Hold). (1 ≤ x.socket) × (x.socket < next)) hs → slice_get hs i ≡ Some h → (1 ≤ h.socket) × (h.socket < next)
+within-at : (next : ℕ) (hs : List Hold) (i : ℕ) (h : Hold) →
+    AllByRecursion (λ (x : Hold). (1 ≤ x.socket) × (x.socket < next)) hs → slice_get hs i ≡ Some h → (1 ≤ h.socket) ×
+    (h.socket < next)
 within-at next [] i h w e = cc
 within-at next (x ∷ hs) zero h w e = let same : x ≡ h = cc in subst (λ (y : Hold). (1 ≤ y.socket) × (y.socket < next)) same w.0
 within-at next (x ∷ hs) (suc i) h w e = within-at next hs i h w.1 e
 
 -- each socket that is held has an address
-pub address-there : (addresses : List Address) (h : Holder) (i fd socket : ℕ) → HasSockets (length addresses + 1) (seen_holder addresses h) → slice_get h.holds i ≡ Some (fd, socket) → slice_get addresses (socket - 1) ≡ None → ⊥
+pub address-there : (addresses : List Address) (h : Holder) (i fd socket : ℕ) →
+    HasSockets (length addresses + 1) (seen_holder addresses h) → slice_get h.holds i ≡ Some (fd, socket) →
+    slice_get addresses (socket - 1) ≡ None → ⊥
 address-there addresses h i fd socket w at none =
     let held = subst (AllByRecursion (λ (x : Hold). (1 ≤ x.socket) × (x.socket < length addresses + 1))) (row-holds h.row (seen_holds addresses h.holds)) w in
     let found = slice_get-map (seen_hold addresses) h.holds i ∙ ap (option_map (seen_hold addresses)) at in
@@ -95,7 +105,8 @@ slice_get-right [] ys n = let e : 0 + n ≡ n = omega arith in ap (slice_get ys)
 slice_get-right (x ∷ xs) ys n = let e : suc (length xs) + n ≡ suc (length xs + n) = omega arith in ap (slice_get (x ∷ xs ++ ys)) e ∙ slice_get-right xs ys n
 
 module _ (addresses : List Address) (left rest : List Holder) (n : ℕ) (h : Holder) (turn : left ≡ h ∷ rest) where
-  pub sockets-first : (next : ℕ) → AllByRecursion (HasSockets next) (seen_rows addresses left) → HasSockets next (seen_holder addresses h) × AllByRecursion (HasSockets next) (seen_rows addresses rest)
+  pub sockets-first : (next : ℕ) → AllByRecursion (HasSockets next) (seen_rows addresses left) →
+      HasSockets next (seen_holder addresses h) × AllByRecursion (HasSockets next) (seen_rows addresses rest)
   sockets-first next w = subst (λ hs. AllByRecursion (HasSockets next) (seen_rows addresses hs)) turn w
 
   front : slice_get (hold_rows (seen_rows addresses left)) n ≡ slice_get (holds_in (seen_holder addresses h) ++ hold_rows (seen_rows addresses rest)) n
@@ -108,7 +119,9 @@ module _ (addresses : List Address) (left rest : List Holder) (n : ℕ) (h : Hol
       front ∙ slice_get-left (holds_in (seen_holder addresses h)) (hold_rows (seen_rows addresses rest)) n (omega arith)
 
   -- the hold is a later row's
-  pub hold-later : length h.holds ≤ n → slice_get (hold_rows (seen_rows addresses left)) n ≡ slice_get (hold_rows (seen_rows addresses rest)) (n - length h.holds)
+  pub hold-later : length h.holds ≤ n →
+      slice_get (hold_rows (seen_rows addresses left)) n
+      ≡ slice_get (hold_rows (seen_rows addresses rest)) (n - length h.holds)
   hold-later le =
       let own = holds_in (seen_holder addresses h) in
       let count = length-holds_in addresses h in

@@ -4,8 +4,7 @@ use Rattle.vocabulary.specs.declared.names.Name.{Name}
 use Rattle.vocabulary.specs.declared.calls.Call.{Call}
 use Rattle.vocabulary.specs.declared.calls.Fate.{Fate}
 use Rattle.definitions.specs.Table.{Table}
-use Rattle.definitions.specs.Exits.{after_exits}
-use Rattle.definitions.specs.Calls.{Stepped, step_with, Handed}
+use Rattle.definitions.specs.Calls.{after_exits, Stepped, step_with, Handed}
 use Rattle.kernel_table.specs.declared.store.Store.{Store}
 use Rattle.kernel_table.specs.Seen.{seen}
 use Rattle.kernel_table.specs.Room.{EditsRows, GrowsByOne, HasMemoryFor, HasRoomFor, IsKept, IsSound}
@@ -62,7 +61,8 @@ HasRoomFor-call room b c least h g =
     }
 
 -- memory for at least as many calls, and the same table
-pub sound-grown : (a b : Store) (room : ℕ) → seen b ≡ seen a → b.free ≡ a.free → b.lone ≡ a.lone → (HasMemoryFor room a → HasMemoryFor room b) → IsSound room a → IsSound room b
+pub sound-grown : (a b : Store) (room : ℕ) → seen b ≡ seen a → b.free ≡ a.free → b.lone ≡ a.lone →
+    (HasMemoryFor room a → HasMemoryFor room b) → IsSound room a → IsSound room b
 sound-grown a b room same free lone kept h =
     let processes : b.next_process ≡ a.next_process = ap (λ (t : Table). t.next_process) same in
     let sockets : length b.addresses.items + 1 ≡ length a.addresses.items + 1 = ap (λ (t : Table). t.next_socket) same in

@@ -8,11 +8,13 @@ use Rattle.vocabulary.specs.declared.table.Stance.{Stance}
 use Rattle.vocabulary.specs.declared.table.Stance.TheVariants.{Starting, Ready, Draining, Exited}
 use Rattle.vocabulary.specs.declared.names.Name.{Name}
 use Rattle.vocabulary.specs.declared.names.Name.TheVariants as name
-use Rattle.definitions.specs.Table.{Address, Generation, Hold, Process, Master, Worker, Foreign, is_active, is_starting, is_draining, is_named, is_worker, is_live_master, is_at, Caller, live_master}
-use Rattle.definitions.specs.Exits.{change, made_exited, without_exited, caller_exits, exited, all_exited, first_changed}
+use Rattle.definitions.specs.Table.{Address, Generation, Hold, Process, Master, Worker, Foreign, is_active, is_worker}
+use Rattle.definitions.specs.Table.{Caller, live_master, HasParent}
+use Rattle.call_laws.specs.Pieces.{is_named, is_live_master, is_starting, is_draining, is_at, made_exited, caller_exits}
+use Rattle.call_laws.specs.Pieces.{made_ready, made_draining, lacks_address}
+use Rattle.definitions.specs.Calls.{change, without_exited, exited, all_exited, first_changed, drop_where, with_holds}
+use Rattle.definitions.specs.Calls.{is_exited_of}
 use Rattle.std.specs.Bool.{then_some}
-use Rattle.definitions.specs.Calls.{drop_where, made_ready, made_draining, with_holds, lacks_address, is_exited_of}
-use Rattle.definitions.specs.Table.{HasParent}
 use Rattle.kernel_table.proofs.Keeping.{AreKept, Follows, AreKept-becomes, Becomes-filter_map, Becomes-first_changed, says-change, says-dropped}
 
 -- each live master is one afterwards

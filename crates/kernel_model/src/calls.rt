@@ -2,7 +2,8 @@
 ghost use Rattle.std.specs.Prelude.{◌≡◌, ℕ, List};
 ghost use Rattle.std.specs.List.{list_any};
 ghost use Rattle.definitions.specs.Table.{Table, Caller as LiveMaster, is_worker};
-ghost use Rattle.definitions.specs.Calls.{opened, forked, awaited, awaited_gone, moved, own_step, fault_of, step_with};
+ghost use Rattle.call_laws.specs.Pieces.{opened, forked, awaited, awaited_gone, moved};
+ghost use Rattle.definitions.specs.Calls.{own_step, fault_of, step_with};
 ghost use Rattle.call_laws.specs.Pieces.{closed, quitted, killed, counted, written, unlinked};
 ghost use Rattle.std.specs.Bool.{then_some};
 ghost use Rattle.handover_text.specs.Reading.{handed_by};

@@ -1,7 +1,9 @@
 //! Exits: processes that end before a call.
 ghost use Rattle.std.specs.Prelude.{◌≡◌};
-ghost use Rattle.definitions.specs.Table.{live_master, with_rows};
-ghost use Rattle.definitions.specs.Exits.{exited, after_exits, caller_exits};
+ghost use Rattle.definitions.specs.Table.{live_master};
+ghost use Rattle.call_laws.specs.Pieces.{with_rows};
+ghost use Rattle.definitions.specs.Calls.{exited, after_exits};
+ghost use Rattle.call_laws.specs.Pieces.{caller_exits};
 ghost use Rattle.kernel_table.specs.Seen.{seen};
 ghost use Rattle.kernel_table.specs.Room.{EditsRows, IsKept};
 

@@ -2,7 +2,7 @@
 ghost use Rattle.std.specs.Prelude.{true, false, ◌≡◌, ◌≤◌, ◌+◌, ◌↔◌, length, max, IsTrue, OnOk, OnErr, IfOk, IsErrOf};
 ghost use Rattle.std.specs.Option.{option_map};
 ghost use Rattle.definitions.specs.Table.{is_held, live_master, IsFormed};
-ghost use Rattle.definitions.specs.Exits.{after_exits};
+ghost use Rattle.definitions.specs.Calls.{after_exits};
 ghost use Rattle.definitions.specs.Calls.{step_with};
 ghost use Rattle.handover_text.specs.Reading.{handed_by};
 ghost use Rattle.call_laws.specs.Start.{booted};

@@ -1,6 +1,6 @@
 //! Whether a process listens where a list says.
 ghost use Rattle.std.specs.Prelude.{◌≡◌, ◌↔◌, IsTrue, bytes_eq, map};
-ghost use Rattle.definitions.specs.Record.{listener_of};
+ghost use Rattle.call_laws.specs.Pieces.{listener_of};
 ghost use Rattle.kernel_rows.specs.Holds.{address_of, seen_holds};
 
 use listener_set::{Address, DescriptorTable};

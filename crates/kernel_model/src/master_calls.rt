@@ -1,7 +1,10 @@
 //! Calls that start, ask for and end masters.
 ghost use Rattle.std.specs.Prelude.{◌≡◌};
 ghost use Rattle.definitions.specs.Table.{live_master};
-ghost use Rattle.definitions.specs.Calls.{spawned, suits, adopted, asked_alive};
+ghost use Rattle.call_laws.specs.Pieces.{spawned};
+ghost use Rattle.call_laws.specs.Pieces.{adopted};
+ghost use Rattle.definitions.specs.Calls.{suits};
+ghost use Rattle.call_laws.specs.Pieces.{asked_alive};
 ghost use Rattle.call_laws.specs.Pieces.{departed, terminated};
 ghost use Rattle.handover_text.specs.Reading.{handed_by};
 ghost use Rattle.kernel_rows.specs.Holds.{seen_holds};

@@ -3,8 +3,11 @@ ghost use Rattle.std.specs.Prelude.{◌≡◌, ℕ, List, [], Option, None, if�
 ghost use Rattle.std.specs.List.{list_any};
 ghost use Rattle.std.specs.Option.{option_map};
 ghost use Rattle.definitions.specs.Table.{is_active, is_worker, live_master};
-ghost use Rattle.definitions.specs.Calls.{opened, forked, spawned, adopted, moved, asked_alive, census_of, own_step, step_with};
-ghost use Rattle.definitions.specs.Tree.{reply_of};
+ghost use Rattle.call_laws.specs.Pieces.{opened, forked, spawned, moved};
+ghost use Rattle.definitions.specs.Calls.{census_of, own_step, step_with};
+ghost use Rattle.call_laws.specs.Pieces.{adopted};
+ghost use Rattle.call_laws.specs.Pieces.{asked_alive};
+ghost use Rattle.definitions.specs.Run.{reply_of};
 ghost use Rattle.handover_text.specs.Reading.{handed_by};
 ghost use Rattle.kernel_rows.specs.Seen.{seen_caller};
 ghost use Rattle.kernel_table.specs.Seen.{seen};

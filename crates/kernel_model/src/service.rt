@@ -2,7 +2,8 @@
 ghost use Rattle.std.specs.Prelude.{◌≡◌, ◌≤◌, ◌<◌, ◌^◌, ◌&&◌, ℕ, Bool, List, map, length, bytes_eq, count_by, IfOk, if◌then◌else◌, Some, None};
 ghost use Rattle.std.specs.List.{list_any};
 ghost use Rattle.definitions.specs.Table.{Generation, Hold, has_address};
-ghost use Rattle.definitions.specs.Service.{is_live_with, is_serving};
+ghost use Rattle.call_laws.specs.Pieces.{is_live_with};
+ghost use Rattle.call_laws.specs.Pieces.{is_serving_as};
 ghost use Rattle.kernel_rows.specs.Seen.{process_of, seen_holder, seen_rows};
 ghost use Rattle.kernel_service.specs.Services.{count_at, at, AreCounts};
 ghost use Rattle.kernel_service.specs.Served.{seen_count};
@@ -16,7 +17,7 @@ use std::alloc::{AllocError, Global};
 use vocabulary::Stance;
 
 impl Kernel {
-    ghost use Rattle.definitions.specs.Service.{service, IsSame};
+    ghost use Rattle.definitions.specs.Table.{service, IsSame};
 
     /// The service: each address that a live master holds, with the Ready workers of any master that hold it, by
     /// generation.
@@ -43,7 +44,7 @@ fn is_live(row: &Row) -> bool
 
 /// The generation of a Ready worker.
 fn ready_generation(row: &Row) -> Option<Generation>
-    ensures { (a : List ℕ) (g : Generation) (hs : List Hold) → is_serving a g (process_of row.now hs) ≡ (is_generation result g && has_address a hs) }
+    ensures { (a : List ℕ) (g : Generation) (hs : List Hold) → is_serving_as a g (process_of row.now hs) ≡ (is_generation result g && has_address a hs) }
 {
     match *row {
         Row::Worker {
@@ -61,7 +62,7 @@ fn serving_generation(
     addresses: &[Address],
     address: &Address,
 ) -> Option<Generation>
-    ensures { (g : Generation) → is_serving address.now g (seen_holder addresses.now holder.now) ≡ is_generation result g }
+    ensures { (g : Generation) → is_serving_as address.now g (seen_holder addresses.now holder.now) ≡ is_generation result g }
 {
     let generation = ready_generation(&holder.row)?;
     if holds::has_address(addresses, &holder.holds, address) {
@@ -87,8 +88,8 @@ fn ready_counts(
     address: &Address,
     alloc: Global,
 ) -> Result<Vec<Count>, AllocError>
-    requires { (g : Generation) → count_by (is_serving address.now g) (seen_rows addresses.now holders.now.items) < 2 ^ 32 }
-    ensures counts { IfOk result (λ counts. (g : Generation) → count_at (map seen_count counts.items) g ≡ count_by (is_serving address.now g) (seen_rows addresses.now holders.now.items)) }
+    requires { (g : Generation) → count_by (is_serving_as address.now g) (seen_rows addresses.now holders.now.items) < 2 ^ 32 }
+    ensures counts { IfOk result (λ counts. (g : Generation) → count_at (map seen_count counts.items) g ≡ count_by (is_serving_as address.now g) (seen_rows addresses.now holders.now.items)) }
     ensures sound { IfOk result (λ counts. AreCounts (map seen_count counts.items)) }
 {
     let mut counts = Vec::new(alloc);
@@ -108,7 +109,7 @@ fn service_of(
     alloc: Global,
 ) -> Result<Service, AllocError>
     requires { length holders.now.items ≤ 2 ^ 32 }
-    ensures { IfOk result (λ s. (a : List ℕ) → at s a ≡ (if list_any (λ b. bytes_eq b a) addresses.now && list_any (is_live_with (has_address a)) (seen_rows addresses.now holders.now.items) then Some (λ g. count_by (is_serving a g) (seen_rows addresses.now holders.now.items)) else None)) }
+    ensures { IfOk result (λ s. (a : List ℕ) → at s a ≡ (if list_any (λ b. bytes_eq b a) addresses.now && list_any (is_live_with (has_address a)) (seen_rows addresses.now holders.now.items) then Some (λ g. count_by (is_serving_as a g) (seen_rows addresses.now holders.now.items)) else None)) }
 {
     let mut service = Service::new(alloc);
     for address in addresses {

@@ -1,5 +1,6 @@
 -- Patterns by the moments that are not quiet.
-use Rattle.std.proofs.Common.{◌≡◌, ℕ, zero, suc, ◌+◌, ◌<◌, ◌≤◌, ◌||◌, true, false, cond, not, nat_eq, nat_le, ltb, List, [], ◌∷◌, map, length, get_or, set, refl, sym, ap, ◌∙◌, inl, inr, arith}
+use Rattle.std.proofs.Common.{◌≡◌, ℕ, zero, suc, ◌+◌, ◌<◌, ◌≤◌, ◌||◌, true, false, cond, not, nat_eq, nat_le, ltb, List}
+use Rattle.std.proofs.Common.{[], ◌∷◌, map, length, get_or, set, refl, sym, ap, ◌∙◌, inl, inr, arith}
 use Rattle.std.specs.List.{list_any, position_or_len, insert}
 use Rattle.std.specs.List.Sorted.{IsNonDecreasingBy, IsPartitionPoint}
 use Rattle.std.proofs.Math.ListN.{get_or-map}
@@ -7,7 +8,8 @@ use Rattle.std.proofs.lemmas.List.Sums.{position_or_len_is}
 use Rattle.std.proofs.lemmas.Bool.{cases_lt, cases_eq}
 use Rattle.std.proofs.lemmas.List.{length-map, map-set, map-append, take-map, drop-map, get_or_default}
 use Rattle.std.proofs.lemmas.Bool.Decides.{nat_tests}
-use Rattle.definitions.specs.Run.{Moment, quiet}
+use Rattle.definitions.specs.Run.{Moment}
+use Rattle.call_laws.specs.Pieces.{quiet}
 use Rattle.kernel_pattern.specs.declared.pattern.PatternEvent.{PatternEvent}
 use Rattle.kernel_pattern.specs.Pattern.{moment_at, AreNamesWithin, IsEvent, RiseFrom, IsPattern, is_masters, names_master}
 use Rattle.kernel_pattern.specs.Events.{seen_event, IsListed, IsUnlisted}
@@ -37,7 +39,8 @@ nat_eq-turned m n = grind (arith, nat_tests)
 
 ---- The moment at a place, and another in its stead
 
-pub moment-at_place : (es : List (ℕ × Moment)) (b k n : ℕ) (d : ℕ × Moment) → RiseFrom b es → k < length es → (get_or es k d).0 ≡ n → moment_at es n ≡ (get_or es k d).1
+pub moment-at_place : (es : List (ℕ × Moment)) (b k n : ℕ) (d : ℕ × Moment) → RiseFrom b es → k < length es →
+    (get_or es k d).0 ≡ n → moment_at es n ≡ (get_or es k d).1
 moment-at_place [] b k n d h lt is = absurd (omega arith)
 moment-at_place (e ∷ es) b zero n d h lt is = let same : nat_eq e.0 n ≡ true = grind (arith, nat_tests) in rw same refl
 moment-at_place (e ∷ es) b (suc k) n d h lt is =
@@ -51,7 +54,8 @@ names-at_place (e ∷ es) b zero d h lt = h.2
 names-at_place (e ∷ es) b (suc k) d h lt = names-at_place es (e.0 + 1) k d h.3 (omega arith)
 
 module _ (n : ℕ) (x : Moment) where
-  pub moment-set : (es : List (ℕ × Moment)) (b k : ℕ) (d : ℕ × Moment) → RiseFrom b es → k < length es → (get_or es k d).0 ≡ n → (m : ℕ) → moment_at (set es k (n, x)) m ≡ cond (nat_eq m n) x (moment_at es m)
+  pub moment-set : (es : List (ℕ × Moment)) (b k : ℕ) (d : ℕ × Moment) → RiseFrom b es → k < length es →
+      (get_or es k d).0 ≡ n → (m : ℕ) → moment_at (set es k (n, x)) m ≡ cond (nat_eq m n) x (moment_at es m)
   moment-set [] b k d h lt is m = absurd (omega arith)
   moment-set (e ∷ es) b zero d h lt is m = elim (cases_eq m n) [
     | inl eq ↦
@@ -76,7 +80,8 @@ module _ (n : ℕ) (x : Moment) where
             rw here (moment-set es (e.0 + 1) k d h.3 (omega arith) is m)
       ]
 
-  pub RiseFrom-set : (es : List (ℕ × Moment)) (b k : ℕ) (d : ℕ × Moment) → IsEvent x → AreNamesWithin x.exits → RiseFrom b es → k < length es → (get_or es k d).0 ≡ n → RiseFrom b (set es k (n, x))
+  pub RiseFrom-set : (es : List (ℕ × Moment)) (b k : ℕ) (d : ℕ × Moment) → IsEvent x → AreNamesWithin x.exits →
+      RiseFrom b es → k < length es → (get_or es k d).0 ≡ n → RiseFrom b (set es k (n, x))
   RiseFrom-set [] b k d event within h lt is = absurd (omega arith)
   RiseFrom-set (e ∷ es) b zero d event within h lt is =
       let over : b ≤ e.0 = h.0 in
@@ -114,7 +119,8 @@ module _ (n : ℕ) where
   ]
 
   module _ (x : Moment) where
-    pub moment-insert : (es : List (ℕ × Moment)) (b : ℕ) → RiseFrom b es → IsAbsent n es → (m : ℕ) → moment_at (insert es (place n es) (n, x)) m ≡ cond (nat_eq m n) x (moment_at es m)
+    pub moment-insert : (es : List (ℕ × Moment)) (b : ℕ) → RiseFrom b es → IsAbsent n es → (m : ℕ) →
+        moment_at (insert es (place n es) (n, x)) m ≡ cond (nat_eq m n) x (moment_at es m)
     moment-insert [] b h absent m = ap (λ t. cond t x quiet) (nat_eq-turned n m)
     moment-insert (e ∷ es) b h absent m = elim (cases_lt e.0 n) [
       | inl less ↦
@@ -133,7 +139,8 @@ module _ (n : ℕ) where
           rw reached (ap (λ t. cond t x (moment_at (e ∷ es) m)) (nat_eq-turned n m))
     ]
 
-    pub RiseFrom-insert : (es : List (ℕ × Moment)) (b : ℕ) → b ≤ n → IsEvent x → AreNamesWithin x.exits → RiseFrom b es → IsAbsent n es → RiseFrom b (insert es (place n es) (n, x))
+    pub RiseFrom-insert : (es : List (ℕ × Moment)) (b : ℕ) → b ≤ n → IsEvent x → AreNamesWithin x.exits →
+        RiseFrom b es → IsAbsent n es → RiseFrom b (insert es (place n es) (n, x))
     RiseFrom-insert [] b le event within h absent = (le, event, within, tt)
     RiseFrom-insert (e ∷ es) b le event within h absent = elim (cases_lt e.0 n) [
       | inl less ↦
@@ -166,7 +173,9 @@ module _ (n : ℕ) where
   place-map (e ∷ es) = ap (λ k. cond (not (nat_le n e.number)) (1 + k) 0) (place-map es)
 
   -- where the numbers turn from lower ones to no lower ones
-  pub place_is : (es : List PatternEvent) (k : ℕ) → k ≤ length es → IsPartitionPoint (λ e. ltb e.number n ≡ true) (λ e. ltb e.number n ≡ false) es k → k ≡ position_or_len (λ e. nat_le n e.number) es
+  pub place_is : (es : List PatternEvent) (k : ℕ) → k ≤ length es →
+      IsPartitionPoint (λ e. ltb e.number n ≡ true) (λ e. ltb e.number n ≡ false) es k →
+      k ≡ position_or_len (λ e. nat_le n e.number) es
   place_is [] k le h = omega arith
   place_is (e ∷ es) k le h =
       sym (position_or_len_is (λ d. nat_le n d.number) (e ∷ es) k e le

@@ -4,7 +4,8 @@ use Rattle.std.specs.List.{list_any}
 use Rattle.vocabulary.specs.declared.names.Name.{Name}
 use Rattle.vocabulary.specs.declared.names.Name.TheVariants.{Worker, Draining, Master}
 use Rattle.vocabulary.specs.declared.calls.Fate.{Fate}
-use Rattle.definitions.specs.Run.{Moment, quiet, Pattern}
+use Rattle.definitions.specs.Run.{Moment, Pattern}
+use Rattle.call_laws.specs.Pieces.{quiet}
 use Rattle.kernel_pattern.specs.declared.moments.Moment.{Moment as Lent}
 
 -- The pattern that these moments make: one that is not listed is quiet.

@@ -12,7 +12,8 @@ pub map-push : {X Y : Type 0} (f : X → Y) (xs : List X) (x : X) → map f (xs 
 map-push f [] x = refl
 map-push f (y ∷ xs) x = ap (λ ys. f y ∷ ys) (map-push f xs x)
 
-module _ {S X Y : Type 0} (R : S → X → Bool → S → X → Type 0) (v : X → Y) (h : Y → Option Y) (s : S) (says : (x : X) (b : Bool) (t : S) (y : X) → R s x b t y → (then_some b (v y) ≡ h (v x)) × (t ≡ s)) where
+module _ {S X Y : Type 0} (R : S → X → Bool → S → X → Type 0) (v : X → Y) (h : Y → Option Y) (s : S)
+    (says : (x : X) (b : Bool) (t : S) (y : X) → R s x b t y → (then_some b (v y) ≡ h (v x)) × (t ≡ s)) where
   kept : (b : Bool) (y : X) (zs : List X) (rest : List Y) → map v zs ≡ rest → map v (cond b (y ∷ zs) zs) ≡ cons_option (then_some b (v y)) rest
   kept true y zs rest e = ap (λ ys. v y ∷ ys) e
   kept false y zs rest e = e

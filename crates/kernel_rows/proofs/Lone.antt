@@ -1,14 +1,15 @@
 -- The only one that passes a test changes.
-use Rattle.std.proofs.Common.{◌≡◌, ℕ, suc, zero, ◌+◌, ◌<◌, ◌≤◌, Bool, true, false, cond, ◌||◌, List, [], ◌∷◌, Some, None, map, length, get_or, set, count_by, refl, sym, ap, ◌∙◌, inl, inr, arith}
+use Rattle.std.proofs.Common.{◌≡◌, ℕ, suc, zero, ◌+◌, ◌<◌, ◌≤◌, Bool, true, false, cond, ◌||◌, List, [], ◌∷◌, Some}
+use Rattle.std.proofs.Common.{None, map, length, get_or, set, count_by, refl, sym, ap, ◌∙◌, inl, inr, arith}
 use Rattle.std.specs.Prelude.{position}
 use Rattle.std.specs.List.{list_any, filter_map, position_or_len}
 use Rattle.std.proofs.lemmas.Bool.{false≢true}
 use Rattle.std.proofs.lemmas.List.Sums.{fails_before_first, sum_by-cons}
 use Rattle.vocabulary.specs.declared.table.Stance.TheVariants.{Starting, Ready, Draining, Exited}
-use Rattle.definitions.specs.Table.{Address, Generation, Process, Master, Worker, Foreign, is_active, is_starting, is_worker}
-use Rattle.definitions.specs.Exits.{change}
+use Rattle.definitions.specs.Table.{Address, Generation, Process, Master, Worker, Foreign, is_active, is_worker}
+use Rattle.call_laws.specs.Pieces.{is_starting, made_draining, made_ready}
+use Rattle.definitions.specs.Calls.{change}
 use Rattle.std.specs.Bool.{then_some}
-use Rattle.definitions.specs.Calls.{made_draining, made_ready}
 use Rattle.kernel_rows.specs.declared.process.Holder.{Holder}
 use Rattle.kernel_rows.specs.declared.process.WorkerName.{WorkerName}
 use Rattle.kernel_rows.specs.declared.edits.Edit.{Edit}
@@ -55,7 +56,8 @@ module _ (active : Process → Bool) where
   none-counted [] e = refl
   none-counted (p ∷ ps) e = at (active p) (more p ps) e (none-counted ps)
     where
-      at : (b : Bool) → count_by active (p ∷ ps) ≡ cond b 1 0 + count_by active ps → (b || list_any active ps) ≡ false → (list_any active ps ≡ false → count_by active ps ≡ 0) → count_by active (p ∷ ps) ≡ 0
+      at : (b : Bool) → count_by active (p ∷ ps) ≡ cond b 1 0 + count_by active ps → (b || list_any active ps) ≡ false →
+          (list_any active ps ≡ false → count_by active ps ≡ 0) → count_by active (p ∷ ps) ≡ 0
       at true m e ih = absurd (false≢true (sym e))
       at false m e ih = (let rest = ih e in omega (arith, m, rest))
 
@@ -83,7 +85,10 @@ module _ (active : Process → Bool) where
           let rest = counted xs i d (omega arith) e in
           omega (arith, m, rest)
 
-      pub changed-one : (xs : List X) (i : ℕ) (d y : X) → i < length xs → active (v (get_or xs i d)) ≡ true → count_by active (map v xs) ≤ 1 → v y ≡ cond (test (v (get_or xs i d))) (f (v (get_or xs i d))) (v (get_or xs i d)) → map v (set xs i y) ≡ filter_map (change test f) (map v xs)
+      pub changed-one : (xs : List X) (i : ℕ) (d y : X) → i < length xs → active (v (get_or xs i d)) ≡ true →
+          count_by active (map v xs) ≤ 1 →
+          v y ≡ cond (test (v (get_or xs i d))) (f (v (get_or xs i d))) (v (get_or xs i d)) →
+          map v (set xs i y) ≡ filter_map (change test f) (map v xs)
       changed-one [] i d y lt e le is = absurd (omega arith)
       changed-one (x ∷ xs) zero d y lt e le is =
           let m = passing (active (v x)) e (more (v x) (map v xs)) in
@@ -115,7 +120,10 @@ module _ (addresses : List Address) (name : WorkerName) where
   abbrev active : Process → Bool
   active = is_worker is_active name.parent name.generation name.nr
 
-  pub edited-one : (edit : Edit) → ChangesActive name edit → (xs : List Holder) (i : ℕ) (d y : Holder) (b : Bool) → i < length xs → active (seen (get_or xs i d)) ≡ true → count_by active (map seen xs) ≤ 1 → then_some b (seen y) ≡ edited addresses edit (seen (get_or xs i d)) → map seen (set xs i y) ≡ filter_map (edited addresses edit) (map seen xs)
+  pub edited-one : (edit : Edit) → ChangesActive name edit → (xs : List Holder) (i : ℕ) (d y : Holder) (b : Bool) →
+      i < length xs → active (seen (get_or xs i d)) ≡ true → count_by active (map seen xs) ≤ 1 →
+      then_some b (seen y) ≡ edited addresses edit (seen (get_or xs i d)) →
+      map seen (set xs i y) ≡ filter_map (edited addresses edit) (map seen xs)
   edited-one edit (inl is) xs i d y b lt e le met =
       let test = is_worker is_starting name.parent name.generation name.nr in
       let become : then_some b (seen y) ≡ change test made_ready (seen (get_or xs i d)) = met ∙ ap (λ x. edited addresses x (seen (get_or xs i d))) is in

@@ -1,5 +1,6 @@
 -- Rows that were passed on the way through all.
-use Rattle.std.proofs.Common.{◌≡◌, suc, zero, ◌+◌, Bool, cond, count_by, true, false, ◌||◌, Bor, List, [], ◌∷◌, ◌++◌, map, refl, sym, ap, subst, ◌∙◌, append_assoc, append-nil, arith}
+use Rattle.std.proofs.Common.{◌≡◌, suc, zero, ◌+◌, Bool, cond, count_by, true, false, ◌||◌, Bor, List, [], ◌∷◌, ◌++◌}
+use Rattle.std.proofs.Common.{map, refl, sym, ap, subst, ◌∙◌, append_assoc, append-nil, arith}
 use Rattle.std.specs.Prelude.{Contains}
 use Rattle.std.specs.List.{list_any}
 use Rattle.std.proofs.lemmas.List.Folds.{list_any-append}
@@ -30,14 +31,17 @@ or-false b = elim b as (λ c. (c || false) ≡ c) [
 ]
 
 -- one row more
-pub any-more : (test : Process → Bool) (addresses : List Address) (rows : List Holder) (h : Holder) → list_any test (seen_rows addresses (rows ++ h ∷ [])) ≡ (list_any test (seen_rows addresses rows) || test (seen_holder addresses h))
+pub any-more : (test : Process → Bool) (addresses : List Address) (rows : List Holder) (h : Holder) →
+    list_any test (seen_rows addresses (rows ++ h ∷ []))
+    ≡ (list_any test (seen_rows addresses rows) || test (seen_holder addresses h))
 any-more test addresses rows h =
     ap (list_any test) (map-push (seen_holder addresses) rows h)
     ∙ list_any-append test (seen_rows addresses rows) (seen_holder addresses h ∷ [])
     ∙ ap (λ b. list_any test (seen_rows addresses rows) || b) (or-false (test (seen_holder addresses h)))
 
 -- the first of what is left is one of all
-pub row-among : {X : Type 0} (v : Holder → X) (front rest rows : List Holder) (h : Holder) (x : X) → front ++ h ∷ rest ≡ rows → v h ≡ x → Contains (map v rows) x
+pub row-among : {X : Type 0} (v : Holder → X) (front rest rows : List Holder) (h : Holder) (x : X) → front ++ h
+    ∷ rest ≡ rows → v h ≡ x → Contains (map v rows) x
 row-among v front rest rows h x e is = subst (λ hs. Contains (map v hs) x) e (at front)
   where
     at : (xs : List Holder) → Contains (map v (xs ++ h ∷ rest)) x
@@ -45,7 +49,8 @@ row-among v front rest rows h x e is = subst (λ hs. Contains (map v hs) x) e (a
     at (y ∷ xs) = (let more = at xs in (suc more.0, omega (arith, more.1), more.2))
 
 -- those that are counted
-pub count-seen : (test : Process → Bool) (addresses : List Address) (rows : List Holder) → count_by test (seen_rows addresses rows) ≡ count_by (λ h. test (seen_holder addresses h)) rows
+pub count-seen : (test : Process → Bool) (addresses : List Address) (rows : List Holder) →
+    count_by test (seen_rows addresses rows) ≡ count_by (λ h. test (seen_holder addresses h)) rows
 count-seen test addresses [] = refl
 count-seen test addresses (h ∷ rows) =
     sum_by-cons (λ (p : Process). cond (test p) 1 0) (seen_holder addresses h) (seen_rows addresses rows)

@@ -1,8 +1,9 @@
 -- What an edit does to each process.
 use Rattle.std.specs.Prelude.{ℕ, ◌≡◌, ◌⊎◌, Bool, false, ◌==◌, List, Option}
-use Rattle.definitions.specs.Table.{Address, Process, Master, Worker, Foreign, is_starting, is_active, is_exited, is_any, is_named, is_worker}
-use Rattle.definitions.specs.Exits.{change, made_exited, without_exited}
-use Rattle.definitions.specs.Calls.{drop_where, with_holds, is_row, is_image, is_of, lacks_address, made_ready, made_draining, is_exited_of}
+use Rattle.definitions.specs.Table.{Address, Process, Master, Worker, Foreign, is_active, is_worker}
+use Rattle.call_laws.specs.Pieces.{is_named, is_starting, is_exited, is_any, made_exited, is_row, lacks_address}
+use Rattle.call_laws.specs.Pieces.{made_ready, made_draining}
+use Rattle.definitions.specs.Calls.{change, without_exited, drop_where, with_holds, is_image, is_of, is_exited_of}
 use Rattle.kernel_rows.specs.declared.edits.Edit.{Edit}
 use Rattle.kernel_rows.specs.declared.edits.Edit.TheVariants.{ExitWorker, ExitMaster, MakeReady, Drain, Reap, Kill, ReapAll, Hold, Close, ReapMaster, Terminate}
 use Rattle.kernel_rows.specs.declared.process.WorkerName.{WorkerName}

@@ -1,6 +1,7 @@
 -- Rows among the others.
 use Rattle.std.specs.Prelude.{ℕ, ◌==◌, List, [], ◌∷◌, Option, None}
-use Rattle.definitions.specs.Table.{Process, Master, Worker, Foreign, owner_if}
+use Rattle.definitions.specs.Table.{Process, Master, Worker, Foreign}
+use Rattle.call_laws.specs.Pieces.{owner_if}
 
 -- The number of the first master of an image, live or exited.
 abbrev pub master_number : ℕ → List Process → Option ℕ

@@ -1,7 +1,8 @@
 -- What the kernel's rows stand for: processes of the definitions.
 use Rattle.std.specs.Prelude.{ℕ, ◌==◌, Bool, true, false, List, map, Option, Some, None}
 use Rattle.vocabulary.specs.declared.table.Stance.{Stance}
-use Rattle.definitions.specs.Table.{Address, Hold, Process, Master, Worker, Foreign, Caller, is_starting, is_ready, is_active, is_draining, is_exited, is_any}
+use Rattle.definitions.specs.Table.{Address, Hold, Process, Master, Worker, Foreign, Caller, is_active}
+use Rattle.call_laws.specs.Pieces.{is_starting, is_ready, is_draining, is_exited, is_any}
 use Rattle.kernel_rows.specs.Holds.{seen_holds}
 use Rattle.kernel_rows.specs.declared.process.Row.{Row}
 use Rattle.kernel_rows.specs.declared.process.Row.TheVariants as row

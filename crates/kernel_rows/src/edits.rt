@@ -1,8 +1,9 @@
 //! What exits and calls do to each process.
 ghost use Rattle.std.specs.Prelude.{◌≡◌, ℕ, List};
-ghost use Rattle.definitions.specs.Exits.{made_exited, without_exited};
+ghost use Rattle.definitions.specs.Calls.{without_exited};
+ghost use Rattle.call_laws.specs.Pieces.{made_exited};
 ghost use Rattle.std.specs.Bool.{then_some};
-ghost use Rattle.definitions.specs.Calls.{made_ready, made_draining};
+ghost use Rattle.call_laws.specs.Pieces.{made_ready, made_draining};
 
 use crate::holds;
 use crate::process::{Holder, Row, Stances, WorkerName};

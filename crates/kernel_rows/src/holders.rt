@@ -2,8 +2,11 @@
 ghost use Rattle.std.specs.Prelude.{◌≡◌, ◌<◌, ◌≤◌, ◌+◌, ◌++◌, ℕ, List, [], ◌∷◌, length, count_by, get_or, vec_len, vec_capacity, OnOk, IfOk};
 ghost use Rattle.std.specs.List.{filter_map, remove, slice_get};
 ghost use Rattle.std.specs.Option.{option_map};
-ghost use Rattle.definitions.specs.Table.{is_active, is_draining, is_named, is_worker};
-ghost use Rattle.definitions.specs.Exits.{first_changed, made_exited};
+ghost use Rattle.definitions.specs.Table.{is_active, is_worker};
+ghost use Rattle.call_laws.specs.Pieces.{is_named};
+ghost use Rattle.call_laws.specs.Pieces.{is_draining};
+ghost use Rattle.definitions.specs.Calls.{first_changed};
+ghost use Rattle.call_laws.specs.Pieces.{made_exited};
 ghost use Rattle.std.specs.Bool.{then_some};
 ghost use Rattle.kernel_rows.specs.Gaps.{outside, IsGap};
 ghost use Rattle.kernel_rows.specs.Seen.{seen_holder, seen_rows};

@@ -1,7 +1,8 @@
 //! Holds: sockets by their numbers, and the addresses behind them.
 ghost use Rattle.std.specs.Prelude.{◌≡◌, List, bytes_eq};
 ghost use Rattle.definitions.specs.Table.{Address as Text, has_address};
-ghost use Rattle.definitions.specs.Calls.{lacks_address, shared};
+ghost use Rattle.definitions.specs.Calls.{shared};
+ghost use Rattle.call_laws.specs.Pieces.{lacks_address};
 ghost use Rattle.kernel_rows.specs.Holds.{address_of, seen_holds};
 
 use listener_set::{Address, DescriptorSet, DescriptorTable};

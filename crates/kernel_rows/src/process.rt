@@ -1,8 +1,11 @@
 //! Processes: what each is, and what it holds.
 ghost use Rattle.std.specs.Prelude.{◌≡◌, ℕ, List, [], ◌∷◌, is_some, true, Some, IfSome};
 ghost use Rattle.std.specs.Option.{option_map};
-ghost use Rattle.definitions.specs.Table.{Hold, number_of, is_own, is_master, is_named, is_worker, is_live_master, live_master, is_starting, is_ready, is_active, is_draining, is_exited};
-ghost use Rattle.definitions.specs.Calls.{is_of, is_row, is_exited_of, is_image};
+ghost use Rattle.definitions.specs.Table.{Hold, number_of, is_own, is_master, is_worker, live_master, is_active};
+ghost use Rattle.call_laws.specs.Pieces.{is_named, is_live_master};
+ghost use Rattle.call_laws.specs.Pieces.{is_starting, is_ready, is_draining, is_exited};
+ghost use Rattle.definitions.specs.Calls.{is_of, is_exited_of, is_image};
+ghost use Rattle.call_laws.specs.Pieces.{is_row};
 
 use listener_set::{DescriptorTable, Generation};
 use vocabulary::Stance;

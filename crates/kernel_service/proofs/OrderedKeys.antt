@@ -1,5 +1,6 @@
 -- Lists of keys with values, in the order of the keys.
-use Rattle.std.proofs.Common.{◌≡◌, ℕ, suc, ◌+◌, ◌<◌, Bool, true, false, cond, not, ◌&&◌, ◌||◌, is_some, Some, None, List, [], ◌∷◌, map, length, get_or, set, refl, sym, ap, subst, ◌∙◌, arith}
+use Rattle.std.proofs.Common.{◌≡◌, ℕ, suc, ◌+◌, ◌<◌, Bool, true, false, cond, not, ◌&&◌, ◌||◌, is_some, Some, None}
+use Rattle.std.proofs.Common.{List, [], ◌∷◌, map, length, get_or, set, refl, sym, ap, subst, ◌∙◌, arith}
 use Rattle.std.specs.Prelude.{T}
 use Rattle.std.proofs.Math.ListN.{get_or-map}
 use Rattle.std.proofs.lemmas.Bool.{false≢true}
@@ -71,7 +72,9 @@ module _ {K X : Type 0} (R : K → K → Ordering) where
     IsAbsent-tail e es p absent d lt = (rw (later e es p) at (absent d)) (omega arith)
 
     -- a new value for the key that is there
-    pub put-set : (v : X) (d : K × X) (es : List (K × X)) → place k es < length es → is_eq (R k (get_or es (place k es) d).0) ≡ true → set es (place k es) ((get_or es (place k es) d).0, v) ≡ put R k v es
+    pub put-set : (v : X) (d : K × X) (es : List (K × X)) → place k es < length es →
+        is_eq (R k (get_or es (place k es) d).0) ≡ true →
+        set es (place k es) ((get_or es (place k es) d).0, v) ≡ put R k v es
     put-set v d [] lt there = absurd (omega arith)
     put-set v d (e ∷ es) lt there = (elim (R k e.0) as (λ r. R k e.0 ≡ r → set (e ∷ es) (place k (e ∷ es)) ((get_or (e ∷ es) (place k (e ∷ es)) d).0, v) ≡ put R k v (e ∷ es)) [
       | Less ↦ λ p. let tied = rw p at (rw (first e es Less refl p) at there) in absurd (false≢true tied)
@@ -93,7 +96,8 @@ module _ {K X : Type 0} (R : K → K → Ordering) where
       | Greater ↦ λ p. rw (later e es p, p) (ap (λ xs. e ∷ xs) (put-insert v es (IsAbsent-tail e es p absent)))
     ]) refl
 
-    pub find-there : (d : K × X) (es : List (K × X)) → place k es < length es → is_eq (R k (get_or es (place k es) d).0) ≡ true → find R k es ≡ Some (get_or es (place k es) d).1
+    pub find-there : (d : K × X) (es : List (K × X)) → place k es < length es →
+        is_eq (R k (get_or es (place k es) d).0) ≡ true → find R k es ≡ Some (get_or es (place k es) d).1
     find-there d [] lt there = absurd (omega arith)
     find-there d (e ∷ es) lt there = (elim (R k e.0) as (λ r. R k e.0 ≡ r → find R k (e ∷ es) ≡ Some (get_or (e ∷ es) (place k (e ∷ es)) d).1) [
       | Less ↦ λ p. let tied = rw p at (rw (first e es Less refl p) at there) in absurd (false≢true tied)
@@ -168,7 +172,9 @@ module _ {K X : Type 0} (R : K → K → Ordering) where
         let added = rw turned at (put-insert k v (map f ys) absent) in
         map-insert f ys j new ∙ ap (λ e. insert (map f ys) j e) same ∙ added
 
-  pub absent-from : {Y : Type 0} (f : Y → K × X) (k : K) (ys : List Y) (j : ℕ) → j ≡ position_or_len (λ y. is_le (R k (f y).0)) ys → ((d : Y) → j < length ys → is_eq (R k (f (get_or ys j d)).0) ≡ false) → IsAbsent k (map f ys)
+  pub absent-from : {Y : Type 0} (f : Y → K × X) (k : K) (ys : List Y) (j : ℕ) →
+      j ≡ position_or_len (λ y. is_le (R k (f y).0)) ys →
+      ((d : Y) → j < length ys → is_eq (R k (f (get_or ys j d)).0) ≡ false) → IsAbsent k (map f ys)
   absent-from f k [] j is other d lt = absurd (omega arith)
   absent-from f k (y ∷ ys) j is other d lt =
       let all = map f (y ∷ ys) in

@@ -28,7 +28,8 @@ module _ (es searched : List Served) (k : ℕ) (a : Address) (found : IsPlace se
   at_place = found ∙ ap (λ (ys : List Served). position_or_len (λ y. is_le (address_cmp a y.address)) ys) same
 
   -- the entry at the place has the address: the counts are the ones found, and others replace them
-  module _ (e read : Served) (within : k < length es) (there : e ≡ get_or es k e) (read_there : read ≡ get_or es k read) (is : is_eq (address_cmp a read.address) ≡ true) where
+  module _ (e read : Served) (within : k < length es) (there : e ≡ get_or es k e) (read_there : read ≡ get_or es k read)
+      (is : is_eq (address_cmp a read.address) ≡ true) where
     tied : is_eq (address_cmp a e.address) ≡ true
     tied =
         let one : read ≡ e = read_there ∙ get_or_default es k read e within ∙ sym there in
@@ -37,13 +38,17 @@ module _ (es searched : List Served) (k : ℕ) (a : Address) (found : IsPlace se
     pub served-found : find address_cmp a (map seen_served es) ≡ Some (map seen_count e.counts.items)
     served-found = find-listed address_cmp seen_served a es k at_place e within there tied
 
-    pub served-put : (new : Served) (counts : Counts) → new.address ≡ e.address → map seen_count new.counts.items ≡ counts → map seen_served (set es k new) ≡ put address_cmp a counts (map seen_served es)
+    pub served-put : (new : Served) (counts : Counts) → new.address ≡ e.address →
+        map seen_count new.counts.items ≡ counts →
+        map seen_served (set es k new) ≡ put address_cmp a counts (map seen_served es)
     served-put new counts address given =
         let put_is : seen_served new ≡ (e.address, counts) = cc in
         put-there address_cmp seen_served a es k at_place e within there tied counts new put_is
 
   -- no entry, or one with another address
-  pub served-absent : IsService (map seen_served es) → (k < length es → (read : Served) × (read ≡ get_or es k read) × (is_eq (address_cmp a read.address) ≡ false)) → find address_cmp a (map seen_served es) ≡ None
+  pub served-absent : IsService (map seen_served es) →
+      (k < length es → (read : Served) × (read ≡ get_or es k read) × (is_eq (address_cmp a read.address) ≡ false)) →
+      find address_cmp a (map seen_served es) ≡ None
   served-absent service other =
       find-absent address_cmp a address_total (map seen_served es) service.ascending
       (absent-from address_cmp seen_served a es k at_place (λ d lt. let o = other lt in ap (λ (e : Served). is_eq (address_cmp a e.address)) (get_or_default es k d o.0 lt ∙ sym o.1) ∙ o.2))

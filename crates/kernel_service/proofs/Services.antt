@@ -58,7 +58,8 @@ same-generation g h e =
     λ i. record { image = images i; config = configs i }
 
 -- the count of a generation after another is set
-pub count-put : (g q : Generation) (n : ℕ) (counts : Counts) → count_at (put generation_cmp g n counts) q ≡ cond (is_eq (generation_cmp q g)) n (count_at counts q)
+pub count-put : (g q : Generation) (n : ℕ) (counts : Counts) →
+    count_at (put generation_cmp g n counts) q ≡ cond (is_eq (generation_cmp q g)) n (count_at counts q)
 count-put g q n counts = ap (λ o. unwrap_or o 0) (find-put generation_cmp generation_total q g n counts) ∙ at (is_eq (generation_cmp q g))
   where
     at : (b : Bool) → unwrap_or (cond b (Some n) (find generation_cmp q counts)) 0 ≡ cond b n (count_at counts q)

@@ -6,8 +6,7 @@ use Rattle.std.specs.Cmp.Lexicographic.{slice_cmp}
 use Rattle.std.specs.Option.{option_map}
 use Rattle.std.specs.List.{AllByRecursion}
 use Rattle.std.specs.FinMap.{find, put, is_sorted}
-use Rattle.definitions.specs.Table.{Address, Generation}
-use Rattle.definitions.specs.Service.{Service}
+use Rattle.definitions.specs.Table.{Address, Generation, Service}
 
 -- Addresses in the order of their bytes.
 abbrev pub address_cmp : Address → Address → Ordering

@@ -1,5 +1,6 @@
 -- The numbers of the Ready workers, row by row.
-use Rattle.std.proofs.Common.{◌≡◌, ℕ, suc, zero, ◌+◌, ◌<◌, ◌≤◌, Bool, true, false, cond, ◌&&◌, ◌||◌, nat_eq, nat_lt, List, [], ◌∷◌, ◌++◌, filter, Option, Some, None, refl, sym, ap, subst, ◌∙◌, arith}
+use Rattle.std.proofs.Common.{◌≡◌, ℕ, suc, zero, ◌+◌, ◌<◌, ◌≤◌, Bool, true, false, cond, ◌&&◌, ◌||◌, nat_eq, nat_lt}
+use Rattle.std.proofs.Common.{List, [], ◌∷◌, ◌++◌, filter, Option, Some, None, refl, sym, ap, subst, ◌∙◌, arith}
 use Rattle.std.specs.Prelude.{IfSome}
 use Rattle.std.specs.List.{list_any}
 use Rattle.std.proofs.lemmas.Bool.{false≢true}
@@ -7,7 +8,8 @@ use Rattle.std.proofs.lemmas.Bool.Decides.{nat_tests}
 use Rattle.listener_set.specs.Numbers.{numbers_below, is_in, with_number, RisesFrom, IsRising, AreBelow}
 use Rattle.listener_set.specs.NumberWordsLemmas.{is_in-filter_below}
 use Rattle.listener_set.proofs.Rising.{same_rising, is_in-with_number, RisesFrom-push}
-use Rattle.definitions.specs.Table.{Address, Generation, Process, is_ready, is_worker}
+use Rattle.definitions.specs.Table.{Address, Generation, Process, is_worker}
+use Rattle.call_laws.specs.Pieces.{is_ready}
 use Rattle.definitions.specs.Calls.{census_of}
 use Rattle.kernel_rows.specs.declared.process.Holder.{Holder}
 use Rattle.kernel_rows.specs.Seen.{is_number, seen_holder, seen_rows}
@@ -15,11 +17,15 @@ use Rattle.kernel_rows.proofs.Passing.{any-more}
 
 -- ---- one row more
 module _ (addresses : List Address) (q : ℕ) (g : Generation) (k : ℕ) (rows : List Holder) (h : Holder) where
-  ready-more : list_any (is_worker is_ready q g k) (seen_rows addresses (rows ++ h ∷ [])) ≡ (list_any (is_worker is_ready q g k) (seen_rows addresses rows) || is_worker is_ready q g k (seen_holder addresses h))
+  ready-more : list_any (is_worker is_ready q g k) (seen_rows addresses (rows ++ h ∷ []))
+      ≡ (list_any (is_worker is_ready q g k) (seen_rows addresses rows)
+      || is_worker is_ready q g k (seen_holder addresses h))
   ready-more = any-more (is_worker is_ready q g k) addresses rows h
 
   module _ (numbers : List ℕ) (before : is_in numbers k ≡ (list_any (is_worker is_ready q g k) (seen_rows addresses rows) && nat_lt k 1024)) where
-    pub one-more : (nr : ℕ) → nr < 1024 → is_worker is_ready q g k (seen_holder addresses h) ≡ nat_eq nr k → is_in (with_number numbers nr) k ≡ (list_any (is_worker is_ready q g k) (seen_rows addresses (rows ++ h ∷ [])) && nat_lt k 1024)
+    pub one-more : (nr : ℕ) → nr < 1024 → is_worker is_ready q g k (seen_holder addresses h) ≡ nat_eq nr k →
+        is_in (with_number numbers nr) k
+        ≡ (list_any (is_worker is_ready q g k) (seen_rows addresses (rows ++ h ∷ [])) && nat_lt k 1024)
     one-more nr small here =
         is_in-with_number numbers nr k ∙ ap (λ b. nat_eq nr k || b) before
         ∙ at (list_any (is_worker is_ready q g k) (seen_rows addresses rows)) (nat_eq nr k) (nat_lt k 1024) (λ e. grind (arith, nat_tests))
@@ -31,7 +37,9 @@ module _ (addresses : List Address) (q : ℕ) (g : Generation) (k : ℕ) (rows :
         at false true low h = sym (h refl)
         at false false low h = refl
 
-    pub none-more : (nr : Option ℕ) → is_worker is_ready q g k (seen_holder addresses h) ≡ is_number nr k → IfSome nr (λ n. 1024 ≤ n) → is_in numbers k ≡ (list_any (is_worker is_ready q g k) (seen_rows addresses (rows ++ h ∷ [])) && nat_lt k 1024)
+    pub none-more : (nr : Option ℕ) → is_worker is_ready q g k (seen_holder addresses h) ≡ is_number nr k →
+        IfSome nr (λ n. 1024 ≤ n) →
+        is_in numbers k ≡ (list_any (is_worker is_ready q g k) (seen_rows addresses (rows ++ h ∷ [])) && nat_lt k 1024)
     none-more nr here high =
         before ∙ at (list_any (is_worker is_ready q g k) (seen_rows addresses rows)) (is_number nr k) (nat_lt k 1024) (apart nr high)
         ∙ sym (ap (λ b. b && nat_lt k 1024) (ready-more ∙ ap (λ b. list_any (is_worker is_ready q g k) (seen_rows addresses rows) || b) here))
@@ -81,12 +89,16 @@ census_below n caller g rows = filter (λ k. list_any (is_worker is_ready caller
 rising-census : (n q : ℕ) (g : Generation) (rows : List Process) → RisesFrom 0 (census_below n q g rows)
 rising-census n q g rows = RisesFrom-filter (λ k. list_any (is_worker is_ready q g k) rows) (numbers_below n) 0 (rising-below n)
 
-below-is : (n q : ℕ) (g : Generation) (rows : List Process) (numbers : List ℕ) → IsRising numbers → ((k : ℕ) → is_in numbers k ≡ (list_any (is_worker is_ready q g k) rows && nat_lt k n)) → numbers ≡ census_below n q g rows
+below-is : (n q : ℕ) (g : Generation) (rows : List Process) (numbers : List ℕ) → IsRising numbers →
+    ((k : ℕ) → is_in numbers k ≡ (list_any (is_worker is_ready q g k) rows && nat_lt k n)) →
+    numbers ≡ census_below n q g rows
 below-is n q g rows numbers rising same =
     same_rising numbers (census_below n q g rows) 0 rising (rising-census n q g rows)
     (λ k. same k ∙ sym (is_in-filter_below (λ j. list_any (is_worker is_ready q g j) rows) n k))
 
 -- the numbers of all rows are the census
-pub census-is : (q : ℕ) (g : Generation) (rows : List Process) (numbers : List ℕ) → IsRising numbers → ((k : ℕ) → is_in numbers k ≡ (list_any (is_worker is_ready q g k) rows && nat_lt k 1024)) → numbers ≡ census_of q g rows
+pub census-is : (q : ℕ) (g : Generation) (rows : List Process) (numbers : List ℕ) → IsRising numbers →
+    ((k : ℕ) → is_in numbers k ≡ (list_any (is_worker is_ready q g k) rows && nat_lt k 1024)) →
+    numbers ≡ census_of q g rows
 unfolding census_of
 census-is q g rows numbers rising same = below-is 1024 q g rows numbers rising same

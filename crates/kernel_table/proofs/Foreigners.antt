@@ -16,8 +16,15 @@ use Rattle.kernel_table.proofs.Opening.{rows-stay}
 
 -- the store with one more
 pub foreign-table : (s : Store) (a : Address) (wider : List Address) (holders : List Holder) (fd socket : ℕ) → wider ≡ s.addresses.items ++ a ∷ []
-    → holders ≡ s.holders.items ++ (record { row = row.Foreign s.next_process; holds = (fd, socket) ∷ [] }) ∷ [] → fd ≡ 3 → socket ≡ length s.addresses.items + 1 → IsKept (seen s)
-    → record { rows = seen_rows wider holders; files = map seen_file s.files.items; next_process = s.next_process + 1; next_socket = length wider + 1; limits = s.limits } ≡ with_foreign a (seen s)
+    → holders ≡ s.holders.items ++ (record { row = row.Foreign s.next_process; holds = (fd, socket) ∷ [] }) ∷ [] →
+    fd ≡ 3 → socket ≡ length s.addresses.items + 1 → IsKept (seen s)
+    → record {
+      rows = seen_rows wider holders;
+      files = map seen_file s.files.items;
+      next_process = s.next_process + 1;
+      next_socket = length wider + 1;
+      limits = s.limits;
+    } ≡ with_foreign a (seen s)
 foreign-table s a wider holders fd socket more pushed low count kept =
     let addresses = s.addresses.items in
     let all = addresses ++ a ∷ [] in

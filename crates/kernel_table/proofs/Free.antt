@@ -1,17 +1,20 @@
 -- No exit and no call but a fork makes a worker Starting or Ready, so that names that are free stay so.
-use Rattle.std.proofs.Common.{◌≡◌, ℕ, ◌<◌, ◌≤◌, Bool, true, false, cond, ◌&&◌, ◌||◌, not, nat_eq, List, [], ◌∷◌, ◌++◌, Option, Some, None, refl, sym, ap, subst, ◌∙◌, arith}
+use Rattle.std.proofs.Common.{◌≡◌, ℕ, ◌<◌, ◌≤◌, Bool, true, false, cond, ◌&&◌, ◌||◌, not, nat_eq, List, [], ◌∷◌, ◌++◌}
+use Rattle.std.proofs.Common.{Option, Some, None, refl, sym, ap, subst, ◌∙◌, arith}
 use Rattle.std.specs.Prelude.{IfSome}
 use Rattle.std.specs.List.{list_any, filter_map}
 use Rattle.std.proofs.lemmas.Bool.{false≢true}
 use Rattle.std.proofs.lemmas.Bool.Decides.{nat_tests}
 use Rattle.std.proofs.lemmas.List.Folds.{list_any-append}
 use Rattle.vocabulary.specs.declared.table.Stance.TheVariants.{Starting, Ready, Draining, Exited}
-use Rattle.definitions.specs.Table.{Address, Generation, Hold, Process, Master, Worker, Foreign, is_active, is_starting, is_exited, is_any, is_named, is_draining, is_worker, same_generation}
-use Rattle.definitions.specs.Exits.{made_exited, without_exited, first_changed}
+use Rattle.definitions.specs.Table.{Address, Generation, Hold, Process, Master, Worker, Foreign, is_active, is_worker, same_generation}
+use Rattle.call_laws.specs.Pieces.{is_named, is_starting, is_exited, is_any, is_draining, made_exited, is_row}
+use Rattle.call_laws.specs.Pieces.{lacks_address, made_ready, made_draining}
+use Rattle.definitions.specs.Calls.{without_exited, first_changed, is_image, is_of, is_exited_of, with_holds}
 use Rattle.std.specs.Bool.{then_some}
-use Rattle.definitions.specs.Calls.{is_row, is_image, is_of, is_exited_of, lacks_address, made_ready, made_draining, with_holds}
 use Rattle.kernel_rows.specs.declared.edits.Edit.{Edit}
-use Rattle.kernel_rows.specs.declared.edits.Edit.TheVariants.{ExitWorker, ExitMaster, MakeReady, Drain, Reap, Kill, ReapAll, Hold as HoldAs, Close, ReapMaster, Terminate}
+use Rattle.kernel_rows.specs.declared.edits.Edit.TheVariants.{ExitWorker, ExitMaster, MakeReady, Drain, Reap, Kill}
+use Rattle.kernel_rows.specs.declared.edits.Edit.TheVariants.{ReapAll, Hold as HoldAs, Close, ReapMaster, Terminate}
 use Rattle.kernel_table.specs.declared.free_names.FreeNames.{FreeNames}
 use Rattle.kernel_rows.specs.declared.process.Holder.{Holder}
 use Rattle.kernel_rows.specs.declared.process.WorkerName.{WorkerName}
@@ -67,7 +70,9 @@ module _ (q : ℕ) (g : Generation) (k : ℕ) where
       at false = λ e. e
   master-exits gone stays (Master n q' i live hs) = at (nat_eq n gone) stays
     where
-      at : (b s : Bool) → IfSome (cond b (then_some s (Master n q' i false [])) (Some (Master n (cond (nat_eq q' gone) 1 q') i live hs))) (Stays (Master n q' i live hs))
+      at : (b s : Bool) → IfSome
+          (cond b (then_some s (Master n q' i false [])) (Some (Master n (cond (nat_eq q' gone) 1 q') i live hs)))
+          (Stays (Master n q' i live hs))
       at true true = λ e. e
       at true false = tt
       at false s = λ e. e
@@ -95,7 +100,8 @@ module _ (q : ℕ) (g : Generation) (k : ℕ) where
       at false rest f = rest f
   still-free (Becomes.stays {p} {p'} {ps} {qs} f r) e = at (active p) (active p') f (still-free r) e
     where
-      at : (b b' : Bool) → (b' ≡ true → b ≡ true) → (list_any active ps ≡ false → list_any active qs ≡ false) → (b || list_any active ps) ≡ false → (b' || list_any active qs) ≡ false
+      at : (b b' : Bool) → (b' ≡ true → b ≡ true) → (list_any active ps ≡ false → list_any active qs ≡ false) →
+          (b || list_any active ps) ≡ false → (b' || list_any active qs) ≡ false
       at true b' h rest z = absurd (false≢true (sym z))
       at false true h rest z = absurd (false≢true (h refl))
       at false false h rest z = rest z
@@ -105,7 +111,9 @@ module _ (free : FreeNames) (rows : List Process) (known : AreFree free rows) wh
   pub AreFree-edited : (addresses : List Address) (edit : Edit) → AreFree free (filter_map (edited addresses edit) rows)
   AreFree-edited addresses edit k le =
       let stays = Stays free.parent free.generation k in
-      still-free free.parent free.generation k (Becomes-filter_map stays (edited addresses edit) (edits free.parent free.generation k addresses edit) rows) (known k le)
+      still-free free.parent free.generation k
+      (Becomes-filter_map stays (edited addresses edit) (edits free.parent free.generation k addresses edit) rows)
+      (known k le)
 
   pub AreFree-draining : (g : Generation) (nr : ℕ) → AreFree free (first_changed (is_named is_draining g nr) made_exited rows)
   AreFree-draining g nr k le =
@@ -118,16 +126,21 @@ module _ (free : FreeNames) (rows : List Process) (known : AreFree free rows) wh
       let test = is_worker is_active free.parent free.generation k in
       list_any-append test rows (p ∷ []) ∙ ap (λ b. b || (test p || false)) (known k le) ∙ ap (λ b. b || false) (other k le)
 
-pub unborne-among : (free : FreeNames) (name : WorkerName) (rows : List Process) → AreFree free rows → IsAmong name free → list_any (is_worker is_active name.parent name.generation name.nr) rows ≡ false
+pub unborne-among : (free : FreeNames) (name : WorkerName) (rows : List Process) → AreFree free rows →
+    IsAmong name free → list_any (is_worker is_active name.parent name.generation name.nr) rows ≡ false
 unborne-among free name rows known is =
     ap (λ q. list_any (is_worker is_active q name.generation name.nr) rows) (sym is.0)
     ∙ ap (λ g. list_any (is_worker is_active free.parent g name.nr) rows) (sym is.1)
     ∙ known name.nr is.2
 
 -- ---- one row more of a table that is looked through
-module _ (q : ℕ) (g : Generation) (addresses : List Address) (rows : List Holder) (h : Holder) (before : ℕ) (known : (k : ℕ) → before ≤ k → list_any (is_worker is_active q g k) (seen_rows addresses rows) ≡ false) where
+module _ (q : ℕ) (g : Generation) (addresses : List Address) (rows : List Holder) (h : Holder) (before : ℕ)
+    (known : (k : ℕ) → before ≤ k → list_any (is_worker is_active q g k) (seen_rows addresses rows) ≡ false) where
   -- the numbers above are free of a worker with that number, if there is one
-  pub free-after : (nr : Option ℕ) (first : ℕ) → ((k : ℕ) → is_worker is_active q g k (seen_holder addresses h) ≡ is_number nr k) → before ≤ first → IfSome nr (λ n. n < first) → (k : ℕ) → first ≤ k → list_any (is_worker is_active q g k) (seen_rows addresses (rows ++ h ∷ [])) ≡ false
+  pub free-after : (nr : Option ℕ) (first : ℕ) →
+      ((k : ℕ) → is_worker is_active q g k (seen_holder addresses h) ≡ is_number nr k) → before ≤ first →
+      IfSome nr (λ n. n < first) → (k : ℕ) → first ≤ k →
+      list_any (is_worker is_active q g k) (seen_rows addresses (rows ++ h ∷ [])) ≡ false
   free-after nr first here le above k at =
       any-more (is_worker is_active q g k) addresses rows h
       ∙ ap (λ b. b || is_worker is_active q g k (seen_holder addresses h)) (known k (omega (arith, le, at)))
@@ -143,7 +156,9 @@ unborne true true c e = e
 unborne true false c e = refl
 unborne false b c e = refl
 
-pub free-forked : (free : FreeNames) (rows rows' : List Process) (n q : ℕ) (g : Generation) (nr first : ℕ) (hs : List Hold) → AreFree free rows → rows' ≡ rows ++ Worker n q g nr Starting hs ∷ [] → free.first ≤ first → nr < first
+pub free-forked : (free : FreeNames) (rows rows' : List Process) (n q : ℕ) (g : Generation) (nr first : ℕ)
+    (hs : List Hold) → AreFree free rows → rows' ≡ rows ++ Worker n q g nr Starting hs ∷ [] → free.first ≤ first →
+    nr < first
     → (k : ℕ) → first ≤ k → list_any (is_worker is_active free.parent free.generation k) rows' ≡ false
 free-forked free rows rows' n q g nr first hs known more le above k at =
     let test = is_worker is_active free.parent free.generation k in
@@ -153,19 +168,26 @@ free-forked free rows rows' n q g nr first hs known more le above k at =
     ∙ ap (λ b. false || (b || false)) (unborne (nat_eq q free.parent) (same_generation g free.generation) (nat_eq nr k) other)
 
 -- ---- what a process holds is no matter
-same-worker : (q : ℕ) (g : Generation) (k : ℕ) (r : Row) (hs hs' : List Hold) → is_worker is_active q g k (process_of r hs') ≡ is_worker is_active q g k (process_of r hs)
+same-worker : (q : ℕ) (g : Generation) (k : ℕ) (r : Row) (hs hs' : List Hold) →
+    is_worker is_active q g k (process_of r hs') ≡ is_worker is_active q g k (process_of r hs)
 same-worker q g k (row.Master n q' i live) hs hs' = refl
 same-worker q g k (row.Worker n q' g' k' s) hs hs' = refl
 same-worker q g k (row.Foreign n) hs hs' = refl
 
-same-any : (q : ℕ) (g : Generation) (k : ℕ) (a b : List Address) (holders : List Holder) → list_any (is_worker is_active q g k) (seen_rows b holders) ≡ list_any (is_worker is_active q g k) (seen_rows a holders)
+same-any : (q : ℕ) (g : Generation) (k : ℕ) (a b : List Address) (holders : List Holder) →
+    list_any (is_worker is_active q g k) (seen_rows b holders)
+    ≡ list_any (is_worker is_active q g k) (seen_rows a holders)
 same-any q g k a b [] = refl
 same-any q g k a b (h ∷ holders) = λ i. same-worker q g k h.row (seen_holds a h.holds) (seen_holds b h.holds) i || same-any q g k a b holders i
 
-pub AreFree-addresses : (free : FreeNames) (a b : List Address) (holders : List Holder) → AreFree free (seen_rows a holders) → AreFree free (seen_rows b holders)
+pub AreFree-addresses : (free : FreeNames) (a b : List Address) (holders : List Holder) →
+    AreFree free (seen_rows a holders) → AreFree free (seen_rows b holders)
 AreFree-addresses free a b holders known k le = same-any free.parent free.generation k a b holders ∙ known k le
 
 -- ---- another row for no worker of them
-pub AreFree-pushed : (free : FreeNames) (a b : List Address) (holders holders' : List Holder) (h : Holder) → holders' ≡ holders ++ h ∷ [] → ((k : ℕ) → is_worker is_active free.parent free.generation k (seen_holder b h) ≡ false) → AreFree free (seen_rows a holders) → AreFree free (seen_rows b holders')
+pub AreFree-pushed : (free : FreeNames) (a b : List Address) (holders holders' : List Holder) (h : Holder) →
+    holders' ≡ holders ++ h ∷ [] →
+    ((k : ℕ) → is_worker is_active free.parent free.generation k (seen_holder b h) ≡ false) →
+    AreFree free (seen_rows a holders) → AreFree free (seen_rows b holders')
 AreFree-pushed free a b holders holders' h pushed other known =
     subst (AreFree free) (sym (ap (seen_rows b) pushed ∙ map-push (seen_holder b) holders h)) (AreFree-more free (seen_rows b holders) (AreFree-addresses free a b holders known) (seen_holder b h) (λ k le. other k))

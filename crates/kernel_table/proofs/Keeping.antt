@@ -4,10 +4,9 @@ use Rattle.std.specs.List.{AllByRecursion, filter_map, cons_option}
 use Rattle.std.specs.Prelude.{IfSome}
 use Rattle.std.proofs.lemmas.Bool.{false≢true}
 use Rattle.std.proofs.lemmas.List.Sums.{sum_by-cons}
-use Rattle.definitions.specs.Table.{Generation, Process, number_of, is_active, is_worker}
-use Rattle.definitions.specs.Exits.{change, first_changed}
-use Rattle.definitions.specs.Calls.{drop_where, is_image}
-use Rattle.definitions.specs.Table.{IsQuiet, HasParent, IsAscending}
+use Rattle.definitions.specs.Table.{Generation, Process, number_of, is_active, is_worker, IsQuiet, HasParent}
+use Rattle.definitions.specs.Table.{IsAscending}
+use Rattle.definitions.specs.Calls.{change, first_changed, drop_where, is_image}
 use Rattle.kernel_table.specs.Room.{HasSockets}
 
 -- Rows of a table, with the next process and the next socket number.
@@ -52,12 +51,14 @@ module _ (rows rows' : List Process) (socket socket' : ℕ) where
   quiet (leaves r) h = quiet r h.1
   quiet (stays f r) h = (f.quiet h.0, quiet r h.1)
 
-  parents : {ps qs : List Process} → Becomes (Follows rows rows' socket socket') ps qs → AllByRecursion (HasParent rows) ps → AllByRecursion (HasParent rows') qs
+  parents : {ps qs : List Process} → Becomes (Follows rows rows' socket socket') ps qs →
+      AllByRecursion (HasParent rows) ps → AllByRecursion (HasParent rows') qs
   parents over h = tt
   parents (leaves r) h = parents r h.1
   parents (stays f r) h = (f.parent h.0, parents r h.1)
 
-  sockets : {ps qs : List Process} → Becomes (Follows rows rows' socket socket') ps qs → AllByRecursion (HasSockets socket) ps → AllByRecursion (HasSockets socket') qs
+  sockets : {ps qs : List Process} → Becomes (Follows rows rows' socket socket') ps qs →
+      AllByRecursion (HasSockets socket) ps → AllByRecursion (HasSockets socket') qs
   sockets over h = tt
   sockets (leaves r) h = sockets r h.1
   sockets (stays f r) h = (f.sockets h.0, sockets r h.1)
@@ -68,7 +69,9 @@ module _ (rows rows' : List Process) (socket socket' : ℕ) where
   count-stays false true m n h le = absurd (false≢true (h refl))
   count-stays false false m n h le = omega arith
 
-  count : (test : Process → Bool) → ((p p' : Process) → Follows rows rows' socket socket' p p' → test p' ≡ true → test p ≡ true) → {ps qs : List Process} → Becomes (Follows rows rows' socket socket') ps qs → count_by test qs ≤ count_by test ps
+  count : (test : Process → Bool) →
+      ((p p' : Process) → Follows rows rows' socket socket' p p' → test p' ≡ true → test p ≡ true) →
+      {ps qs : List Process} → Becomes (Follows rows rows' socket socket') ps qs → count_by test qs ≤ count_by test ps
   count test up over = omega arith
   count test up (leaves {p} {ps} {qs} r) =
       let rest = count test up r in
@@ -78,7 +81,8 @@ module _ (rows rows' : List Process) (socket socket' : ℕ) where
       rw (sum_by-cons (λ (x : Process). cond (test x) 1 0) p ps, sum_by-cons (λ (x : Process). cond (test x) 1 0) p' qs)
       (count-stays (test p) (test p') _ _ (up p p' f) (count test up r))
 
-pub AreKept-becomes : (rows rows' : List Process) (next socket socket' : ℕ) → Becomes (Follows rows rows' socket socket') rows rows' → AreKept rows next socket → AreKept rows' next socket'
+pub AreKept-becomes : (rows rows' : List Process) (next socket socket' : ℕ) →
+    Becomes (Follows rows rows' socket socket') rows rows' → AreKept rows next socket → AreKept rows' next socket'
 AreKept-becomes rows rows' next socket socket' r h = record {
   once = λ q g k. (let most = h.once q g k in let less = count rows rows' socket socket' (is_worker is_active q g k) (λ p p' (f : Follows rows rows' socket socket' p p'). f.active q g k) r in omega arith);
   masters = λ i. (let most = h.masters i in let less = count rows rows' socket socket' (is_image i) (λ p p' (f : Follows rows rows' socket socket' p p'). f.image i) r in omega arith);
@@ -98,7 +102,8 @@ module _ (R : Process → Process → Type 0) (f : Process → Option Process) (
   Becomes-filter_map [] = over
   Becomes-filter_map (p ∷ ps) = one (f p) p ps (filter_map f ps) (says p) (Becomes-filter_map ps)
 
-module _ (R : Process → Process → Type 0) (same : (p : Process) → R p p) (test : Process → Bool) (f : Process → Process) (says : (p : Process) → test p ≡ true → R p (f p)) where
+module _ (R : Process → Process → Type 0) (same : (p : Process) → R p p) (test : Process → Bool) (f : Process → Process)
+    (says : (p : Process) → test p ≡ true → R p (f p)) where
   Becomes-same : (ps : List Process) → Becomes R ps ps
   Becomes-same [] = over
   Becomes-same (p ∷ ps) = stays (same p) (Becomes-same ps)
@@ -107,7 +112,8 @@ module _ (R : Process → Process → Type 0) (same : (p : Process) → R p p) (
   Becomes-first_changed [] = over
   Becomes-first_changed (p ∷ ps) = at (test p) (says p) (Becomes-first_changed ps) (Becomes-same ps)
     where
-      at : (b : Bool) → (b ≡ true → R p (f p)) → Becomes R ps (first_changed test f ps) → Becomes R ps ps → Becomes R (p ∷ ps) (cond b (f p ∷ ps) (p ∷ first_changed test f ps))
+      at : (b : Bool) → (b ≡ true → R p (f p)) → Becomes R ps (first_changed test f ps) → Becomes R ps ps →
+          Becomes R (p ∷ ps) (cond b (f p ∷ ps) (p ∷ first_changed test f ps))
       at true h r rest = stays (h refl) rest
       at false h r rest = stays (same p) r
 

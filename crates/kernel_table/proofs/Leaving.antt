@@ -1,8 +1,10 @@
 -- The only one that passes a test leaves.
-use Rattle.std.proofs.Common.{◌≡◌, ℕ, suc, zero, ◌<◌, ◌≤◌, Bool, true, false, cond, ◌&&◌, List, [], ◌∷◌, ◌++◌, Some, None, map, length, take, drop, get_or, count_by, refl, sym, ap, ◌∙◌, arith}
+use Rattle.std.proofs.Common.{◌≡◌, ℕ, suc, zero, ◌<◌, ◌≤◌, Bool, true, false, cond, ◌&&◌, List, [], ◌∷◌, ◌++◌, Some}
+use Rattle.std.proofs.Common.{None, map, length, take, drop, get_or, count_by, refl, sym, ap, ◌∙◌, arith}
 use Rattle.std.specs.List.{list_any, filter_map, cons_option}
 use Rattle.std.proofs.lemmas.Bool.{false≢true}
-use Rattle.definitions.specs.Table.{Generation, Process, Master, Worker, Foreign, is_active, is_any, is_worker}
+use Rattle.definitions.specs.Table.{Generation, Process, Master, Worker, Foreign, is_active, is_worker}
+use Rattle.call_laws.specs.Pieces.{is_any}
 use Rattle.definitions.specs.Calls.{drop_where}
 use Rattle.kernel_rows.proofs.Lone.{more, passing, failing}
 
@@ -19,7 +21,8 @@ module _ (any : Process → Bool) where
   dropped-count test [] = omega arith
   dropped-count test (p ∷ ps) = at (any p) (dropped-count test ps)
     where
-      at : (b : Bool) → count_by test (filter_map (drop_where any) ps) ≤ count_by test ps → count_by test (cons_option (cond b None (Some p)) (filter_map (drop_where any) ps)) ≤ count_by test (p ∷ ps)
+      at : (b : Bool) → count_by test (filter_map (drop_where any) ps) ≤ count_by test ps →
+          count_by test (cons_option (cond b None (Some p)) (filter_map (drop_where any) ps)) ≤ count_by test (p ∷ ps)
       at true rest = (let m = more test p ps in omega (arith, m, rest))
       at false rest =
           let m = more test p ps in
@@ -35,7 +38,8 @@ module _ (any : Process → Bool) where
         let rest = counted xs i d (omega arith) e in
         omega (arith, m, rest)
 
-    pub removed-one : (xs : List X) (i : ℕ) (d : X) → i < length xs → any (v (get_or xs i d)) ≡ true → count_by any (map v xs) ≤ 1 → map v (take i xs ++ drop (suc i) xs) ≡ filter_map (drop_where any) (map v xs)
+    pub removed-one : (xs : List X) (i : ℕ) (d : X) → i < length xs → any (v (get_or xs i d)) ≡ true →
+        count_by any (map v xs) ≤ 1 → map v (take i xs ++ drop (suc i) xs) ≡ filter_map (drop_where any) (map v xs)
     removed-one [] i d lt e le = absurd (omega arith)
     removed-one (x ∷ xs) zero d lt e le =
         let m = passing (any (v x)) e (more any (v x) (map v xs)) in
@@ -62,7 +66,8 @@ module _ (any : Process → Bool) where
           rw not_it (none-active ps (omega (arith, m, z)))
 
       -- the only one is not active, so none is
-      pub lone-inactive : (xs : List X) (i : ℕ) (d : X) → i < length xs → any (v (get_or xs i d)) ≡ true → active (v (get_or xs i d)) ≡ false → count_by any (map v xs) ≤ 1 → list_any active (map v xs) ≡ false
+      pub lone-inactive : (xs : List X) (i : ℕ) (d : X) → i < length xs → any (v (get_or xs i d)) ≡ true →
+          active (v (get_or xs i d)) ≡ false → count_by any (map v xs) ≤ 1 → list_any active (map v xs) ≡ false
       lone-inactive [] i d lt e off le = absurd (omega arith)
       lone-inactive (x ∷ xs) zero d lt e off le =
           let m = passing (any (v x)) e (more any (v x) (map v xs)) in

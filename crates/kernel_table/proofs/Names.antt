@@ -2,7 +2,8 @@
 use Rattle.std.proofs.Common.{◌≡◌, ℕ, Bool, true, false, List, [], get_or, Option, Some, None, sym, ap, subst, ◌∙◌, arith}
 use Rattle.std.specs.Prelude.{IfSome}
 use Rattle.std.specs.List.{filter_map, list_any, remove, slice_get}
-use Rattle.definitions.specs.Table.{Process, Table, is_active, is_any, is_worker}
+use Rattle.definitions.specs.Table.{Process, Table, is_active, is_worker}
+use Rattle.call_laws.specs.Pieces.{is_any}
 use Rattle.definitions.specs.Calls.{drop_where}
 use Rattle.kernel_table.specs.declared.lone_names.LoneNames.{LoneNames}
 use Rattle.kernel_rows.specs.declared.process.Holder.{Holder}
@@ -39,25 +40,32 @@ AreLone-dropped lone test rows known k small off =
     let less = dropped-count test (is_worker is_any lone.parent lone.generation k) rows in
     omega (arith, most, less)
 
-pub lone-dropped : (o : Option LoneNames) (test : Process → Bool) (rows : List Process) → IfSome o (λ l. AreLone l rows) → IfSome o (λ l. AreLone l (filter_map (drop_where test) rows))
+pub lone-dropped : (o : Option LoneNames) (test : Process → Bool) (rows : List Process) →
+    IfSome o (λ l. AreLone l rows) → IfSome o (λ l. AreLone l (filter_map (drop_where test) rows))
 lone-dropped None test rows known = tt
 lone-dropped (Some lone) test rows known = AreLone-dropped lone test rows known
 
 -- the rows once the only worker of a name is taken out
-pub row-out : (s : Store) (name : WorkerName) (place : ℕ) (items : List Holder) → items ≡ remove s.holders.items place → IsLoneAt s name place → seen_rows s.addresses.items items ≡ filter_map (drop_where (is_worker is_any name.parent name.generation name.nr)) (seen s).rows
+pub row-out : (s : Store) (name : WorkerName) (place : ℕ) (items : List Holder) → items ≡ remove s.holders.items place →
+    IsLoneAt s name place → seen_rows s.addresses.items items
+    ≡ filter_map (drop_where (is_worker is_any name.parent name.generation name.nr)) (seen s).rows
 row-out s name place items taken lone =
     let d : Holder = record { row = Foreign 0; holds = [] } in
     ap (seen_rows s.addresses.items) taken
     ∙ removed-one (is_worker is_any name.parent name.generation name.nr) (seen_holder s.addresses.items) s.holders.items place d lone.found.there (lone.found.named s.addresses.items d) lone.alone
 
 -- whether a worker of the name is Starting or Ready, where the only one of the name is known
-pub lone-stance : (s : Store) (name : WorkerName) (place : ℕ) → IsLoneAt s name place → (b : Bool) → b ≡ bears is_active name (slice_get (seen s).rows place) → list_any (is_worker is_active name.parent name.generation name.nr) (seen s).rows ≡ b
+pub lone-stance : (s : Store) (name : WorkerName) (place : ℕ) → IsLoneAt s name place → (b : Bool) →
+    b ≡ bears is_active name (slice_get (seen s).rows place) →
+    list_any (is_worker is_active name.parent name.generation name.nr) (seen s).rows ≡ b
 lone-stance s name place lone b is = at b (sym (is ∙ borne-at is_active name (seen_holder s.addresses.items) s.holders.items place h lone.found.there))
   where
     h : Holder
     h = record { row = Foreign 0; holds = [] }
 
-    at : (b : Bool) → is_worker is_active name.parent name.generation name.nr (seen_holder s.addresses.items (get_or s.holders.items place h)) ≡ b → list_any (is_worker is_active name.parent name.generation name.nr) (seen s).rows ≡ b
+    at : (b : Bool) → is_worker is_active name.parent name.generation name.nr
+        (seen_holder s.addresses.items (get_or s.holders.items place h)) ≡ b →
+        list_any (is_worker is_active name.parent name.generation name.nr) (seen s).rows ≡ b
     at true here =
         let active = is_worker is_active name.parent name.generation name.nr in
         list_any-map active (seen_holder s.addresses.items) s.holders.items ∙ any-at (λ x. active (seen_holder s.addresses.items x)) s.holders.items place h lone.found.there here

@@ -1,5 +1,6 @@
 -- One more socket.
-use Rattle.std.proofs.Common.{◌≡◌, ℕ, suc, zero, ◌+◌, ◌-◌, ◌<◌, ◌≤◌, Bool, true, false, cond, nat_eq, nat_lt, List, [], ◌∷◌, ◌++◌, map, length, get_or, refl, sym, ap, subst, ◌∙◌, arith}
+use Rattle.std.proofs.Common.{◌≡◌, ℕ, suc, zero, ◌+◌, ◌-◌, ◌<◌, ◌≤◌, Bool, true, false, cond, nat_eq, nat_lt, List, []}
+use Rattle.std.proofs.Common.{◌∷◌, ◌++◌, map, length, get_or, refl, sym, ap, subst, ◌∙◌, arith}
 use Rattle.std.specs.Prelude.{Contains}
 use Rattle.std.specs.List.{AllByRecursion, filter_map, list_any}
 use Rattle.std.proofs.lemmas.List.{length-map, length_push, get_or_append_left}
@@ -7,8 +8,8 @@ use Rattle.std.proofs.Math.Seq.{get_or-append_seam}
 use Rattle.listener_set.specs.Numbers.{is_in}
 use Rattle.listener_set.specs.Descriptors as pairs
 use Rattle.definitions.specs.Table.{Address, Hold, Process, Table, holds_of}
-use Rattle.definitions.specs.Exits.{change}
-use Rattle.definitions.specs.Calls.{free_from, lowest_free, put_hold, with_holds, is_row, each_row, with_new_socket}
+use Rattle.definitions.specs.Calls.{change, free_from, lowest_free, put_hold, with_holds, each_row}
+use Rattle.call_laws.specs.Pieces.{with_new_socket, is_row}
 use Rattle.kernel_rows.specs.declared.process.Row.{Row}
 use Rattle.kernel_rows.specs.declared.process.Row.TheVariants as row
 use Rattle.kernel_rows.specs.declared.process.Holder.{Holder}
@@ -25,10 +26,12 @@ use Rattle.kernel_rows.proofs.Lists.{list_any-map}
 use Rattle.kernel_table.proofs.Masters.{IsOnly, IsOnly-from, held-all}
 
 -- ---- the lowest free descriptor
-taken-alike : (addresses : List Address) (ps : List (ℕ × ℕ)) (fd : ℕ) → is_in (pairs.descriptors_of ps) fd ≡ list_any (λ (h : Hold). nat_eq h.fd fd) (seen_holds addresses ps)
+taken-alike : (addresses : List Address) (ps : List (ℕ × ℕ)) (fd : ℕ) →
+    is_in (pairs.descriptors_of ps) fd ≡ list_any (λ (h : Hold). nat_eq h.fd fd) (seen_holds addresses ps)
 taken-alike addresses ps fd = list_any-map (λ n. nat_eq n fd) (λ (p : ℕ × ℕ). p.0) ps ∙ sym (list_any-map (λ (h : Hold). nat_eq h.fd fd) (seen_hold addresses) ps)
 
-free-alike : (addresses : List Address) (ps : List (ℕ × ℕ)) (n fd : ℕ) → pairs.free_from n fd (pairs.descriptors_of ps) ≡ free_from n fd (seen_holds addresses ps)
+free-alike : (addresses : List Address) (ps : List (ℕ × ℕ)) (n fd : ℕ) →
+    pairs.free_from n fd (pairs.descriptors_of ps) ≡ free_from n fd (seen_holds addresses ps)
 free-alike addresses ps zero fd = refl
 free-alike addresses ps (suc n) fd = rw (taken-alike addresses ps fd, free-alike addresses ps n (fd + 1)) refl
 
@@ -48,14 +51,18 @@ module _ (addresses : List Address) (a : Address) where
   address-stays : (s : ℕ) → 1 ≤ s → s < length addresses + 1 → address_of (addresses ++ a ∷ []) s ≡ address_of addresses s
   address-stays s least less = get_or_append_left addresses (a ∷ []) [] (s - 1) (omega arith)
 
-  holds-stay : (ps : List (ℕ × ℕ)) → AllByRecursion (λ (h : Hold). (1 ≤ h.socket) × (h.socket < length addresses + 1)) (seen_holds addresses ps) → seen_holds (addresses ++ a ∷ []) ps ≡ seen_holds addresses ps
+  holds-stay : (ps : List (ℕ × ℕ)) →
+      AllByRecursion (λ (h : Hold). (1 ≤ h.socket) × (h.socket < length addresses + 1)) (seen_holds addresses ps) →
+      seen_holds (addresses ++ a ∷ []) ps ≡ seen_holds addresses ps
   holds-stay [] w = refl
   holds-stay (p ∷ ps) w =
       let e = address-stays p.1 w.0.0 w.0.1 in
       let rest = holds-stay ps w.1 in
       (λ i. (record { fd = p.0; socket = p.1; address = e i }) ∷ rest i)
 
-  pub rows-stay : (holders : List Holder) → AllByRecursion (HasSockets (length addresses + 1)) (seen_rows addresses holders) → seen_rows (addresses ++ a ∷ []) holders ≡ seen_rows addresses holders
+  pub rows-stay : (holders : List Holder) →
+      AllByRecursion (HasSockets (length addresses + 1)) (seen_rows addresses holders) →
+      seen_rows (addresses ++ a ∷ []) holders ≡ seen_rows addresses holders
   rows-stay [] w = refl
   rows-stay (h ∷ holders) w =
       let within = subst (AllByRecursion (λ (x : Hold). (1 ≤ x.socket) × (x.socket < length addresses + 1))) (row-holds h.row (seen_holds addresses h.holds)) w.0 in
@@ -67,7 +74,11 @@ module _ (addresses : List Address) (a : Address) where
   put-seen [] fd s = refl
   put-seen (p ∷ ps) fd s = at (nat_lt fd p.0) (put-seen ps fd s)
     where
-      at : (b : Bool) → seen_holds addresses (pairs.put_pair ps fd s) ≡ put_hold (seen_hold addresses (fd, s)) (seen_holds addresses ps) → seen_holds addresses (cond b ((fd, s) ∷ p ∷ ps) (p ∷ pairs.put_pair ps fd s)) ≡ cond b (seen_hold addresses (fd, s) ∷ seen_hold addresses p ∷ seen_holds addresses ps) (seen_hold addresses p ∷ put_hold (seen_hold addresses (fd, s)) (seen_holds addresses ps))
+      at : (b : Bool) → seen_holds addresses (pairs.put_pair ps fd s)
+          ≡ put_hold (seen_hold addresses (fd, s)) (seen_holds addresses ps) →
+          seen_holds addresses (cond b ((fd, s) ∷ p ∷ ps) (p ∷ pairs.put_pair ps fd s))
+          ≡ cond b (seen_hold addresses (fd, s) ∷ seen_hold addresses p ∷ seen_holds addresses ps)
+          (seen_hold addresses p ∷ put_hold (seen_hold addresses (fd, s)) (seen_holds addresses ps))
       at true ih = refl
       at false ih = ap (λ hs. seen_hold addresses p ∷ hs) ih
 
@@ -77,9 +88,16 @@ all-at P (x ∷ rows) p zero h lt e = subst P e h.0
 all-at P (x ∷ rows) p (suc k) h lt e = all-at P rows p k h.1 (omega arith) e
 
 -- the caller's holds are its old ones with the new socket, and all others are as they were
-pub opened-rows : (addresses : List Address) (a : Address) (holders : List Holder) (c : Caller) (fd : ℕ) → AllByRecursion (HasSockets (length addresses + 1)) (seen_rows addresses holders) → Contains (seen_rows addresses holders) (caller_row addresses c) → IsOnly (caller_row addresses c) (seen_rows addresses holders)
-    → filter_map (change (is_row c.number) (with_holds (λ old. seen_holds (addresses ++ a ∷ []) (pairs.put_pair c.holds fd (length addresses + 1))))) (seen_rows (addresses ++ a ∷ []) holders)
-    ≡ filter_map (change (is_row c.number) (with_holds (put_hold (record { fd = fd; socket = length addresses + 1; address = a })))) (seen_rows addresses holders)
+pub opened-rows : (addresses : List Address) (a : Address) (holders : List Holder) (c : Caller) (fd : ℕ) →
+    AllByRecursion (HasSockets (length addresses + 1)) (seen_rows addresses holders) →
+    Contains (seen_rows addresses holders) (caller_row addresses c) →
+    IsOnly (caller_row addresses c) (seen_rows addresses holders)
+    → filter_map (change (is_row c.number)
+    (with_holds (λ old. seen_holds (addresses ++ a ∷ []) (pairs.put_pair c.holds fd (length addresses + 1)))))
+    (seen_rows (addresses ++ a ∷ []) holders)
+    ≡ filter_map (change (is_row c.number)
+    (with_holds (put_hold (record { fd = fd; socket = length addresses + 1; address = a }))))
+    (seen_rows addresses holders)
 opened-rows addresses a holders c fd sockets place only =
     let wider = addresses ++ a ∷ [] in
     let s = length addresses + 1 in
@@ -96,8 +114,17 @@ opened-rows addresses a holders c fd sockets place only =
     ∙ held-all c.number c.parent c.image (seen_holds addresses c.holds) (seen_holds wider (pairs.put_pair c.holds fd s)) hold put (seen_rows addresses holders) only
 
 -- the table with a new socket
-pub opened-table : (s : Store) (a : Address) (c : Caller) (fd : ℕ) (wider : List Address) (holds : List (ℕ × ℕ)) → wider ≡ s.addresses.items ++ a ∷ [] → holds ≡ pairs.put_pair c.holds fd (length s.addresses.items + 1) → IsKept (seen s) → IsOwn s c
-    → each_row (edited wider (edit.Hold c.number holds)) (record { rows = seen_rows wider s.holders.items; files = map seen_file s.files.items; next_process = s.next_process; next_socket = length wider + 1; limits = s.limits })
+pub opened-table : (s : Store) (a : Address) (c : Caller) (fd : ℕ) (wider : List Address) (holds : List (ℕ × ℕ)) →
+    wider ≡ s.addresses.items ++ a ∷ [] → holds ≡ pairs.put_pair c.holds fd (length s.addresses.items + 1) →
+    IsKept (seen s) → IsOwn s c
+    → each_row (edited wider (edit.Hold c.number holds))
+    (record {
+      rows = seen_rows wider s.holders.items;
+      files = map seen_file s.files.items;
+      next_process = s.next_process;
+      next_socket = length wider + 1;
+      limits = s.limits;
+    })
     ≡ with_new_socket (seen s) c.number (record { fd = fd; socket = length s.addresses.items + 1; address = a })
 opened-table s a c fd wider holds more put kept own =
     let addresses = s.addresses.items in

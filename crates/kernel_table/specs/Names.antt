@@ -1,6 +1,7 @@
 -- What a store knows of names.
 use Rattle.std.specs.Prelude.{ℕ, ◌≤◌, count_by, IfSome}
-use Rattle.definitions.specs.Table.{is_any, is_worker}
+use Rattle.definitions.specs.Table.{is_worker}
+use Rattle.call_laws.specs.Pieces.{is_any}
 use Rattle.kernel_rows.specs.declared.process.WorkerName.{WorkerName}
 use Rattle.kernel_table.specs.declared.store.Store.{Store}
 use Rattle.kernel_table.specs.Seen.{seen}

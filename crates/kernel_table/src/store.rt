@@ -2,9 +2,13 @@
 ghost use Rattle.std.specs.Prelude.{true, false, not, if◌then◌else◌, ◌≡◌, ◌<◌, ◌≤◌, ◌+◌, ◌^◌, ◌↔◌, ℕ, List, length, count_by, Contains, IsTrue, IsFalse, IfOk, IfSome, Some, None, OnOk, vec_len, vec_capacity};
 ghost use Rattle.std.specs.List.{list_any, filter_map, slice_get};
 ghost use Rattle.std.specs.Option.{option_map};
-ghost use Rattle.definitions.specs.Table.{Master, Worker, is_active, is_draining, is_named, is_any, is_worker, is_own, is_live_master, is_held, live_master, with_rows};
-ghost use Rattle.definitions.specs.Calls.{is_image, has_process_room, lowest_free, with_new_row, with_new_socket, each_row, drop_where, census_of};
-ghost use Rattle.definitions.specs.Exits.{first_changed, made_exited};
+ghost use Rattle.definitions.specs.Table.{Master, Worker, is_active, is_worker, is_own, is_held, live_master};
+ghost use Rattle.call_laws.specs.Pieces.{is_named, is_live_master};
+ghost use Rattle.call_laws.specs.Pieces.{is_draining, is_any, with_rows};
+ghost use Rattle.definitions.specs.Calls.{is_image, has_process_room, lowest_free, with_new_row, each_row, drop_where, census_of};
+ghost use Rattle.call_laws.specs.Pieces.{with_new_socket};
+ghost use Rattle.definitions.specs.Calls.{first_changed};
+ghost use Rattle.call_laws.specs.Pieces.{made_exited};
 ghost use Rattle.kernel_rows.specs.Seen.{seen_rows, has_stance};
 ghost use Rattle.kernel_rows.specs.Edits.{edited, ChangesActive};
 ghost use Rattle.kernel_rows.specs.Places.{bears, IsActiveAt, IsLiveAt, IsWorkerAt};

@@ -1,6 +1,7 @@
 -- A value written behind the first `len` items, and turned to its place.
 use Rattle.std.proofs.Common.{◌≡◌, ℕ, ◌+◌, ◌-◌, ◌<◌, ◌≤◌, List, [], ◌∷◌, ◌++◌, length, set, take, drop, refl, sym, ap, ◌∙◌, arith}
-use Rattle.std.proofs.lemmas.List.{take-take, take-set-le, take_more_set, drop-append-le, drop_at, take_at, length-append, length-drop, length-take-le, length-set, drop-set-lt}
+use Rattle.std.proofs.lemmas.List.{take-take, take-set-le, take_more_set, drop-append-le, drop_at, take_at}
+use Rattle.std.proofs.lemmas.List.{length-append, length-drop, length-take-le, length-set, drop-set-lt}
 use Rattle.std.proofs.lemmas.Slice.{between_is, take-put_mid, drop-put_mid}
 use Rattle.std.specs.Prelude.{insert}
 use Rattle.std.proofs.lemmas.List.{take-append-drop}
@@ -27,7 +28,11 @@ module _ {X : Type 0} (items : List X) (len place : ℕ) (x : X) (fits : len < l
       let n : length old - 1 ≡ length front = omega (arith, ap length e, length-append front (x ∷ [])) in
       rw (n, e) (rw (drop_at front (x ∷ []) (length front) refl, take_at front (x ∷ []) (length front) refl) refl)
 
-  module _ (new : List X) (turned : new ≡ drop (length (take (len + 1 - place) (drop place (set items len x))) - 1) (take (len + 1 - place) (drop place (set items len x))) ++ take (length (take (len + 1 - place) (drop place (set items len x))) - 1) (take (len + 1 - place) (drop place (set items len x)))) where
+  module _ (new : List X) (turned : new
+      ≡ drop (length (take (len + 1 - place) (drop place (set items len x))) - 1)
+      (take (len + 1 - place) (drop place (set items len x))) ++ take
+      (length (take (len + 1 - place) (drop place (set items len x))) - 1)
+      (take (len + 1 - place) (drop place (set items len x)))) where
     new_is : new ≡ x ∷ front
     new_is = turned ∙ turn _ tail_is
 

@@ -1,7 +1,10 @@
 -- Lists of listeners, as the calls change them.
-use Rattle.std.proofs.Common.{◌≡◌, ℕ, zero, suc, ◌+◌, ◌<◌, ◌≤◌, Bool, true, false, ◌||◌, not, cond, nat_eq, nat_lt, Option, Some, None, List, [], ◌∷◌, ◌++◌, length, map, filter, take, drop, get_or, replicate, refl, sym, ap, subst, ◌∙◌, inl, inr, arith}
+use Rattle.std.proofs.Common.{◌≡◌, ℕ, zero, suc, ◌+◌, ◌<◌, ◌≤◌, Bool, true, false, ◌||◌, not, cond, nat_eq, nat_lt}
+use Rattle.std.proofs.Common.{Option, Some, None, List, [], ◌∷◌, ◌++◌, length, map, filter, take, drop, get_or}
+use Rattle.std.proofs.Common.{replicate, refl, sym, ap, subst, ◌∙◌, inl, inr, arith}
 use Rattle.std.specs.Prelude.{codes, bytes_eq, Contains}
-use Rattle.std.proofs.lemmas.Bool.{both_ways, and_parts, or_parts, or_from, ltb-true, cases_Bool, cond_both, cond-true, cond-false, false_from_ne_true, lt-ltb, le-ltb}
+use Rattle.std.proofs.lemmas.Bool.{both_ways, and_parts, or_parts, or_from, ltb-true, cases_Bool, cond_both, cond-true}
+use Rattle.std.proofs.lemmas.Bool.{cond-false, false_from_ne_true, lt-ltb, le-ltb}
 use Rattle.std.proofs.lemmas.Bool.Decides.{eqb_tells}
 use Rattle.std.proofs.lemmas.Cmp.{nat_list_eq_equiv}
 use Rattle.std.specs.Cmp.Lexicographic.{same_text}
@@ -63,7 +66,8 @@ module _ (p : Listener → Bool) where
   filter-room ls i lt most = omega (arith, length-filter p (take i ls), count_by-le-length p (take i ls), length-take i ls)
 
 -- each listener has a descriptor that a process can have
-pub descriptor_within : (fd : ℕ) (ls : List Listener) (i : ℕ) (l : Listener) → 3 ≤ fd → AreListedFrom fd ls → i < length ls → l ≡ get_or ls i l → IsDescriptor l.descriptor
+pub descriptor_within : (fd : ℕ) (ls : List Listener) (i : ℕ) (l : Listener) → 3 ≤ fd → AreListedFrom fd ls →
+    i < length ls → l ≡ get_or ls i l → IsDescriptor l.descriptor
 descriptor_within fd [] i l low h lt e = absurd (let none : i < 0 = lt in omega arith)
 descriptor_within fd (m ∷ ms) zero l low h lt e = rw e (omega (arith, low, h.0), h.1)
 descriptor_within fd (m ∷ ms) (suc i) l low h lt e = descriptor_within (m.descriptor + 1) ms i l (omega (arith, low, h.0)) h.3 (omega (arith, lt)) e
@@ -74,7 +78,8 @@ module _ (a : List ℕ) where
   other : (b : List ℕ) → bytes_eq b a ≡ false → bytes_eq a b ≡ false
   other b h = nat_list_eq_equiv.symm a b ∙ h
 
-  listens_on-opened_from : (fd : ℕ) (b : List ℕ) (ls : List Listener) → bytes_eq a b ≡ false → listens_on ls b ≡ false → listens_on (opened_from fd a ls) b ≡ false
+  listens_on-opened_from : (fd : ℕ) (b : List ℕ) (ls : List Listener) → bytes_eq a b ≡ false → listens_on ls b ≡ false →
+      listens_on (opened_from fd a ls) b ≡ false
   listens_on-opened_from fd b [] ne h = or_from (bytes_eq a b) false ne refl
   listens_on-opened_from fd b (l ∷ ls) ne h =
       let parts = or_parts (bytes_eq l.address b) (listens_on ls b) h in
@@ -82,7 +87,8 @@ module _ (a : List ℕ) where
       (λ yes. or_from (bytes_eq l.address b) (listens_on (opened_from (fd + 1) a ls) b) parts.0 (listens_on-opened_from (fd + 1) b ls ne parts.1))
       (λ no. or_from (bytes_eq a b) (listens_on (l ∷ ls) b) ne h)
 
-  pub AreListedFrom-opened_from : (fd : ℕ) (ls : List Listener) → listens_on ls a ≡ false → fd + length ls < 67 → AreListedFrom fd ls → AreListedFrom fd (opened_from fd a ls)
+  pub AreListedFrom-opened_from : (fd : ℕ) (ls : List Listener) → listens_on ls a ≡ false → fd + length ls < 67 →
+      AreListedFrom fd ls → AreListedFrom fd (opened_from fd a ls)
   AreListedFrom-opened_from fd [] new room h = (omega arith, omega (arith, room), refl, tt)
   AreListedFrom-opened_from fd (l ∷ ls) new room h =
       let parts = or_parts (bytes_eq l.address a) (listens_on ls a) new in
@@ -98,13 +104,16 @@ module _ (a : List ℕ) where
 
 ---- A listener behind the others
 
-listens_on-append : (a : List ℕ) (ls : List Listener) (l : Listener) → listens_on ls a ≡ false → bytes_eq l.address a ≡ false → listens_on (ls ++ l ∷ []) a ≡ false
+listens_on-append : (a : List ℕ) (ls : List Listener) (l : Listener) → listens_on ls a ≡ false →
+    bytes_eq l.address a ≡ false → listens_on (ls ++ l ∷ []) a ≡ false
 listens_on-append a [] l h ne = or_from (bytes_eq l.address a) false ne refl
 listens_on-append a (m ∷ ms) l h ne =
     let parts = or_parts (bytes_eq m.address a) (listens_on ms a) h in
     or_from (bytes_eq m.address a) (listens_on (ms ++ l ∷ []) a) parts.0 (listens_on-append a ms l parts.1 ne)
 
-pub AreListedFrom-push : (fd : ℕ) (ls : List Listener) (l : Listener) → AreListedFrom fd ls → is_above l.descriptor ls ≡ true → fd ≤ l.descriptor → l.descriptor < 67 → listens_on ls l.address ≡ false → AreListedFrom fd (ls ++ l ∷ [])
+pub AreListedFrom-push : (fd : ℕ) (ls : List Listener) (l : Listener) → AreListedFrom fd ls →
+    is_above l.descriptor ls ≡ true → fd ≤ l.descriptor → l.descriptor < 67 → listens_on ls l.address ≡ false →
+    AreListedFrom fd (ls ++ l ∷ [])
 AreListedFrom-push fd [] l h above least most new = (least, most, refl, tt)
 AreListedFrom-push fd (m ∷ ms) l h above least most new =
     let test = and_parts (nat_lt m.descriptor l.descriptor) (is_above l.descriptor ms) above in
@@ -160,7 +169,8 @@ AreDistinct-take n bs h = λ i j d lt within.
     let inside : j < length bs = omega (arith, within, length-take n bs) in
     rw (get_or-take n bs i d (omega (arith, lt, below)), get_or-take n bs j d below) (h i j d lt inside)
 
-pub listeners_from-push : (fd : ℕ) (bs : List (List ℕ)) (a : List ℕ) → listeners_from fd (bs ++ a ∷ []) ≡ listeners_from fd bs ++ listener_at (fd + length bs) a ∷ []
+pub listeners_from-push : (fd : ℕ) (bs : List (List ℕ)) (a : List ℕ) →
+    listeners_from fd (bs ++ a ∷ []) ≡ listeners_from fd bs ++ listener_at (fd + length bs) a ∷ []
 listeners_from-push fd [] a = ap (λ n. listener_at n a ∷ []) (omega arith)
 listeners_from-push fd (b ∷ bs) a =
     ap (λ ls. listener_at fd b ∷ ls) (listeners_from-push (fd + 1) bs a ∙ ap (λ n. listeners_from (fd + 1) bs ++ listener_at n a ∷ []) (omega arith))
@@ -168,13 +178,17 @@ listeners_from-push fd (b ∷ bs) a =
 ---- Addresses of listeners
 
 -- an address is not among those before it
-pub absent_before : (fd : ℕ) (ls : List Listener) (i : ℕ) (d : Listener) → AreListedFrom fd ls → i < length ls → Contains (map (λ (l : Listener). l.address) (take i ls)) (get_or ls i d).address → ⊥
+pub absent_before : (fd : ℕ) (ls : List Listener) (i : ℕ) (d : Listener) → AreListedFrom fd ls → i < length ls →
+    Contains (map (λ (l : Listener). l.address) (take i ls)) (get_or ls i d).address → ⊥
 absent_before fd [] i d h lt there = absurd (let none : i < 0 = lt in omega arith)
 absent_before fd (l ∷ ls) zero d h lt there = absurd (let none : there.0 < 0 = there.1 in omega arith)
 absent_before fd (l ∷ ls) (suc i) d h lt there =
     at there.0 there.1 there.2 (absent_before (l.descriptor + 1) ls i d h.3 (omega (arith, lt)))
   where
-    at : (k : ℕ) → k < suc (length (map (λ (m : Listener). m.address) (take i ls))) → get_or (l.address ∷ map (λ (m : Listener). m.address) (take i ls)) k (get_or ls i d).address ≡ (get_or ls i d).address → (Contains (map (λ (m : Listener). m.address) (take i ls)) (get_or ls i d).address → ⊥) → ⊥
+    at : (k : ℕ) → k < suc (length (map (λ (m : Listener). m.address) (take i ls))) →
+        get_or (l.address ∷ map (λ (m : Listener). m.address) (take i ls)) k (get_or ls i d).address
+        ≡ (get_or ls i d).address →
+        (Contains (map (λ (m : Listener). m.address) (take i ls)) (get_or ls i d).address → ⊥) → ⊥
     at zero lt' e rest =
         both_ways (listens_on ls l.address) h.2 (list_any_at (λ (m : Listener). bytes_eq m.address l.address) ls i d (omega (arith, lt)) (ap (λ a. bytes_eq a l.address) (sym e) ∙ nat_list_eq_equiv.refl l.address))
     at (suc k) lt' e rest = rest (k, omega (arith, lt'), e)
@@ -196,14 +210,16 @@ module _ (bs : List (List ℕ)) (i : ℕ) (a : List ℕ) (within : i < length bs
       ∙ ap (λ b. listeners_from 3 (take i bs ++ b ∷ [])) is
       ∙ ap (listeners_from 3) (sym (take_more bs i a within))
 
-pub filter_more_kept : (p : Listener → Bool) (ls : List Listener) (i : ℕ) (l : Listener) → i < length ls → l ≡ get_or ls i l → p l ≡ true → filter p (take i ls) ++ l ∷ [] ≡ filter p (take (i + 1) ls)
+pub filter_more_kept : (p : Listener → Bool) (ls : List Listener) (i : ℕ) (l : Listener) → i < length ls →
+    l ≡ get_or ls i l → p l ≡ true → filter p (take i ls) ++ l ∷ [] ≡ filter p (take (i + 1) ls)
 filter_more_kept p ls i l within is passes =
     sym (filter_more p ls i l within
     ∙ ap (λ m. filter p (take i ls) ++ cond (p m) (m ∷ []) []) (sym is)
     ∙ ap (λ b. filter p (take i ls) ++ cond b (l ∷ []) []) passes)
 
 -- those of the first ones that pass a test, and the next one, which passes too
-pub listed_more : (p : Listener → Bool) (ls kept : List Listener) (i : ℕ) (l : Listener) → kept ≡ filter p (take i ls) → i < length ls → l ≡ get_or ls i l → p l ≡ true → AreListed ls → AreListed (kept ++ l ∷ [])
+pub listed_more : (p : Listener → Bool) (ls kept : List Listener) (i : ℕ) (l : Listener) → kept ≡ filter p (take i ls) →
+    i < length ls → l ≡ get_or ls i l → p l ≡ true → AreListed ls → AreListed (kept ++ l ∷ [])
 listed_more p ls kept i l are within is passes listed =
     subst AreListed (sym (ap (λ ks. ks ++ l ∷ []) are ∙ filter_more_kept p ls i l within is passes))
     (AreListedFrom-filter p 3 (take (i + 1) ls) (AreListedFrom-take 3 (i + 1) ls listed))
@@ -217,7 +233,8 @@ descriptor-rises fd (l ∷ ls) (suc i) d h lt = omega (arith, h.0, descriptor-ri
 
 module _ (p : Listener → Bool) where
   -- the descriptors of listeners before another are below its own
-  descriptors-before : (fd : ℕ) (ls : List Listener) (i : ℕ) (d : Listener) → AreListedFrom fd ls → i < length ls → AreBelow (get_or ls i d).descriptor (map (λ (l : Listener). l.descriptor) (filter p (take i ls)))
+  descriptors-before : (fd : ℕ) (ls : List Listener) (i : ℕ) (d : Listener) → AreListedFrom fd ls → i < length ls →
+      AreBelow (get_or ls i d).descriptor (map (λ (l : Listener). l.descriptor) (filter p (take i ls)))
   descriptors-before fd ls zero d h lt = tt
   descriptors-before fd [] (suc i) d h lt = tt
   descriptors-before fd (l ∷ ls) (suc i) d h lt =
@@ -228,9 +245,14 @@ module _ (p : Listener → Bool) where
       (λ no. rest)
 
   module _ (ls : List Listener) (i : ℕ) (l : Listener) (within : i < length ls) (is : l ≡ get_or ls i l) where
-    pub descriptors-kept : AreListed ls → p l ≡ true → with_number (map (λ (m : Listener). m.descriptor) (filter p (take i ls))) l.descriptor ≡ map (λ (m : Listener). m.descriptor) (filter p (take (i + 1) ls))
+    pub descriptors-kept : AreListed ls → p l ≡ true →
+        with_number (map (λ (m : Listener). m.descriptor) (filter p (take i ls))) l.descriptor
+        ≡ map (λ (m : Listener). m.descriptor) (filter p (take (i + 1) ls))
     descriptors-kept listed passes =
-        with_number-above (map (λ (m : Listener). m.descriptor) (filter p (take i ls))) l.descriptor (subst (λ (m : Listener). AreBelow m.descriptor (map (λ (k : Listener). k.descriptor) (filter p (take i ls)))) (sym is) (descriptors-before 3 ls i l listed within))
+        with_number-above (map (λ (m : Listener). m.descriptor) (filter p (take i ls))) l.descriptor
+        (subst (λ (m : Listener). AreBelow m.descriptor
+        (map (λ (k : Listener). k.descriptor) (filter p (take i ls)))) (sym is)
+        (descriptors-before 3 ls i l listed within))
         ∙ sym (map-append (λ (m : Listener). m.descriptor) (filter p (take i ls)) (l ∷ []))
         ∙ ap (map (λ (m : Listener). m.descriptor)) (filter_more_kept p ls i l within is passes)
 

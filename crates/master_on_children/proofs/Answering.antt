@@ -1,5 +1,6 @@
 -- Lines that are read for the answer to a question.
-use Rattle.std.proofs.Common.{◌≡◌, ℕ, ◌+◌, ◌<◌, ◌≤◌, List, [], ◌∷◌, ◌++◌, Option, Some, None, Result, Ok, Err, length, refl, sym, ap, subst, ◌∙◌, append-nil, append_assoc, arith}
+use Rattle.std.proofs.Common.{◌≡◌, ℕ, ◌+◌, ◌<◌, ◌≤◌, List, [], ◌∷◌, ◌++◌, Option, Some, None, Result, Ok, Err, length}
+use Rattle.std.proofs.Common.{refl, sym, ap, subst, ◌∙◌, append-nil, append_assoc, arith}
 use Rattle.std.specs.Prelude.{IsSome, ⊤}
 use Rattle.std.proofs.lemmas.List.{length-append}
 use Rattle.vocabulary.specs.declared.calls.Answer.{Answer}
@@ -30,14 +31,17 @@ module _ {I : Type 0} (remaining : I → Option (List ℕ)) where
       × (length now.waiting ≡ count)
       × ((more : List Typed) → asked first.waiting (ahead ++ more) ≡ asked now.waiting more)
 
-  pub starts : (first : Inbox I) (count : ℕ) → AreRead (unread remaining first) [] (unread remaining first) → length first.waiting ≡ count → Goes first first count
+  pub starts : (first : Inbox I) (count : ℕ) → AreRead (unread remaining first) [] (unread remaining first) →
+      length first.waiting ≡ count → Goes first first count
   starts first count same size = ([], same, λ _. refl, refl, size, λ more. refl)
 
   all_asked : (first now : Inbox I) (count : ℕ) (g : Goes first now count) → asked first.waiting g.0 ≡ asked now.waiting []
   all_asked first now count g = ap (asked first.waiting) (sym (append-nil g.0)) ∙ g.5 []
 
   -- the input has ended
-  pub goes_back : (first now new : Inbox I) (count : ℕ) → Goes first now count → count < 64 → (end : Option (Result (Unit {0}) SupervisorFault)) → now.ended ≡ end → (came : Came) → IsNoLine came → ReadsMore remaining end now came new → IsAnswered remaining first Back new
+  pub goes_back : (first now new : Inbox I) (count : ℕ) → Goes first now count → count < 64 →
+      (end : Option (Result (Unit {0}) SupervisorFault)) → now.ended ≡ end → (came : Came) → IsNoLine came →
+      ReadsMore remaining end now came new → IsAnswered remaining first Back new
   goes_back first now new count g lt None still (Ok (Some one)) line r = absurd line
   goes_back first now new count g lt None still (Ok None) line r =
       let small : length now.waiting < 64 = omega (arith, lt, g.4) in
@@ -77,7 +81,8 @@ module _ {I : Type 0} (remaining : I → Option (List ℕ)) where
       }
 
   -- a line is read only of an input that has not ended
-  read_open : (now new : Inbox I) (one : Typed) (end : Option (Result (Unit {0}) SupervisorFault)) → ReadsMore remaining end now (Ok (Some one)) new → (end ≡ None) × ReadsOn remaining now (Ok (Some one)) new
+  read_open : (now new : Inbox I) (one : Typed) (end : Option (Result (Unit {0}) SupervisorFault)) →
+      ReadsMore remaining end now (Ok (Some one)) new → (end ≡ None) × ReadsOn remaining now (Ok (Some one)) new
   read_open now new one None r = (refl, r)
   read_open now new one (Some (Ok done)) r = let other : Ok (Some one) ≡ Ok None = r.0 in absurd cc
   read_open now new one (Some (Err fault)) r = absurd cc
@@ -89,7 +94,9 @@ module _ {I : Type 0} (remaining : I → Option (List ℕ)) where
       absurd cc
 
   -- a line replies
-  pub replies : (first now new : Inbox I) (count : ℕ) → Goes first now count → count < 64 → (one : Typed) → ReadsMore remaining now.ended now (Ok (Some one)) new → (a : Answer) → Some a ≡ reply_to one → IsAnswered remaining first a new
+  pub replies : (first now new : Inbox I) (count : ℕ) → Goes first now count → count < 64 → (one : Typed) →
+      ReadsMore remaining now.ended now (Ok (Some one)) new → (a : Answer) → Some a ≡ reply_to one →
+      IsAnswered remaining first a new
   replies first now new count g lt one r a e =
       let small : length now.waiting < 64 = omega (arith, lt, g.4) in
       let on = read_open now new one now.ended r in
@@ -102,7 +109,9 @@ module _ {I : Type 0} (remaining : I → Option (List ℕ)) where
       }
 
   -- a line waits
-  pub waits : (first now new : Inbox I) (count : ℕ) → Goes first now count → count < 64 → (one : Typed) → ReadsMore remaining now.ended now (Ok (Some one)) new → None ≡ reply_to one → (longer : List Typed) → longer ≡ new.waiting ++ one ∷ [] → Goes first (record new { waiting = longer }) (count + 1)
+  pub waits : (first now new : Inbox I) (count : ℕ) → Goes first now count → count < 64 → (one : Typed) →
+      ReadsMore remaining now.ended now (Ok (Some one)) new → None ≡ reply_to one → (longer : List Typed) →
+      longer ≡ new.waiting ++ one ∷ [] → Goes first (record new { waiting = longer }) (count + 1)
   waits first now new count g lt one r e longer is =
       let small : length now.waiting < 64 = omega (arith, lt, g.4) in
       let on = read_open now new one now.ended r in

@@ -6,7 +6,8 @@ use Rattle.std.proofs.Math.Seq.{paste}
 
 module _ {A : Type 0} where
   -- so many are taken out, and those behind them are moved to the front
-  pub moved_front : (count filled : ℕ) (xs : List A) → count ≤ filled → filled ≤ length xs → take (filled - count) (paste xs 0 (drop count xs) (filled - count)) ≡ drop count (take filled xs)
+  pub moved_front : (count filled : ℕ) (xs : List A) → count ≤ filled → filled ≤ length xs →
+      take (filled - count) (paste xs 0 (drop count xs) (filled - count)) ≡ drop count (take filled xs)
   moved_front count filled xs within fits =
       let whole : count + (filled - count) ≡ filled = omega (arith, within) in
       let start : 0 + (filled - count) ≡ filled - count = omega arith in

@@ -23,6 +23,8 @@ on_call (x ∷ entries) e is =
     ∙ later (is_some (question_of x.call)) x (on_children entries) e
 
 module _ {I : Type 0} (remaining : I → Option (List ℕ)) where
-  pub answered_more : (first mid last : Inbox I) (entries : List Entry) (e : Entry) → AreAnswered remaining first entries mid → IsAnsweredTo remaining (question_of e.call) mid e.answer last → AreAnswered remaining first (entries ++ e ∷ []) last
+  pub answered_more : (first mid last : Inbox I) (entries : List Entry) (e : Entry) →
+      AreAnswered remaining first entries mid → IsAnsweredTo remaining (question_of e.call) mid e.answer last →
+      AreAnswered remaining first (entries ++ e ∷ []) last
   answered_more first mid last [] e before now = (last, subst (λ (x : Inbox I). IsAnsweredTo remaining (question_of e.call) x e.answer last) before now, refl)
   answered_more first mid last (x ∷ entries) e before now = (before.0, before.1, answered_more before.0 mid last entries e before.2 now)

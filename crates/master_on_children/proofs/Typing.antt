@@ -1,5 +1,6 @@
 -- Lines that are typed, one after another.
-use Rattle.std.proofs.Common.{◌≡◌, ℕ, ◌<◌, ◌≤◌, ◌==◌, nat_le, Bool, true, false, cond, List, [], ◌∷◌, ◌++◌, Option, Some, None, length, take, refl, sym, ap, subst, ◌∙◌, arith}
+use Rattle.std.proofs.Common.{◌≡◌, ℕ, ◌<◌, ◌≤◌, ◌==◌, nat_le, Bool, true, false, cond, List, [], ◌∷◌, ◌++◌, Option}
+use Rattle.std.proofs.Common.{Some, None, length, take, refl, sym, ap, subst, ◌∙◌, arith}
 use Rattle.std.specs.Io.KnownBytes.{Keeps}
 use Rattle.std.proofs.lemmas.Bool.{lt-ltb, le-ltb, eqb-true}
 use Rattle.child_family.specs.Told.{Hearing, line, too_long, ended}
@@ -53,7 +54,8 @@ read_none (Some bytes) None same = absurd same
 read_none (Some bytes) (Some left) same = same
 
 -- ---- one read after another
-typed_more : (bytes left last : List ℕ) (lines : List Typed) (one : Typed) → AreTyped bytes lines left → AreTyped left (one ∷ []) last → AreTyped bytes (lines ++ one ∷ []) last
+typed_more : (bytes left last : List ℕ) (lines : List Typed) (one : Typed) → AreTyped bytes lines left →
+    AreTyped left (one ∷ []) last → AreTyped bytes (lines ++ one ∷ []) last
 typed_more bytes left last [] one read more = subst (λ (b : List ℕ). AreTyped b (one ∷ []) last) read more
 typed_more bytes left last (first ∷ lines) one read more = (read.0, typed_more (rest_in bytes) left last lines one read.1 more)
 
@@ -78,12 +80,14 @@ whole_later (Some bytes) None m lines read whole = absurd read
 whole_later (Some bytes) (Some left) m lines read whole = whole
 
 -- ---- what answers a question
-pub asked_on : (waiting : List Typed) (one : Typed) (more : List Typed) → length waiting < 64 → reply_to one ≡ None → asked waiting (one ∷ more) ≡ asked (waiting ++ one ∷ []) more
+pub asked_on : (waiting : List Typed) (one : Typed) (more : List Typed) → length waiting < 64 → reply_to one ≡ None →
+    asked waiting (one ∷ more) ≡ asked (waiting ++ one ∷ []) more
 asked_on waiting one more lt e =
     ap (λ t. cond t (by_reply (reply_to one) (λ answer. gives answer waiting more) (asked (waiting ++ one ∷ []) more)) (gives Back waiting (one ∷ more))) (lt-ltb (length waiting) 64 lt)
     ∙ ap (λ r. by_reply r (λ answer. gives answer waiting more) (asked (waiting ++ one ∷ []) more)) e
 
-pub asked_given : (waiting : List Typed) (one : Typed) (a : Answer) → length waiting < 64 → reply_to one ≡ Some a → asked waiting (one ∷ []) ≡ gives a waiting []
+pub asked_given : (waiting : List Typed) (one : Typed) (a : Answer) → length waiting < 64 → reply_to one ≡ Some a →
+    asked waiting (one ∷ []) ≡ gives a waiting []
 asked_given waiting one a lt e =
     ap (λ t. cond t (by_reply (reply_to one) (λ answer. gives answer waiting []) (asked (waiting ++ one ∷ []) [])) (gives Back waiting (one ∷ []))) (lt-ltb (length waiting) 64 lt)
     ∙ ap (λ r. by_reply r (λ answer. gives answer waiting []) (asked (waiting ++ one ∷ []) [])) e

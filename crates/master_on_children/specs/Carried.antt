@@ -1,7 +1,6 @@
 -- A target carried out on real children.
 use Rattle.std.specs.Prelude.{ℕ, ◌≡◌, true, List, Option}
-use Rattle.definitions.specs.Record.{Record}
-use Rattle.definitions.specs.Target.{handover_for, sides_of}
+use Rattle.definitions.specs.Master.{Record, handover_for, sides_of}
 use Rattle.handover_text.specs.Spelling.{text_handed}
 use Rattle.definitions.specs.After.{record_after}
 use Rattle.service_state.specs.Targets.{lacks_generation}
@@ -36,6 +35,7 @@ module _ {F I L : Type 0} {f : Ghosts F} (remaining : I → Option (List ℕ)) w
   pub record IsCarriedOut (first : Attended F I L f) (r : Record) (target : Target) (e : Enacted) (last : Attended F I L f) : Type 0 where
     pub has_plan : HasPlan r target
     pub path_law : KeepsPathLaw (plan_tree r target (turns_by_turns r.retries)) r.note (sides_of r target) e.log.entries e.report
-    pub calls : CallsHeld (f.told first.edge.family) (f.told last.edge.family) (handed (state_of first.edge.state) r target) (on_children e.log.entries) (state_of last.edge.state)
+    pub calls : CallsHeld (f.told first.edge.family) (f.told last.edge.family)
+        (handed (state_of first.edge.state) r target) (on_children e.log.entries) (state_of last.edge.state)
     pub answered : AreAnswered remaining first.inbox e.log.entries last.inbox
     pub record_is : e.after ≡ record_after r target e.report r.pid

@@ -32,7 +32,9 @@ module _ {I : Type 0} (remaining : I → Option (List ℕ)) where
   -- One line more of an input that has not ended. The end and a fault are kept.
   abbrev pub ReadsOn : Inbox I → Result (Option Typed) SupervisorFault → Inbox I → Type 0
   ReadsOn old (Ok (Some line)) new = (new ≡ record old { lines = new.lines }) × AreRead (unread old) (line ∷ []) (unread new)
-  ReadsOn old (Ok None) new = (new ≡ record old { lines = new.lines; ended = Some (Ok tt) }) × AreRead (unread old) [] (unread new) × IsWhole (unread old) (unread new)
+  ReadsOn old (Ok None) new =
+      (new ≡ record old { lines = new.lines; ended = Some (Ok tt) }) × AreRead (unread old) [] (unread new) ×
+      IsWhole (unread old) (unread new)
   ReadsOn old (Err fault) new = (new ≡ record old { lines = new.lines; ended = Some (Err fault) }) × AreRead (unread old) [] (unread new)
 
   -- One line more. Once the input has ended, that is what each further read comes to.
@@ -52,7 +54,9 @@ module _ {I : Type 0} (remaining : I → Option (List ℕ)) where
   -- ended, and the answer is to go back. How it ended before is kept.
   abbrev pub IsGiven : Asked → Answer → Inbox I → Inbox I → Type 0
   IsGiven (gives answer waiting left) a old new = (a ≡ answer) × (new.waiting ≡ waiting) × (left ≡ []) × (new.ended ≡ old.ended)
-  IsGiven (lacks waiting) a old new = (a ≡ Back) × (new.waiting ≡ waiting) × IsOver old.ended new.ended × (old.ended ≡ None → new.ended ≡ Some (Ok tt) → IsWhole (unread old) (unread new))
+  IsGiven (lacks waiting) a old new =
+      (a ≡ Back) × (new.waiting ≡ waiting) × IsOver old.ended new.ended ×
+      (old.ended ≡ None → new.ended ≡ Some (Ok tt) → IsWhole (unread old) (unread new))
 
   -- The answer to a question, by the lines that were read for it.
   pub record IsAnswered (old : Inbox I) (a : Answer) (new : Inbox I) : Type 0 where

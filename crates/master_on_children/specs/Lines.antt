@@ -2,7 +2,7 @@
 use Rattle.std.specs.Prelude.{ℕ, Bool, true, false, ◌≡◌, ◌⊎◌, List, [], ◌∷◌, ◌++◌, map, length}
 use Rattle.std.specs.Prelude.{Option, Some, None, Result, Ok, Err, OnOk, IsOk, IsErr, is_ok, alloc_error, if◌then◌else◌}
 use Rattle.vocabulary.specs.Settings.{Settings}
-use Rattle.definitions.specs.Record.{Record}
+use Rattle.definitions.specs.Master.{Record}
 use Rattle.vocabulary.specs.declared.targets.Target.{Target}
 use Rattle.vocabulary.specs.declared.calls.Answer.TheVariants.{Counted}
 use Rattle.control_words.specs.declared.words.Word.{Word}
@@ -55,7 +55,8 @@ module _ {F I L : Type 0} {f : Ghosts F} (remaining : I → Option (List ℕ)) w
   DeclinesOn first place r target code = IsUnplanned r target code
 
   -- These words were acted on, one after another: all of them, unless memory was wanted.
-  pub record AreActed (settings : Option Settings) (words : List Word) (old : Standing (Attended F I L f)) (said : Said) (new : Standing (Attended F I L f)) : Type 0 where
+  pub record AreActed (settings : Option Settings) (words : List Word) (old : Standing (Attended F I L f)) (said : Said)
+      (new : Standing (Attended F I L f)) : Type 0 where
     pub done : AreDone EnactsOn DeclinesOn settings words 0 old said.blocks.items new
     pub all : OnOk said.done (length said.blocks.items ≡ length words)
 
@@ -114,14 +115,16 @@ module _ {F I L N : Type 0} {f : Ghosts F} (remaining : I → Option (List ℕ))
       × IsOk said.done × LineComesTo line n (taken old inbox) said k mid × (blocks ≡ said.blocks.items ++ rest) × AreHeard lines k mid rest m new
 
   -- The same, up to the end of the input, where none waits.
-  pub record IsHeardOut (lines : List Typed) (n : N) (old : Standing (Attended F I L f)) (blocks : List Block) (m : N) (new : Standing (Attended F I L f)) : Type 0 where
+  pub record IsHeardOut (lines : List Typed) (n : N) (old : Standing (Attended F I L f)) (blocks : List Block) (m : N)
+      (new : Standing (Attended F I L f)) : Type 0 where
     pub before_end : Standing (Attended F I L f)
     pub are_heard : AreHeard lines n old blocks m before_end
     pub ended : IsNextLine remaining before_end.world.inbox (Ok None) new.world.inbox
     pub still : new ≡ taken before_end new.world.inbox
 
   -- Memory was wanted for the last of these lines. It came to no more blocks than these.
-  pub record AreCutShort (lines : List Typed) (n : N) (old : Standing (Attended F I L f)) (blocks : List Block) (m : N) (new : Standing (Attended F I L f)) : Type 0 where
+  pub record AreCutShort (lines : List Typed) (n : N) (old : Standing (Attended F I L f)) (blocks : List Block) (m : N)
+      (new : Standing (Attended F I L f)) : Type 0 where
     pub before : List Typed
     pub last : Typed
     pub heard : List Block
@@ -148,7 +151,8 @@ module _ {F I L N : Type 0} {f : Ghosts F} (remaining : I → Option (List ℕ))
 
   abbrev pub IsShortAtEnd : N → Standing (Attended F I L f) → List Block → N → Standing (Attended F I L f) → Type 0
   IsShortAtEnd n first blocks m last =
-      (tick : Said) × (ticked : Standing (Attended F I L f)) × (lines : List Typed) × (heard : List Block) × (before_end : Standing (Attended F I L f)) × (end : Said)
+      (tick : Said) × (ticked : Standing (Attended F I L f)) × (lines : List Typed) × (heard : List Block) ×
+      (before_end : Standing (Attended F I L f)) × (end : Said)
       × IsTicked remaining first.record 0 first tick ticked × IsOk tick.done × IsHeardOut lines n ticked heard m before_end
       × EndComesTo remaining before_end.record before_end end last × IsErr end.done × (blocks ≡ (tick.blocks.items ++ heard) ++ end.blocks.items)
 

@@ -2,7 +2,7 @@
 use Rattle.std.specs.Prelude.{ℕ, ◌≡◌, true, List, [], Option, Some, None, Result}
 use Rattle.std.specs.Io.KnownBytes.{Keeps}
 use Rattle.vocabulary.specs.Settings.{Settings}
-use Rattle.definitions.specs.Record.{Record}
+use Rattle.definitions.specs.Master.{Record}
 use Rattle.call_laws.specs.Start.{started}
 use Rattle.child_family.specs.Told.{Told, Tells, wrote}
 use Rattle.child_family.specs.declared.family.Family.{Ghosts}
@@ -38,7 +38,9 @@ module _ {F I L : Type 0} {f : Ghosts F} (remaining : I → Option (List ℕ)) w
 
 -- The pid file was written, a master started over the family and the input, and these are all the blocks that it came to. It gives
 -- the family back.
-pub record IsSupervised {F I N : Type 0} (L : Type 0) (f : Ghosts F) (remaining : I → Option (List ℕ)) (reads : N → Result Settings NextRefusal → N → Type 0) (s : Settings) (pid : ℕ) (family : F) (input : I) (n : N) (blocks : List Block) (m : N) (left : F) : Type 0 where
+pub record IsSupervised {F I N : Type 0} (L : Type 0) (f : Ghosts F) (remaining : I → Option (List ℕ))
+    (reads : N → Result Settings NextRefusal → N → Type 0) (s : Settings) (pid : ℕ) (family : F) (input : I) (n : N)
+    (blocks : List Block) (m : N) (left : F) : Type 0 where
   pub begun : F
   pub written : IsWritten s.pid pid (f.told family) (f.told begun)
   pub first : Standing (Attended F I L f)

@@ -2,7 +2,7 @@
 use Rattle.std.proofs.Common.{◌≡◌, ◌⊎◌, inl, inr, ap, ℕ, List}
 use Rattle.vocabulary.specs.declared.targets.Target.{Target}
 use Rattle.definitions.specs.Table.{Table}
-use Rattle.definitions.specs.Record.{Record}
+use Rattle.definitions.specs.Master.{Record}
 use Rattle.word_runner.specs.declared.block.Body.TheVariants.{Refused}
 use Rattle.word_runner.specs.declared.enactor.TargetRefusal.TheVariants.{Coded}
 use Rattle.plan_executor.specs.Codes.{enact_code, target_refusal}

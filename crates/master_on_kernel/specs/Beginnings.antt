@@ -29,4 +29,6 @@ pub record HasBegun (setup : StartSetup) (held : Option (List ℕ)) (it : Rehear
 
 -- Why it can't begin: the start can't be read; no master can start so; or nobody can hold the address.
 abbrev pub IsOfBeginning : StartSetup → Option (List ℕ) → Fault → Type 0
-IsOfBeginning setup held fault = IsOfStart setup fault ⊎ ((start : Start) × IsStart setup start × (IsDue (record_at start) fault ⊎ ((it : Rehearsal) × IsStarted start it × IsOfNamed held it fault)))
+IsOfBeginning setup held fault =
+    IsOfStart setup fault ⊎ ((start : Start) × IsStart setup start ×
+    (IsDue (record_at start) fault ⊎ ((it : Rehearsal) × IsStarted start it × IsOfNamed held it fault)))

@@ -2,7 +2,7 @@
 use Rattle.std.specs.Prelude.{◌≡◌, Bool, List, [], ◌∷◌, Option, Some, None}
 use Rattle.vocabulary.specs.declared.targets.Target.{Target}
 use Rattle.definitions.specs.Table.{Table}
-use Rattle.definitions.specs.Record.{Record}
+use Rattle.definitions.specs.Master.{Record}
 use Rattle.definitions.specs.Plans.{Turn}
 use Rattle.definitions.specs.Run.{Pattern}
 use Rattle.control_words.specs.declared.words.Word.{Word}

@@ -1,6 +1,6 @@
 -- What there is to show of a word.
 use Rattle.std.specs.Prelude.{◌≡◌, ◌⊎◌, ℕ, List, Some, Ok}
-use Rattle.definitions.specs.Record.{Record}
+use Rattle.definitions.specs.Master.{Record}
 use Rattle.reload_planner.specs.Codes.{plan_code}
 use Rattle.reload_planner.specs.declared.refusal.PlanRefusal.{PlanRefusal}
 use Rattle.upgrade_planner.specs.Planned.{HasPlan, HasNoPlan}

@@ -3,7 +3,7 @@ use Rattle.std.specs.Prelude.{◌≡◌, ◌+◌, ◌⊎◌, ℕ, false, true, L
 use Rattle.listener_set.specs.AddressText.{reading}
 use Rattle.listener_set.specs.declared.address.AddressRefusal.{AddressRefusal}
 use Rattle.definitions.specs.Table.{Table, is_held}
-use Rattle.definitions.specs.Record.{Record}
+use Rattle.definitions.specs.Master.{Record}
 use Rattle.definitions.specs.Run.{Entry}
 use Rattle.vocabulary.specs.declared.targets.Target.{Target}
 use Rattle.kernel_table.specs.Foreign.{with_foreign}
@@ -35,7 +35,14 @@ pub record Held (text : List ℕ) (old new : Rehearsal) : Type 0 where
   pub address : List ℕ
   pub is_read : reading text ≡ Ok address
   pub is_free : IsFree address old.standing.world
-  pub kernel : new ≡ record old { standing = record old.standing { world = record { table = with_foreign address old.standing.world.table; room = old.standing.world.room } } }
+  pub kernel : new
+      ≡ record old {
+        standing =
+            record old.standing {
+              world =
+                  record { table = with_foreign address old.standing.world.table; room = old.standing.world.room };
+            };
+      }
 
 -- Why nobody can hold what a text is read as: it is no address, somebody holds it, no number is left, or else memory is wanted.
 abbrev pub IsOfHeld : Result (List ℕ) AddressRefusal → State → Fault → Type 0

@@ -3,7 +3,7 @@ use Rattle.std.specs.Prelude.{◌≡◌, ◌⊎◌, ℕ, nat_lt, ◌||◌, List,
 use Rattle.listener_set.specs.Numbers.{numbers_below}
 use Rattle.vocabulary.specs.Settings.{Settings, plain_settings}
 use Rattle.vocabulary.specs.declared.table.Limits.{Limits}
-use Rattle.definitions.specs.Record.{Record}
+use Rattle.definitions.specs.Master.{Record}
 use Rattle.call_laws.specs.Start.{started, booted}
 use Rattle.worker_table.specs.Beats.{Workers, followed}
 use Rattle.master_config.specs.Files.{AreNamed, IsRefusalOf}

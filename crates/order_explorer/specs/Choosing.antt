@@ -2,7 +2,7 @@
 use Rattle.std.specs.Prelude.{ℕ, ◌≡◌, ◌-◌, ◌*◌, ◌⊎◌, min, Bool, List, Option, Some, None}
 use Rattle.vocabulary.specs.declared.targets.Target.{Target}
 use Rattle.definitions.specs.Plans.{Turn, plan_tree}
-use Rattle.definitions.specs.Record.{Record}
+use Rattle.definitions.specs.Master.{Record}
 use Rattle.plan_steps.specs.declared.parts.Parts.{Parts}
 use Rattle.rollback_plan.specs.declared.plan.Plan.{Plan}
 use Rattle.rollback_plan.specs.Plans.{parts_of, tree_under}

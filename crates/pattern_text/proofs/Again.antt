@@ -1,5 +1,7 @@
 -- What was written of sections is read again as these.
-use Rattle.std.proofs.Common.{◌≡◌, ℕ, ◌+◌, ◌<◌, ◌≤◌, ◌==◌, nat_eq, Bool, true, false, cond, List, [], ◌∷◌, ◌++◌, map, Option, Some, None, Ok, Err, refl, sym, ap, subst, ◌∙◌, inl, inr, arith, append_assoc, append-nil}
+use Rattle.std.proofs.Common.{◌≡◌, ℕ, ◌+◌, ◌<◌, ◌≤◌, ◌==◌, nat_eq, Bool, true, false, cond, List, [], ◌∷◌, ◌++◌, map}
+use Rattle.std.proofs.Common.{Option, Some, None, Ok, Err, refl, sym, ap, subst, ◌∙◌, inl, inr, arith, append_assoc}
+use Rattle.std.proofs.Common.{append-nil}
 use Rattle.std.specs.Prelude.{⊤, codes, if◌then◌else◌, option_map, option_and_then, ◌≢◌}
 use Rattle.std.specs.List.{AllByRecursion}
 use Rattle.std.specs.Fmt.{decimal}
@@ -10,7 +12,8 @@ use Rattle.vocabulary.specs.declared.names.Name.{Name}
 use Rattle.vocabulary.specs.declared.names.Name.TheVariants as name
 use Rattle.vocabulary.specs.declared.calls.Fate.{Fate}
 use Rattle.vocabulary.specs.declared.calls.Fate.TheVariants as fate
-use Rattle.definitions.specs.Run.{Moment, quiet, Pattern}
+use Rattle.definitions.specs.Run.{Moment, Pattern}
+use Rattle.call_laws.specs.Pieces.{quiet}
 use Rattle.definitions.specs.Plans.{Turn, New, Old}
 use Rattle.kernel_pattern.specs.declared.section.Section.{Section}
 use Rattle.kernel_pattern.specs.Pattern.{moment_at, with_exit, with_fate, RiseFrom}
@@ -29,7 +32,8 @@ use Rattle.pattern_text.specs.LineText.{line_text, IsLine}
 use Rattle.pattern_text.specs.LineReading.{event_of, line_of}
 use Rattle.pattern_text.specs.Courses.{Course, course_of}
 use Rattle.pattern_text.specs.TurnsText.{letter, letters, turns_text, turns_for}
-use Rattle.pattern_text.specs.PatternsText.{Reading, begun, may_follow, may_stand, with_exit_at, with_fate_at, with_line, with_turns, taken_turns, taken_as, taken, finished, patterns_of}
+use Rattle.pattern_text.specs.PatternsText.{Reading, begun, may_follow, may_stand, with_exit_at, with_fate_at}
+use Rattle.pattern_text.specs.PatternsText.{with_line, with_turns, taken_turns, taken_as, taken, finished, patterns_of}
 use Rattle.pattern_text.specs.PatternsWriting.{ended_line, exits_text, fail_text, moment_text, moments_text, section_text, sections_behind, patterns_text}
 use Rattle.pattern_text.specs.Written.{IsNoted, AreMoments, IsSection, AreSections}
 use Rattle.pattern_text.proofs.PatternLines.{line_reads}
@@ -135,7 +139,8 @@ moment-more (x ∷ xs) e h k =
 ---- Line by line
 
 -- a line that may stand there, and what the rest gives
-gives_written : (r : Reading) (v : PatternLine) (rest : List ℕ) (cs : List Course) → IsLine v → may_stand v r ≡ true → Gives taken finished (with_line v r) rest cs → Gives taken finished r (ended_line v ++ rest) cs
+gives_written : (r : Reading) (v : PatternLine) (rest : List ℕ) (cs : List Course) → IsLine v → may_stand v r ≡ true →
+    Gives taken finished (with_line v r) rest cs → Gives taken finished r (ended_line v ++ rest) cs
 gives_written r v rest cs is stands more =
     subst (λ t. Gives taken finished r t cs) (sym (append_assoc (line_text v) (10 ∷ []) rest))
     (gives_line taken finished r (with_line v r) (line_text v) rest cs (line_lacks v is) (λ number. takes number) more)
@@ -148,13 +153,17 @@ gives_written r v rest cs is stands more =
 module _ (done cs : List Course) (turns : List Turn) where
   -- what is read of a text within a section with these turns, of which this much is known
   abbrev Goes : Pattern → ℕ → Bool → List ℕ → Type 0
-  Goes p last failed written = (fresh : Bool) → Gives taken finished (record { done = done; pattern = p; turns = turns; last = last; failed = failed; fresh = fresh }) written cs
+  Goes p last failed written =
+      (fresh : Bool) → Gives taken finished
+      (record { done = done; pattern = p; turns = turns; last = last; failed = failed; fresh = fresh }) written cs
 
   goes-as : (p q : Pattern) (last : ℕ) (failed : Bool) (written : List ℕ) → ((k : ℕ) → q k ≡ p k) → Goes q last failed written → Goes p last failed written
   goes-as p q last failed written same h = subst (λ (x : Pattern). Goes x last failed written) (λ i k. same k i) h
 
   -- exits before a call go behind those that are known of it
-  goes_exits : (n : ℕ) (p : Pattern) (rest : List ℕ) → IsCount n → (xs : List Name) (m : Moment) (last : ℕ) (failed : Bool) → AllByRecursion IsName xs → may_follow last failed n ≡ true → last ≤ n →
+  goes_exits : (n : ℕ) (p : Pattern) (rest : List ℕ) → IsCount n →
+      (xs : List Name) (m : Moment) (last : ℕ) (failed : Bool) → AllByRecursion IsName xs →
+      may_follow last failed n ≡ true → last ≤ n →
       ((l : ℕ) (f : Bool) → may_follow l f n ≡ true → l ≤ n → Goes (put n (record { exits = m.exits ++ xs; fate = m.fate }) p) l f rest) →
       Goes (put n m p) last failed (exits_text n xs ++ rest)
   goes_exits n p rest count [] m last failed are follows le more =
@@ -168,7 +177,8 @@ module _ (done cs : List Course) (turns : List Turn) where
       (λ fresh. gives_written (record { done = done; pattern = put n m p; turns = turns; last = last; failed = failed; fresh = fresh }) (Exit n x) (exits_text n xs ++ rest) cs (count, are.0) follows
       (goes-as (with_exit_at n x (put n m p)) (put n (with_exit x m) p) n false (exits_text n xs ++ rest) (λ k. sym (exit-put n x m p k)) later false))
 
-  goes_fate : (n : ℕ) (p : Pattern) (rest : List ℕ) → IsCount n → (es : List Name) (f : Option Fate) (last : ℕ) (failed : Bool) → may_follow last failed n ≡ true → last ≤ n →
+  goes_fate : (n : ℕ) (p : Pattern) (rest : List ℕ) → IsCount n →
+      (es : List Name) (f : Option Fate) (last : ℕ) (failed : Bool) → may_follow last failed n ≡ true → last ≤ n →
       ((l : ℕ) (b : Bool) → l ≤ n → Goes (put n (record { exits = es; fate = f }) p) l b rest) →
       Goes (put n (record { exits = es; fate = None }) p) last failed (fail_text n f ++ rest)
   goes_fate n p rest count es None last failed follows le more = more last failed le
@@ -177,7 +187,8 @@ module _ (done cs : List Course) (turns : List Turn) where
       (λ fresh. gives_written (record { done = done; pattern = put n before p; turns = turns; last = last; failed = failed; fresh = fresh }) (Fail n f) rest cs count follows
       (goes-as (with_fate_at n f (put n before p)) (put n (with_fate f before) p) n true rest (λ k. sym (fate-put n f before p k)) (more n true (omega arith)) false))
 
-  goes_moment : (n : ℕ) (m : Moment) (p : Pattern) (rest : List ℕ) (last : ℕ) (failed : Bool) → IsCount n → AllByRecursion IsName m.exits → p n ≡ quiet → last < n →
+  goes_moment : (n : ℕ) (m : Moment) (p : Pattern) (rest : List ℕ) (last : ℕ) (failed : Bool) → IsCount n →
+      AllByRecursion IsName m.exits → p n ≡ quiet → last < n →
       ((l : ℕ) (f : Bool) → l ≤ n → Goes (put n m p) l f rest) →
       Goes p last failed (moment_text n m ++ rest)
   goes_moment n m p rest last failed count are unset less more =
@@ -187,7 +198,8 @@ module _ (done cs : List Course) (turns : List Turn) where
       (goes_exits n p (fail_text n m.fate ++ rest) count m.exits quiet last failed are follows (omega (arith, less))
       (λ l f fits le. goes_fate n p rest count m.exits m.fate l f fits le more)))
 
-  goes_moments : (es front : List (ℕ × Moment)) (b : ℕ) (rest : List ℕ) (last : ℕ) (failed : Bool) → RiseFrom b es → AllByRecursion IsNoted es → AreBelow b front → last < b →
+  goes_moments : (es front : List (ℕ × Moment)) (b : ℕ) (rest : List ℕ) (last : ℕ) (failed : Bool) → RiseFrom b es →
+      AllByRecursion IsNoted es → AreBelow b front → last < b →
       ((l : ℕ) (f : Bool) → Goes (moment_at (front ++ es)) l f rest) →
       Goes (moment_at front) last failed (moments_text es ++ rest)
   goes_moments [] front b rest last failed rise are below less more = subst (λ (xs : List (ℕ × Moment)). Goes (moment_at xs) last failed rest) (append-nil front) (more last failed)
@@ -219,7 +231,8 @@ no_line text =
     ap (option_and_then (λ (p : List ℕ × List ℕ). option_and_then (λ n. option_and_then (λ (q : List ℕ × List ℕ). event_of n q.0 q.1) (cut 32 p.1)) (count_of p.0))) (cut_at 32 (codes "turns") text refl)
 
 -- a line of turns at the beginning of a section, and what the rest gives
-gives_turns : (done cs : List Course) (turn : Turn) (turns : List Turn) (rest : List ℕ) → Gives taken finished (with_turns (turn ∷ turns) (begun done)) rest cs →
+gives_turns : (done cs : List Course) (turn : Turn) (turns : List Turn) (rest : List ℕ) →
+    Gives taken finished (with_turns (turn ∷ turns) (begun done)) rest cs →
     Gives taken finished (begun done) (turns_text (turn ∷ turns) ++ rest) cs
 gives_turns done cs turn turns rest more =
     let all : List ℕ = letters (turn ∷ turns) in
@@ -232,7 +245,9 @@ gives_turns done cs turn turns rest more =
 
 -- a section from its beginning, and what the rest gives
 gives_section : (done cs : List Course) (turns : List Turn) (p : List (ℕ × Moment)) (rest : List ℕ) → AreMoments p →
-    ((l : ℕ) (f fresh : Bool) → Gives taken finished (record { done = done; pattern = moment_at p; turns = turns; last = l; failed = f; fresh = fresh }) rest cs) →
+    ((l : ℕ) (f fresh : Bool) →
+    Gives taken finished
+    (record { done = done; pattern = moment_at p; turns = turns; last = l; failed = f; fresh = fresh }) rest cs) →
     Gives taken finished (begun done) ((turns_text turns ++ moments_text p) ++ rest) cs
 gives_section done cs [] p rest are more = goes_moments done cs [] p [] 1 rest 0 false are.0 are.1 tt (omega arith) (λ l f fresh. more l f fresh) true
 gives_section done cs (turn ∷ turns) p rest are more =
@@ -241,7 +256,9 @@ gives_section done cs (turn ∷ turns) p rest are more =
     (goes_moments done cs (turn ∷ turns) p [] 1 rest 0 false are.0 are.1 tt (omega arith) (λ l f fresh. more l f fresh) false))
 
 gives_behind : (ss : List Section) (done : List Course) (c : Course) (last : ℕ) (failed fresh : Bool) → AreSections ss →
-    Gives taken finished (record { done = done; pattern = c.pattern; turns = c.turns; last = last; failed = failed; fresh = fresh }) (sections_behind ss) (done ++ c ∷ map course_of ss)
+    Gives taken finished
+    (record { done = done; pattern = c.pattern; turns = c.turns; last = last; failed = failed; fresh = fresh })
+    (sections_behind ss) (done ++ c ∷ map course_of ss)
 gives_behind [] done c last failed fresh are = λ number. refl
 gives_behind (s ∷ ss) done c last failed fresh are =
     let all : List Course = done ++ c ∷ map course_of (s ∷ ss) in

@@ -20,10 +20,13 @@ use Rattle.pattern_text.specs.declared.pattern_line.PatternLine.TheVariants.{Exi
 use Rattle.pattern_text.specs.LineText.{line_text, IsLine}
 use Rattle.pattern_text.specs.LineReading.{event_of, numbered_of, line_of}
 
-event_found : (n : ℕ) (verb what : List ℕ) (v : PatternLine) → IsCount n → event_of n verb what ≡ Some v → IsLine v × (decimal n ++ 32 ∷ (verb ++ 32 ∷ what) ≡ line_text v)
+event_found : (n : ℕ) (verb what : List ℕ) (v : PatternLine) → IsCount n → event_of n verb what ≡ Some v → IsLine v ×
+    (decimal n ++ 32 ∷ (verb ++ 32 ∷ what) ≡ line_text v)
 event_found n verb what v h e = at (bytes_eq verb (codes "exit")) refl (bytes_eq verb (codes "fail")) refl e
   where
-    at : (a : Bool) → bytes_eq verb (codes "exit") ≡ a → (b : Bool) → bytes_eq verb (codes "fail") ≡ b → cond a (option_map (λ x. Exit n x) (name_of what)) (cond b (option_map (λ f. Fail n f) (fate_of what)) None) ≡ Some v → IsLine v × (decimal n ++ 32 ∷ (verb ++ 32 ∷ what) ≡ line_text v)
+    at : (a : Bool) → bytes_eq verb (codes "exit") ≡ a → (b : Bool) → bytes_eq verb (codes "fail") ≡ b →
+        cond a (option_map (λ x. Exit n x) (name_of what)) (cond b (option_map (λ f. Fail n f) (fate_of what)) None)
+        ≡ Some v → IsLine v × (decimal n ++ 32 ∷ (verb ++ 32 ∷ what) ≡ line_text v)
     at true k b l e =
         let x = mapped (λ (x : Name). Exit n x) (name_of what) v e in
         let got = name_reads.found what x.0 x.1 in
@@ -48,7 +51,8 @@ numbered_found text v e =
           ∙ ap (λ t. decimal n.0 ++ 32 ∷ t) (cut_found 32 parts.0.1 rest.0 rest.1) ∙ got.1,
     )
 
-numbered_only : (n : ℕ) (verb what : List ℕ) (o : Option PatternLine) → IsCount n → lacks 32 verb ≡ true → event_of n verb what ≡ o → numbered_of (decimal n ++ 32 ∷ (verb ++ 32 ∷ what)) ≡ o
+numbered_only : (n : ℕ) (verb what : List ℕ) (o : Option PatternLine) → IsCount n → lacks 32 verb ≡ true →
+    event_of n verb what ≡ o → numbered_of (decimal n ++ 32 ∷ (verb ++ 32 ∷ what)) ≡ o
 numbered_only n verb what o h apart e =
     ap (option_and_then (λ (p : List ℕ × List ℕ). option_and_then (λ n. option_and_then (λ (q : List ℕ × List ℕ). event_of n q.0 q.1) (cut 32 p.1)) (count_of p.0))) (cut_at 32 (decimal n) (verb ++ 32 ∷ what) (number_lacks 32 n refl h.1))
     ∙ ap (option_and_then (λ n. option_and_then (λ (q : List ℕ × List ℕ). event_of n q.0 q.1) (cut 32 (verb ++ 32 ∷ what)))) (count_reads.only n h)

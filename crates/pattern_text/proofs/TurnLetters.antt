@@ -1,5 +1,6 @@
 -- Letters of turns, one after another.
-use Rattle.std.proofs.Common.{◌≡◌, ℕ, zero, suc, ◌+◌, ◌<◌, Bool, true, false, List, [], ◌∷◌, ◌++◌, length, drop, slice_get, Option, Some, None, refl, sym, ap, ◌∙◌, arith}
+use Rattle.std.proofs.Common.{◌≡◌, ℕ, zero, suc, ◌+◌, ◌<◌, Bool, true, false, List, [], ◌∷◌, ◌++◌, length, drop}
+use Rattle.std.proofs.Common.{slice_get, Option, Some, None, refl, sym, ap, ◌∙◌, arith}
 use Rattle.std.specs.Prelude.{◌&&◌, is_some, option_map, option_and_then}
 use Rattle.std.specs.List.{list_all}
 use Rattle.definitions.specs.Plans.{Turn}
@@ -14,7 +15,9 @@ pub all-letters : (cs : List ℕ) → list_all (λ c. is_some (turn_for c)) cs �
 all-letters [] = refl
 all-letters (c ∷ cs) = at (turn_for c) (all-letters cs)
   where
-    at : (o : Option Turn) → list_all (λ c. is_some (turn_for c)) cs ≡ is_some (turns_for cs) → is_some o && list_all (λ c. is_some (turn_for c)) cs ≡ is_some (option_and_then (λ turn. option_map (λ turns. turn ∷ turns) (turns_for cs)) o)
+    at : (o : Option Turn) → list_all (λ c. is_some (turn_for c)) cs ≡ is_some (turns_for cs) → is_some o
+        && list_all (λ c. is_some (turn_for c)) cs
+        ≡ is_some (option_and_then (λ turn. option_map (λ turns. turn ∷ turns) (turns_for cs)) o)
     at None rest = refl
     at (Some turn) rest = rest ∙ sym (some-mapped (λ turns. turn ∷ turns) (turns_for cs))
 

@@ -2,7 +2,8 @@
 use Rattle.std.specs.Prelude.{ℕ, ◌==◌, nat_lt, Bool, true, false, ◌&&◌, ◌||◌, not, List, [], ◌∷◌, ◌++◌, Option, Some, None, Result, Ok, Err, if◌then◌else◌}
 use Rattle.vocabulary.specs.declared.names.Name.{Name}
 use Rattle.vocabulary.specs.declared.calls.Fate.{Fate}
-use Rattle.definitions.specs.Run.{quiet, Pattern}
+use Rattle.call_laws.specs.Pieces.{quiet}
+use Rattle.definitions.specs.Run.{Pattern}
 use Rattle.definitions.specs.Plans.{Turn}
 use Rattle.kernel_pattern.specs.Pattern.{with_exit, with_fate}
 use Rattle.pattern_text.specs.declared.pattern_line.PatternLine.{PatternLine}

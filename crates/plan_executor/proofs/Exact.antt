@@ -4,7 +4,7 @@ use Rattle.std.specs.Prelude.{◌↔◌, true}
 use Rattle.std.specs.Result.{IsErrOf}
 use Rattle.std.proofs.lemmas.Option.{none-some, same_Some}
 use Rattle.definitions.specs.Table.{Table}
-use Rattle.definitions.specs.Record.{Record, Agrees}
+use Rattle.definitions.specs.Master.{Record, Agrees}
 use Rattle.vocabulary.specs.declared.targets.Target.{Target}
 use Rattle.definitions.specs.Plans.{Turn}
 use Rattle.call_laws.specs.Lengths.{plan_length}
@@ -43,7 +43,8 @@ one_planless r target planner.NoGeneration planner.NoGeneration none also = refl
 one_planless r target planner.NoGeneration planner.Memory none also = absurd also
 one_planless r target planner.Memory q none also = absurd none
 
-one : (t : Table) (r : Record) (target : Target) (turns : List Turn) (pattern : Pattern) (why other : EnactRefusal) → IsRefused t r target turns pattern why → IsRefused t r target turns pattern other → why ≡ other
+one : (t : Table) (r : Record) (target : Target) (turns : List Turn) (pattern : Pattern) (why other : EnactRefusal) →
+    IsRefused t r target turns pattern why → IsRefused t r target turns pattern other → why ≡ other
 one t r target turns pattern Memory other h h' = absurd h
 one t r target turns pattern RecordDisagrees Memory h h' = absurd h'
 one t r target turns pattern RecordDisagrees RecordDisagrees h h' = refl
@@ -67,7 +68,9 @@ one t r target turns pattern (MasterNamed j) NoNumbers h h' = absurd (h.numbers 
 one t r target turns pattern (MasterNamed j) (MasterNamed k) h h' = ap MasterNamed (same_Some j k (sym h.first ∙ h'.first))
 
 -- none where it is carried out
-none_fits : (first last : State) (r : Record) (target : Target) (turns : List Turn) (pattern : Pattern) (e : Enacted) → IsEnacted first last r target turns pattern e → (why : EnactRefusal) → IsRefused first.table r target turns pattern why → ⊥
+none_fits : (first last : State) (r : Record) (target : Target) (turns : List Turn) (pattern : Pattern) (e : Enacted) →
+    IsEnacted first last r target turns pattern e → (why : EnactRefusal) →
+    IsRefused first.table r target turns pattern why → ⊥
 none_fits first last r target turns pattern e is Memory h = h
 none_fits first last r target turns pattern e is RecordDisagrees h = h is.agrees
 none_fits first last r target turns pattern e is (Plan p) h = no_plan r target p h.no_plan is.has_plan
@@ -80,11 +83,14 @@ none_fits first last r target turns pattern e is (MasterNamed k) h = none-some k
 abbrev pub IsOnly : Table → Record → Target → List Turn → Pattern → Result Enacted EnactRefusal → Type 0
 IsOnly t r target turns pattern result = (why : EnactRefusal) → IsErrOf result why ↔ IsRefused t r target turns pattern why
 
-pub only-refused : (t : Table) (r : Record) (target : Target) (turns : List Turn) (pattern : Pattern) (because : EnactRefusal) → IsRefused t r target turns pattern because → IsOnly t r target turns pattern (Err because)
+pub only-refused : (t : Table) (r : Record) (target : Target) (turns : List Turn) (pattern : Pattern)
+    (because : EnactRefusal) → IsRefused t r target turns pattern because →
+    IsOnly t r target turns pattern (Err because)
 only-refused t r target turns pattern because is why =
     (λ h. let same : because ≡ why = cc in subst (IsRefused t r target turns pattern) same is, λ h. let same : because ≡ why = one t r target turns pattern because why is h in cc)
 
-pub only-enacted : (first last : State) (r : Record) (target : Target) (turns : List Turn) (pattern : Pattern) (e : Enacted) → IsEnacted first last r target turns pattern e → IsOnly first.table r target turns pattern (Ok e)
+pub only-enacted : (first last : State) (r : Record) (target : Target) (turns : List Turn) (pattern : Pattern)
+    (e : Enacted) → IsEnacted first last r target turns pattern e → IsOnly first.table r target turns pattern (Ok e)
 only-enacted first last r target turns pattern e is why = (λ h. cc, λ h. absurd (none_fits first last r target turns pattern e is why h))
 
 ---- What refuses before a section is looked at
@@ -93,25 +99,34 @@ only-enacted first last r target turns pattern e is why = (λ h. cc, λ h. absur
 abbrev pub IsUnprepared : Table → Record → Target → EnactRefusal → Type 0
 IsUnprepared t r target because = (because ≡ Memory) ⊎ ((turns : List Turn) (pattern : Pattern) → IsRefused t r target turns pattern because)
 
-pub planless : (t : Table) (r : Record) (target : Target) (because : EnactRefusal) → Agrees t r → (because ≡ Memory) ⊎ ((refusal : PlanRefusal) × (because ≡ Plan refusal) × HasNoPlan r target refusal) → IsUnprepared t r target because
+pub planless : (t : Table) (r : Record) (target : Target) (because : EnactRefusal) → Agrees t r → (because ≡ Memory) ⊎
+    ((refusal : PlanRefusal) × (because ≡ Plan refusal) × HasNoPlan r target refusal) → IsUnprepared t r target because
 planless t r target because agrees (inl memory) = inl memory
 planless t r target because agrees (inr h) = inr (λ turns pattern. subst (IsRefused t r target turns pattern) (sym h.1) (record { agrees = agrees; no_plan = h.2 }))
 
-pub short : (t : Table) (r : Record) (target : Target) (because : EnactRefusal) → Agrees t r → HasPlan r target → (because ≡ Memory) ⊎ ((because ≡ NoNumbers) × LacksNumbers t (plan_length r target)) → IsUnprepared t r target because
+pub short : (t : Table) (r : Record) (target : Target) (because : EnactRefusal) → Agrees t r → HasPlan r target →
+    (because ≡ Memory) ⊎ ((because ≡ NoNumbers) × LacksNumbers t (plan_length r target)) →
+    IsUnprepared t r target because
 short t r target because agrees plan (inl memory) = inl memory
 short t r target because agrees plan (inr h) = inr (λ turns pattern. subst (IsRefused t r target turns pattern) (sym h.0) (record { agrees = agrees; has_plan = plan; lacks = h.1 }))
 
 -- so it is in a section
-pub unprepared-so : (t : Table) (r : Record) (target : Target) (turns : List Turn) (pattern : Pattern) (because : EnactRefusal) → IsUnprepared t r target because → (because ≡ Memory) ⊎ IsRefused t r target turns pattern because
+pub unprepared-so : (t : Table) (r : Record) (target : Target) (turns : List Turn) (pattern : Pattern)
+    (because : EnactRefusal) → IsUnprepared t r target because → (because ≡ Memory) ⊎
+    IsRefused t r target turns pattern because
 unprepared-so t r target turns pattern because (inl memory) = inl memory
 unprepared-so t r target turns pattern because (inr is) = inr (is turns pattern)
 
-pub refused-exact : (t : Table) (r : Record) (target : Target) (turns : List Turn) (pattern : Pattern) (because : EnactRefusal) → (because ≡ Memory) ⊎ IsRefused t r target turns pattern because → IsExact t r target turns pattern (Err because)
+pub refused-exact : (t : Table) (r : Record) (target : Target) (turns : List Turn) (pattern : Pattern)
+    (because : EnactRefusal) → (because ≡ Memory) ⊎ IsRefused t r target turns pattern because →
+    IsExact t r target turns pattern (Err because)
 refused-exact t r target turns pattern because (inl memory) why = inl (ap Err memory)
 refused-exact t r target turns pattern because (inr is) why = inr (only-refused t r target turns pattern because is why)
 
 -- where a planner wants memory it refuses nothing
-pub unspared : {T : Type 0} (r : Record) (target : Target) (result : Result T EnactRefusal) → (IsErrOf result (Plan planner.NoGeneration) ↔ (lacks_generation r target ≡ true)) → IsErrOf result Memory → (p : PlanRefusal) → HasNoPlan r target p → ⊥
+pub unspared : {T : Type 0} (r : Record) (target : Target) (result : Result T EnactRefusal) →
+    (IsErrOf result (Plan planner.NoGeneration) ↔ (lacks_generation r target ≡ true)) → IsErrOf result Memory →
+    (p : PlanRefusal) → HasNoPlan r target p → ⊥
 unspared r target result numbered memory planner.Unplanned none = none
 unspared r target result numbered memory planner.TooLarge none = none
 unspared r target result numbered memory planner.NoGeneration none = let planless = numbered.1 none in cc

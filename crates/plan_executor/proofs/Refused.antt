@@ -1,5 +1,6 @@
 -- Whose exits are looked at, call by call.
-use Rattle.std.proofs.Common.{◌≡◌, ℕ, ◌+◌, ◌<◌, ◌||◌, nat_eq, Bool, true, false, cond, List, [], ◌∷◌, ◌++◌, None, Some, length, drop, get_or, refl, sym, ◌∙◌, ap}
+use Rattle.std.proofs.Common.{◌≡◌, ℕ, ◌+◌, ◌<◌, ◌||◌, nat_eq, Bool, true, false, cond, List, [], ◌∷◌, ◌++◌, None, Some}
+use Rattle.std.proofs.Common.{length, drop, get_or, refl, sym, ◌∙◌, ap}
 use Rattle.std.specs.Prelude.{◌&&◌, if◌then◌else◌}
 use Rattle.std.specs.List.{list_any}
 use Rattle.vocabulary.specs.declared.names.Name.{Name}
@@ -54,7 +55,9 @@ names_any-both images others (name.Worker g k ∷ es) = names_any-both images ot
 names_any-both images others (name.Draining g k ∷ es) = names_any-both images others es
 
 -- Where one leaves, its heir is looked at too.
-pub names_any-at : (leaves : Bool) (images others : List ℕ) (es : List Name) → names_any (if leaves then images ++ others else images) es ≡ (names_any images es || (leaves && names_any others es))
+pub names_any-at : (leaves : Bool) (images others : List ℕ) (es : List Name) →
+    names_any (if leaves then images ++ others else images) es
+    ≡ (names_any images es || (leaves && names_any others es))
 names_any-at true images others es = names_any-both images others es
 names_any-at false images others es = same (names_any images es)
   where
@@ -63,8 +66,12 @@ names_any-at false images others es = same (names_any images es)
     same false = refl
 
 -- The entry at a place is looked at, and then those behind it.
-pub looked : (executing heirs : List ℕ) (pattern : Pattern) (entries : List Entry) (place : ℕ) (e : Entry) (moment : Moment) (names : Bool) → place < length entries → e ≡ get_or entries place e → moment ≡ pattern (place + 1) → names_any (executing_at e.call executing heirs) moment.exits ≡ names →
-    refused_among executing heirs pattern place (drop place entries) ≡ cond names (Some (place + 1)) (refused_among (executing_after e.call executing heirs) heirs pattern (place + 1) (drop (place + 1) entries))
+pub looked : (executing heirs : List ℕ) (pattern : Pattern) (entries : List Entry) (place : ℕ) (e : Entry)
+    (moment : Moment) (names : Bool) → place < length entries → e ≡ get_or entries place e →
+    moment ≡ pattern (place + 1) → names_any (executing_at e.call executing heirs) moment.exits ≡ names →
+    refused_among executing heirs pattern place (drop place entries)
+    ≡ cond names (Some (place + 1))
+    (refused_among (executing_after e.call executing heirs) heirs pattern (place + 1) (drop (place + 1) entries))
 looked executing heirs pattern entries place e moment names lt is at found =
     let rest = drop (place + 1) entries in
     ap (refused_among executing heirs pattern place) (drop_more entries place e lt ∙ ap (λ x. x ∷ rest) (sym is))
@@ -84,13 +91,16 @@ none-at : (images : List ℕ) (es : List (ℕ × Moment)) (n : ℕ) → names_ma
 none-at images [] n h = refl
 none-at images (e ∷ es) n h = go (nat_eq e.0 n) (list_any is_masters e.1.exits) (none-named images e.1.exits) (none-at images es n) h
   where
-    go : (same here : Bool) → (here ≡ false → names_any images e.1.exits ≡ false) → (names_master es ≡ false → names_any images (moment_at es n).exits ≡ false) → (here || names_master es) ≡ false → names_any images (cond same e.1 (moment_at es n)).exits ≡ false
+    go : (same here : Bool) → (here ≡ false → names_any images e.1.exits ≡ false) →
+        (names_master es ≡ false → names_any images (moment_at es n).exits ≡ false) →
+        (here || names_master es) ≡ false → names_any images (cond same e.1 (moment_at es n)).exits ≡ false
     go same true here behind none = absurd (true≢false none)
     go true false here behind none = here refl
     go false false here behind none = behind none
 
 -- nobody's exit is refused
-pub unrefused : (executing heirs : List ℕ) (es : List (ℕ × Moment)) (n : ℕ) (entries : List Entry) → names_master es ≡ false → refused_among executing heirs (moment_at es) n entries ≡ None
+pub unrefused : (executing heirs : List ℕ) (es : List (ℕ × Moment)) (n : ℕ) (entries : List Entry) →
+    names_master es ≡ false → refused_among executing heirs (moment_at es) n entries ≡ None
 unrefused executing heirs es n [] h = refl
 unrefused executing heirs es n (e ∷ entries) h =
     ap (λ b. cond b (Some (n + 1)) (refused_among (executing_after e.call executing heirs) heirs (moment_at es) (n + 1) entries)) (none-at (executing_at e.call executing heirs) es (n + 1) h)

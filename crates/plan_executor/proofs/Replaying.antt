@@ -2,21 +2,27 @@
 use Rattle.std.proofs.Common.{◌≡◌, ℕ, ◌+◌, true, List, [], ◌∷◌, ◌++◌, Option, Some, None, length, refl, sym, ◌∙◌, ap, subst, arith}
 use Rattle.vocabulary.specs.declared.reports.Entry.{Entry}
 use Rattle.vocabulary.specs.declared.calls.Call.{Call}
-use Rattle.vocabulary.specs.declared.calls.Call.TheVariants.{OpenAt, CloseAt, Fork, AwaitReady, Quit, Kill, Census, AwaitGone, SpawnMaster, Adopt, WritePid, MovePid, RemovePid, Alive, Leave, Usr1, TermMaster, Ask}
+use Rattle.vocabulary.specs.declared.calls.Call.TheVariants.{OpenAt, CloseAt, Fork, AwaitReady, Quit, Kill, Census}
+use Rattle.vocabulary.specs.declared.calls.Call.TheVariants.{AwaitGone, SpawnMaster, Adopt, WritePid, MovePid}
+use Rattle.vocabulary.specs.declared.calls.Call.TheVariants.{RemovePid, Alive, Leave, Usr1, TermMaster, Ask}
 use Rattle.vocabulary.specs.declared.calls.Fate.{Fate}
 use Rattle.definitions.specs.Table.{Table, Caller, live_master}
-use Rattle.definitions.specs.Exits.{after_exits}
-use Rattle.definitions.specs.Calls.{Stepped, step_with, step_by, own_step, asked_alive, Handed}
+use Rattle.definitions.specs.Calls.{after_exits, Stepped, step_with, step_by, own_step, Handed}
+use Rattle.call_laws.specs.Pieces.{asked_alive}
 use Rattle.call_replies.specs.Replies.{is_listed}
 use Rattle.definitions.specs.Run.{Pattern}
 use Rattle.plan_executor.specs.Replays.{Replays}
-use Rattle.call_laws.proofs.Cases.{Unfailing, unfailing, open-cases, fork-cases, await-cases, gone-cases, spawn-cases, ask-cases, adopt-cases, write-cases, move-cases, remove-cases}
+use Rattle.call_laws.proofs.Cases.{Unfailing, unfailing, open-cases, fork-cases, await-cases, gone-cases, spawn-cases}
+use Rattle.call_laws.proofs.Cases.{ask-cases, adopt-cases, write-cases, move-cases, remove-cases}
 
 -- what a call under the k-th moment gives
 abbrev pub at_moment : Handed → Pattern → ℕ → Entry → Table → Stepped
 at_moment handed pattern k e t = step_with handed e.by e.call (pattern k).fate (after_exits (pattern k).exits t)
 
-pub replays-push : (handed : Handed) (pattern : Pattern) (entries : List Entry) (n k : ℕ) (t last : Table) (e : Entry) → Replays handed pattern n t entries last → k ≡ n + length entries + 1 → (at_moment handed pattern k e last).answer ≡ e.answer → Replays handed pattern n t (entries ++ e ∷ []) (at_moment handed pattern k e last).table
+pub replays-push : (handed : Handed) (pattern : Pattern) (entries : List Entry) (n k : ℕ) (t last : Table) (e : Entry) →
+    Replays handed pattern n t entries last → k ≡ n + length entries + 1 →
+    (at_moment handed pattern k e last).answer ≡ e.answer →
+    Replays handed pattern n t (entries ++ e ∷ []) (at_moment handed pattern k e last).table
 replays-push handed pattern [] n k t last e same at gives =
     let k_is : k ≡ n + 1 = omega arith in
     let stepped : at_moment handed pattern k e last ≡ at_moment handed pattern (n + 1) e t = λ i. at_moment handed pattern (k_is i) e (sym same i) in
@@ -34,7 +40,8 @@ alive-listed None i t = refl
 alive-listed (Some c) i t = refl
 
 -- no fate fails such a call
-own-listed : (handed : Handed) (image : ℕ) (c : Caller) (call : Call) (f : Option Fate) (t : Table) → Unfailing call → IsListed call (own_step handed image c call t) → IsListed call (step_by handed image (Some c) call f t)
+own-listed : (handed : Handed) (image : ℕ) (c : Caller) (call : Call) (f : Option Fate) (t : Table) → Unfailing call →
+    IsListed call (own_step handed image c call t) → IsListed call (step_by handed image (Some c) call f t)
 own-listed handed image c call f t u own = subst (IsListed call) (sym (unfailing handed image c call f t u)) own
 
 step-listed-by : (handed : Handed) (image : ℕ) (c : Option Caller) (call : Call) (f : Option Fate) (t : Table) → IsListed call (step_by handed image c call f t)

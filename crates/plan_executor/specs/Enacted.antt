@@ -2,7 +2,7 @@
 use Rattle.std.specs.Prelude.{◌≡◌, ◌+◌, List, length, None}
 use Rattle.vocabulary.specs.declared.targets.Target.{Target}
 use Rattle.definitions.specs.Table.{Table}
-use Rattle.definitions.specs.Record.{Record, Agrees}
+use Rattle.definitions.specs.Master.{Record, Agrees}
 use Rattle.definitions.specs.Plans.{Turn}
 use Rattle.call_laws.specs.Lengths.{plan_length}
 use Rattle.definitions.specs.Run.{Pattern, Ran}
@@ -25,7 +25,8 @@ pub record IsKept (t : Table) (r : Record) (target : Target) (turns : List Turn)
 -- plan and no executing master exits.
 abbrev pub EndsSo : Target → Type 0
 EndsSo target =
-    (t : Table) (r : Record) (turns : List Turn) (pattern : Pattern) → IsStart t r → HasDescriptors t r → HasPlan r target → refusal_of r target turns pattern t ≡ None →
+    (t : Table) (r : Record) (turns : List Turn) (pattern : Pattern) → IsStart t r → HasDescriptors t r →
+    HasPlan r target → refusal_of r target turns pattern t ≡ None →
     IsKept t r target turns (run_of r target turns pattern t)
 
 -- The record agreed, and the target's plan was run by the turns, from the first table to the last, under the pattern: entries and

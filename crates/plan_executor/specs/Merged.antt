@@ -5,12 +5,10 @@ use Rattle.vocabulary.specs.declared.reports.Entry.{Entry}
 use Rattle.vocabulary.specs.declared.targets.Target.{Target}
 use Rattle.vocabulary.specs.declared.targets.Target.TheVariants.{Workers, Mend, Reopen, Reload, Upgrade, Attended, Stop}
 use Rattle.definitions.specs.Calls.{SpawnMaster}
-use Rattle.definitions.specs.Crew.{Crew}
-use Rattle.definitions.specs.Record.{Record, addresses_of, crew_of}
-use Rattle.definitions.specs.Tree.{Tree, Ends, End, Done, Split}
+use Rattle.definitions.specs.Master.{Crew, Record, addresses_of, crew_of}
+use Rattle.definitions.specs.Run.{Tree, Ends, End, Done, Split}
 use Rattle.definitions.specs.After.{crew_wanted}
-use Rattle.definitions.specs.Plans.{Turn, joined}
-use Rattle.definitions.specs.Plans.{does, move_aside, new_part, old_part, taken_over, back_from}
+use Rattle.definitions.specs.Plans.{Turn, joined, does, move_aside, new_part, old_part, taken_over, back_from}
 use Rattle.call_laws.specs.Pieces.{spawn_edges}
 use Rattle.theorems.specs.Apart.{WalksAll, IsWalkedApart}
 
@@ -30,7 +28,8 @@ AreMerged attended r new s turns entries =
     let back = back_from by heir old r.ready r.retries r.pid_path in
     let join = joined (taken_over attended by old new r.ready r.retries r.pid_path s.workers back) back in
     (first behind : List Entry) → entries ≡ first ++ behind → WalksAll (before_parts r new) [] first (Ends Split) →
-    (end : End) × IsWalkedApart join (new_part new (addresses_of r) s.listeners s.workers) turns (old_part by old r.ready r.retries) heir by [] behind (Ends end)
+    (end : End) × IsWalkedApart join (new_part new (addresses_of r) s.listeners s.workers) turns
+    (old_part by old r.ready r.retries) heir by [] behind (Ends end)
 
 -- So it is in an upgrade. A target of one master has no parts.
 abbrev pub ActsApart : Record → Target → List Turn → List Entry → Type 0

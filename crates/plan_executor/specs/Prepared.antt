@@ -1,8 +1,7 @@
 -- What is made ready before a target is carried out.
 use Rattle.std.specs.Prelude.{◌≡◌, List, []}
 use Rattle.vocabulary.specs.declared.targets.Target.{Target}
-use Rattle.definitions.specs.Record.{Record}
-use Rattle.definitions.specs.Target.{sides_of, handover_for}
+use Rattle.definitions.specs.Master.{Record, sides_of, handover_for}
 use Rattle.handover_text.specs.Reading.{Hands}
 use Rattle.definitions.specs.Plans.{plan_tree, Turn}
 use Rattle.call_laws.specs.Lengths.{plan_length}

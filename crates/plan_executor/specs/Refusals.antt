@@ -1,7 +1,7 @@
 -- Why a target is not carried out.
 use Rattle.std.specs.Prelude.{ℕ, ◌≡◌, List, Some}
 use Rattle.definitions.specs.Table.{Table}
-use Rattle.definitions.specs.Record.{Record, Agrees}
+use Rattle.definitions.specs.Master.{Record, Agrees}
 use Rattle.vocabulary.specs.declared.targets.Target.{Target}
 use Rattle.definitions.specs.Plans.{Turn}
 use Rattle.call_laws.specs.Lengths.{plan_length}

@@ -2,8 +2,7 @@
 use Rattle.std.specs.Prelude.{◌≡◌, ℕ, ◌+◌, List, [], ◌∷◌}
 use Rattle.vocabulary.specs.declared.reports.Entry.{Entry}
 use Rattle.definitions.specs.Table.{Table}
-use Rattle.definitions.specs.Exits.{after_exits}
-use Rattle.definitions.specs.Calls.{step_with, Handed}
+use Rattle.definitions.specs.Calls.{after_exits, step_with, Handed}
 use Rattle.definitions.specs.Run.{Pattern}
 
 -- From one table to another by these calls, each of which is handed the same, the first being number n + 1 of the

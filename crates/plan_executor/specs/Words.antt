@@ -2,7 +2,7 @@
 use Rattle.std.specs.Prelude.{ℕ, ◌≡◌, List, [], Option, Some, None, unwrap_or, slice_get, ⊤}
 use Rattle.vocabulary.specs.declared.targets.Target.{Target}
 use Rattle.definitions.specs.Table.{Table}
-use Rattle.definitions.specs.Record.{Record, Agrees}
+use Rattle.definitions.specs.Master.{Record, Agrees}
 use Rattle.kernel_model.specs.State.{State}
 use Rattle.kernel_model.specs.Pattern.{moment_at}
 use Rattle.kernel_pattern.specs.declared.section.Section.{Section}
@@ -22,7 +22,8 @@ section_at sections place = unwrap_or (slice_get sections place) quiet_section
 
 -- What a target that is carried out says: it was enacted from the one kernel to the other, in the section of its word.
 abbrev pub EnactsAt : List Section → State → ℕ → Record → Target → Enacted → State → Type 0
-EnactsAt sections first place r target e last = IsEnacted first last r target (section_at sections place).turns (moment_at (section_at sections place).pattern) e
+EnactsAt sections first place r target e last =
+    IsEnacted first last r target (section_at sections place).turns (moment_at (section_at sections place).pattern) e
 
 -- What a code says that a target is refused with: it is the code of a refusal that fits, in the section of its word.
 pub record DeclinesAt (sections : List Section) (first : State) (place : ℕ) (r : Record) (target : Target) (code : List ℕ) : Type 0 where

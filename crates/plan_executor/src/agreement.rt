@@ -1,7 +1,7 @@
 //! Whether a record is true of the modelled kernel.
 ghost use Rattle.std.specs.Prelude.{◌↔◌, IsTrue, map};
 ghost use Rattle.listener_set.specs.Numbers.{IsRising, RisesFrom};
-ghost use Rattle.definitions.specs.Record.{Agrees, IsRecord};
+ghost use Rattle.definitions.specs.Master.{Agrees, IsRecord};
 
 use kernel_agreement::{Running, agrees_with};
 use kernel_model::Kernel;

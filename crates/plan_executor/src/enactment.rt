@@ -2,10 +2,10 @@
 ghost use Rattle.std.specs.Prelude.{◌≡◌, ◌≤◌, ◌↔◌, ◌⊎◌, List, None, OnOk, OnErr, IfOk, IfErr, IsErrOf, IsTrue};
 ghost use Rattle.definitions.specs.Claims.{refusal_of};
 ghost use Rattle.definitions.specs.Table.{IsFormed};
-ghost use Rattle.definitions.specs.Record.{Agrees};
+ghost use Rattle.definitions.specs.Master.{Agrees};
 ghost use Rattle.definitions.specs.Plans.{Turn, plan_tree};
 ghost use Rattle.call_laws.specs.Lengths.{plan_length};
-ghost use Rattle.definitions.specs.Target.{handover_for, sides_of};
+ghost use Rattle.definitions.specs.Master.{handover_for, sides_of};
 ghost use Rattle.service_state.specs.Targets.{IsTarget, lacks_generation};
 ghost use Rattle.kernel_model.specs.Pattern.{moment_at};
 ghost use Rattle.kernel_model.specs.Room.{LacksNumbers};

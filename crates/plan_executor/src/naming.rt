@@ -1,7 +1,7 @@
 //! Which moment of a run kills an executing master.
 ghost use Rattle.std.specs.Prelude.{◌≡◌, ◌∷◌, []};
 ghost use Rattle.std.specs.List.{list_any};
-ghost use Rattle.definitions.specs.Manner.{is_leave_call};
+ghost use Rattle.definitions.specs.Claims.{is_leave_call};
 ghost use Rattle.kernel_model.specs.Pattern.{moment_at};
 ghost use Rattle.definitions.specs.Claims.{names_any, refused_among};
 ghost use Rattle.call_laws.specs.Pieces.{executing_at, executing_after};

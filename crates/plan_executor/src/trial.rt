@@ -1,7 +1,7 @@
 //! Whether a section spares the executing masters.
 ghost use Rattle.std.specs.Prelude.{◌≡◌, ◌⊎◌, [], None, OnOk, IfErr};
 ghost use Rattle.definitions.specs.Claims.{refusal_of};
-ghost use Rattle.definitions.specs.Record.{Agrees};
+ghost use Rattle.definitions.specs.Master.{Agrees};
 ghost use Rattle.kernel_model.specs.Pattern.{moment_at};
 ghost use Rattle.kernel_model.specs.Room.{LacksNumbers};
 ghost use Rattle.rollback_plan.specs.Plans.{length_of};

@@ -18,7 +18,8 @@ pub record Added (old new : Draft) (by : ℕ) (rest next : Place) (calls : List 
   pub keeps : Keeps old new
 
 -- one call more
-pub added_more : (old mid new : Draft) (by : ℕ) (rest next place : Place) (call : Call) (calls : List Call) → Added old mid by rest next calls → IsMade new place (anyway by call (tree_at mid next))
+pub added_more : (old mid new : Draft) (by : ℕ) (rest next place : Place) (call : Call) (calls : List Call) →
+    Added old mid by rest next calls → IsMade new place (anyway by call (tree_at mid next))
     → length (trees_of new) ≡ length (trees_of mid) + anyway_steps call → Keeps mid new → Added old new by rest place (call ∷ calls)
 added_more old mid new by rest next place call calls before made count keeps =
     record {
@@ -28,7 +29,8 @@ added_more old mid new by rest next place call calls before made count keeps =
     }
 
 -- a call that is refused after others
-pub refused : (old mid new : Draft) (by : ℕ) (rest next : Place) (calls : List Call) (m n : ℕ) (e : DraftRefusal) (r : Result Place DraftRefusal) → Added old mid by rest next calls → all_steps calls + m ≤ n
+pub refused : (old mid new : Draft) (by : ℕ) (rest next : Place) (calls : List Call) (m n : ℕ) (e : DraftRefusal)
+    (r : Result Place DraftRefusal) → Added old mid by rest next calls → all_steps calls + m ≤ n
     → Grows {T = Place} mid new (Err e) m → IsErrAnd r (λ d. d ≡ e) → IsErrOf r TooLarge → MOST_STEPS < length (trees_of old) + n
 refused old mid new by rest next calls m n e (Ok place) before low grows none is = absurd none
 refused old mid new by rest next calls m n e (Err d) before low grows same is =

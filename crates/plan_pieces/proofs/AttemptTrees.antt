@@ -1,18 +1,23 @@
 -- Calls that are tried until one fails are forks, or opens.
-use Rattle.std.proofs.Common.{◌≡◌, ℕ, ◌+◌, List, [], ◌∷◌, length, map, take, drop, reverse, Option, Some, None, slice_get, option_map, refl, sym, ◌∙◌, ap, arith}
+use Rattle.std.proofs.Common.{◌≡◌, ℕ, ◌+◌, List, [], ◌∷◌, length, map, take, drop, reverse, Option, Some, None}
+use Rattle.std.proofs.Common.{slice_get, option_map, refl, sym, ◌∙◌, ap, arith}
 use Rattle.std.proofs.lemmas.List.{take_all, drop_all, length-map, reverse-append}
 use Rattle.std.proofs.lemmas.Option.{slice_get-map}
 use Rattle.definitions.specs.Table.{Address}
 use Rattle.definitions.specs.Calls.{Call, OpenAt}
-use Rattle.definitions.specs.Crew.{Crew, fork_of}
-use Rattle.definitions.specs.Tree.{Tree}
+use Rattle.definitions.specs.Master.{Crew, fork_of}
+use Rattle.definitions.specs.Run.{Tree}
 use Rattle.definitions.specs.Plans.{either, forks, opens}
 use Rattle.rollback_plan.proofs.Lists.{take_at, drop_at}
 use Rattle.plan_pieces.specs.Pieces.{IsAttempted}
 
-module _ {X : Type 0} (by : ℕ) (call : X → Call) (tree : List X → List X → Tree) (bad : List X → Tree) (more : (x : X) (xs done : List X) → either by (call x) [] (tree xs (x ∷ done)) (bad done) ≡ tree (x ∷ xs) done) (xs : List X) where
+module _ {X : Type 0} (by : ℕ) (call : X → Call) (tree : List X → List X → Tree) (bad : List X → Tree)
+    (more : (x : X) (xs done : List X) → either by (call x) [] (tree xs (x ∷ done)) (bad done) ≡ tree (x ∷ xs) done)
+    (xs : List X) where
   -- one call more
-  one : (i : ℕ) (c : Call) (o : Option X) → slice_get xs i ≡ o → option_map call o ≡ Some c → either by c [] (tree (drop (i + 1) xs) (reverse (take (i + 1) xs))) (bad (reverse (take i xs))) ≡ tree (drop i xs) (reverse (take i xs))
+  one : (i : ℕ) (c : Call) (o : Option X) → slice_get xs i ≡ o → option_map call o ≡ Some c →
+      either by c [] (tree (drop (i + 1) xs) (reverse (take (i + 1) xs))) (bad (reverse (take i xs)))
+      ≡ tree (drop i xs) (reverse (take i xs))
   one i c None at is = cc
   one i c (Some x) at is =
       let same : call x ≡ c = cc in
@@ -21,7 +26,8 @@ module _ {X : Type 0} (by : ℕ) (call : X → Call) (tree : List X → List X �
       ∙ (ap (λ ys. either by (call x) [] (tree (drop (i + 1) xs) ys) (bad (reverse (take i xs)))) done
       ∙ (more x (drop (i + 1) xs) (reverse (take i xs)) ∙ ap (λ ys. tree ys (reverse (take i xs))) (sym (drop_at xs i x at))))
 
-  attempted : (rest : Tree) → tree [] (reverse xs) ≡ rest → IsAttempted by (map call xs) rest (λ i. bad (reverse (take i xs))) (λ i. tree (drop i xs) (reverse (take i xs)))
+  attempted : (rest : Tree) → tree [] (reverse xs) ≡ rest →
+      IsAttempted by (map call xs) rest (λ i. bad (reverse (take i xs))) (λ i. tree (drop i xs) (reverse (take i xs)))
   attempted rest e =
       record {
         last =

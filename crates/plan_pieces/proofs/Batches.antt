@@ -2,8 +2,8 @@
 use Rattle.std.proofs.Common.{◌≡◌, ℕ, ◌+◌, ◌*◌, List, [], ◌∷◌, ◌++◌, ◌≤◌, length, map, take, drop, reverse, Some, slice_get, refl, ◌∙◌, ap, arith}
 use Rattle.std.proofs.lemmas.List.{reverse-append, take-append-drop}
 use Rattle.definitions.specs.Calls.{Call, OpenAt, CloseAt, AwaitReady, Quit, Kill, AwaitGone, Usr1}
-use Rattle.definitions.specs.Crew.{fork_of}
-use Rattle.definitions.specs.Tree.{Tree}
+use Rattle.definitions.specs.Master.{fork_of}
+use Rattle.definitions.specs.Run.{Tree}
 use Rattle.definitions.specs.Plans.{forks_any, awaits_any, awaits_gone}
 use Rattle.call_laws.specs.Pieces.{quits, kills, usr1s, closes}
 use Rattle.plan_steps.specs.declared.batch.Errand.TheVariants as asked
@@ -15,13 +15,16 @@ use Rattle.plan_pieces.specs.Pieces.{anyway, anyway_steps, all_anyway, in_turn, 
 ---- Trees
 
 -- the same call for each of a list
-each_is : {X : Type 0} (by : ℕ) (call : X → Call) (all : List X → Tree → Tree) → ((rest : Tree) → rest ≡ all [] rest) → ((x : X) (xs : List X) (rest : Tree) → anyway by (call x) (all xs rest) ≡ all (x ∷ xs) rest)
+each_is : {X : Type 0} (by : ℕ) (call : X → Call) (all : List X → Tree → Tree) → ((rest : Tree) → rest ≡ all [] rest) →
+    ((x : X) (xs : List X) (rest : Tree) → anyway by (call x) (all xs rest) ≡ all (x ∷ xs) rest)
     → (xs : List X) (rest : Tree) → all_anyway by (map call xs) rest ≡ all xs rest
 each_is by call all none more [] rest = none rest
 each_is by call all none more (x ∷ xs) rest = ap (anyway by (call x)) (each_is by call all none more xs rest) ∙ more x xs rest
 
 -- the same, from the last to the first
-each_back_is : {X : Type 0} (by : ℕ) (call : X → Call) (all : List X → Tree → Tree) → ((rest : Tree) → rest ≡ all [] rest) → ((x : X) (xs : List X) (rest : Tree) → anyway by (call x) (all xs rest) ≡ all (x ∷ xs) rest)
+each_back_is : {X : Type 0} (by : ℕ) (call : X → Call) (all : List X → Tree → Tree) →
+    ((rest : Tree) → rest ≡ all [] rest) →
+    ((x : X) (xs : List X) (rest : Tree) → anyway by (call x) (all xs rest) ≡ all (x ∷ xs) rest)
     → (xs : List X) (rest : Tree) → all_anyway by (reverse (map call xs)) rest ≡ all (reverse xs) rest
 each_back_is by call all none more xs rest = ap (λ calls. all_anyway by calls rest) (reverse-map call xs) ∙ each_is by call all none more (reverse xs) rest
 
@@ -68,6 +71,7 @@ steps_are (Opens addresses) = single OpenAt addresses.now (λ x. refl)
 steps_are (Closes addresses) = single CloseAt addresses.now (λ x. refl)
 
 -- so many come after a call and with it
-pub steps_with : (calls : List Call) (i : ℕ) (call : Call) → slice_get calls i ≡ Some call → all_steps (drop (i + 1) calls) + anyway_steps call ≤ all_steps calls
+pub steps_with : (calls : List Call) (i : ℕ) (call : Call) → slice_get calls i ≡ Some call →
+    all_steps (drop (i + 1) calls) + anyway_steps call ≤ all_steps calls
 steps_with calls i call at =
     omega (arith, ap all_steps (take-append-drop i calls), steps-append (take i calls) (drop i calls), ap all_steps (drop_at calls i call at))

@@ -1,7 +1,7 @@
 -- Places of a draft.
 use Rattle.std.proofs.Common.{◌≡◌, ℕ, zero, suc, ◌<◌, true, List, [], ◌∷◌, length, refl, subst, arith, Some, slice_get, nat_lt}
 use Rattle.std.proofs.lemmas.Bool.{and_parts, and_from, ltb-true, lt-ltb}
-use Rattle.definitions.specs.Tree.{Tree}
+use Rattle.definitions.specs.Run.{Tree}
 use Rattle.rollback_plan.specs.declared.draft.Draft.{Draft}
 use Rattle.plan_steps.specs.declared.step.Place.{Place}
 use Rattle.rollback_plan.specs.Drafts.{trees_of, Keeps, are_places}
@@ -14,7 +14,8 @@ places_kept old new (p ∷ places) keeps h =
     let parts = and_parts (nat_lt p.0 (length (trees_of old))) (are_places old places) h in
     and_from (nat_lt p.0 (length (trees_of new))) (are_places new places) (lt-ltb p.0 (length (trees_of new)) (omega (arith, longer old new keeps, ltb-true p.0 (length (trees_of old)) parts.0))) (places_kept old new places keeps parts.1)
 
-pub place_at : (d : Draft) (places : List Place) (i : ℕ) (place : Place) → are_places d places ≡ true → slice_get places i ≡ Some place → place.0 < length (trees_of d)
+pub place_at : (d : Draft) (places : List Place) (i : ℕ) (place : Place) → are_places d places ≡ true →
+    slice_get places i ≡ Some place → place.0 < length (trees_of d)
 place_at d [] i place h at = cc
 place_at d (p ∷ places) zero place h at =
     let is : p ≡ place = cc in

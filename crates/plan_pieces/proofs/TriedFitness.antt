@@ -1,8 +1,10 @@
 -- What a new master tries can be run: there is an edge for each reply, and one where the master is gone.
 use Rattle.std.proofs.Common.{◌≡◌, ℕ, Bool, true, false, List, [], ◌∷◌, Option, refl}
-use Rattle.definitions.specs.Calls.{Call, OpenAt, CloseAt, Fork, AwaitReady, Quit, Kill, Census, AwaitGone, SpawnMaster, Adopt, WritePid, MovePid, RemovePid, Alive, Leave, Usr1, TermMaster, Ask}
+use Rattle.definitions.specs.Calls.{Call, OpenAt, CloseAt, Fork, AwaitReady, Quit, Kill, Census, AwaitGone, SpawnMaster}
+use Rattle.definitions.specs.Calls.{Adopt, WritePid, MovePid, RemovePid, Alive, Leave, Usr1, TermMaster, Ask}
 use Rattle.definitions.specs.Table.{FilePath}
-use Rattle.definitions.specs.Tree.{Tree, PidNote}
+use Rattle.definitions.specs.Run.{Tree}
+use Rattle.definitions.specs.Master.{PidNote}
 use Rattle.plan_steps.specs.Fit.{is_fit}
 use Rattle.definitions.specs.Plans.{does, note_edges, tries, tries_all}
 
@@ -10,7 +12,8 @@ use Rattle.definitions.specs.Plans.{does, note_edges, tries, tries_all}
 abbrev pub IsFit : Tree → Type 0
 IsFit tree = (short : Bool) → is_fit short tree ≡ true
 
-pub move_fit : (by : ℕ) (from to : FilePath) (fine fault : Option PidNote) (rest : Tree) → IsFit rest → IsFit (does by (MovePid from to) (note_edges fine fault rest))
+pub move_fit : (by : ℕ) (from to : FilePath) (fine fault : Option PidNote) (rest : Tree) → IsFit rest →
+    IsFit (does by (MovePid from to) (note_edges fine fault rest))
 move_fit by from to fine fault rest h short = rw (h short) refl
 
 pub tries_fit : (by : ℕ) (call : Call) (set : List ℕ) (rest back : Tree) → IsFit rest → IsFit back → IsFit (tries by call set rest back)

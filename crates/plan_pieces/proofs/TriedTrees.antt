@@ -1,7 +1,7 @@
 -- What a new master tries is built.
 use Rattle.std.proofs.Common.{◌≡◌, ℕ, ◌+◌, true, List, [], ◌∷◌, ◌++◌, length, drop, Some, slice_get, refl, sym, ◌∙◌, ap, subst}
 use Rattle.definitions.specs.Calls.{Call}
-use Rattle.definitions.specs.Tree.{Tree}
+use Rattle.definitions.specs.Run.{Tree}
 use Rattle.definitions.specs.Plans.{tries, tries_all}
 use Rattle.rollback_plan.specs.declared.draft.Draft.{Draft}
 use Rattle.plan_steps.specs.declared.step.Place.{Place}
@@ -33,12 +33,14 @@ tried_more by calls i call old mid new rest back next place set at none keeps th
 
 ---- One list of calls after another
 
-tries_all-append : (by : ℕ) (calls more : List Call) (rest back : Tree) → tries_all by (calls ++ more) rest back ≡ tries_all by calls (tries_all by more rest back) back
+tries_all-append : (by : ℕ) (calls more : List Call) (rest back : Tree) →
+    tries_all by (calls ++ more) rest back ≡ tries_all by calls (tries_all by more rest back) back
 tries_all-append by [] more rest back = refl
 tries_all-append by (call ∷ calls) more rest back = ap (λ t. tries by call [] t back) (tries_all-append by calls more rest back)
 
 -- calls before others
-pub tried_on : (by : ℕ) (calls first : List Call) (mid new : Draft) (next back place : Next) (rest bad : Tree) → behind mid back ≡ bad → LeadsTo mid next (tries_all by calls rest bad)
+pub tried_on : (by : ℕ) (calls first : List Call) (mid new : Draft) (next back place : Next) (rest bad : Tree) →
+    behind mid back ≡ bad → LeadsTo mid next (tries_all by calls rest bad)
     → LeadsTo new place (tries_all by first (behind mid next) (behind mid back)) → LeadsTo new place (tries_all by (first ++ calls) rest bad)
 tried_on by calls first mid new next back place rest bad same made more =
     subst (LeadsTo new place)

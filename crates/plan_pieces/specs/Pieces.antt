@@ -2,9 +2,9 @@
 use Rattle.std.specs.Prelude.{◌≡◌, ℕ, ◌+◌, ◌*◌, Bool, true, false, List, [], ◌∷◌, Some, length, map, reverse, slice_get, if◌then◌else◌}
 use Rattle.listener_set.specs.declared.generation.Generation.{Generation}
 use Rattle.definitions.specs.Calls.{Call, OpenAt, AwaitReady, Kill, AwaitGone}
-use Rattle.definitions.specs.Tree.{Tree, Nothing, replies_to}
+use Rattle.definitions.specs.Run.{Tree, Nothing}
+use Rattle.call_laws.specs.Pieces.{replies_to, gone_edges, quits, kills, usr1s, closes}
 use Rattle.definitions.specs.Plans.{on, does, either, then_edge, await_any_edges, forks_any, awaits_any, awaits_gone}
-use Rattle.call_laws.specs.Pieces.{gone_edges, quits, kills, usr1s, closes}
 use Rattle.plan_steps.specs.declared.batch.Errand.{Errand}
 use Rattle.plan_steps.specs.declared.batch.Errand.TheVariants as asked
 use Rattle.plan_steps.specs.declared.batch.Batch.{Batch}

@@ -1,6 +1,6 @@
 //! Calls that are made one after another, until one fails.
 ghost use Rattle.std.specs.Prelude.{◌≡◌, ◌+◌, ◌<◌, ℕ, ◌∷◌, [], length, IfOk, IsTrue};
-ghost use Rattle.definitions.specs.Tree.{Tree};
+ghost use Rattle.definitions.specs.Run.{Tree};
 ghost use Rattle.plan_steps.specs.Batches.{calls_of, size_of};
 ghost use Rattle.rollback_plan.specs.Drafts.{trees_of, tree_at, are_places, IsMade, Grows};
 ghost use Rattle.rollback_plan.specs.Back.{AreMade};

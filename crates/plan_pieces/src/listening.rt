@@ -3,7 +3,7 @@ ghost use Rattle.std.specs.Prelude.{◌≡◌, ◌+◌, ◌<◌, List, [], lengt
 ghost use Rattle.rollback_plan.specs.declared.draft.DraftRefusal.TheVariants.{TooLarge};
 ghost use Rattle.rollback_plan.specs.declared.draft.TheConstants.{MOST_STEPS};
 ghost use Rattle.definitions.specs.Table.{Address as AddressText};
-ghost use Rattle.definitions.specs.Tree.{Tree};
+ghost use Rattle.definitions.specs.Run.{Tree};
 ghost use Rattle.definitions.specs.Plans as plans;
 ghost use Rattle.rollback_plan.specs.Drafts.{trees_of, tree_at, are_places, IsMade, Keeps};
 ghost use Rattle.rollback_plan.specs.Back.{AreMade};

@@ -3,7 +3,7 @@ ghost use Rattle.std.specs.Prelude.{◌≡◌, ◌+◌, ◌*◌, ◌<◌, List, 
 ghost use Rattle.rollback_plan.specs.declared.draft.DraftRefusal.TheVariants.{TooLarge};
 ghost use Rattle.rollback_plan.specs.declared.draft.TheConstants.{MOST_STEPS};
 ghost use Rattle.vocabulary.specs.declared.calls.Call.TheVariants as call;
-ghost use Rattle.definitions.specs.Tree.{Tree};
+ghost use Rattle.definitions.specs.Run.{Tree};
 ghost use Rattle.definitions.specs.Plans as plans;
 ghost use Rattle.call_laws.specs.Pieces as pieces;
 ghost use Rattle.rollback_plan.specs.Drafts.{trees_of, tree_at, are_places, IsMade, Keeps, Grows};

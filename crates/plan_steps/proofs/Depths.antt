@@ -1,5 +1,7 @@
 -- Depths of steps.
-use Rattle.std.proofs.Common.{◌≡◌, ◌≢◌, ℕ, zero, suc, set, replicate, nat_lt, ◌+◌, ◌-◌, ◌<◌, ◌≤◌, max, true, false, List, [], ◌∷◌, ◌++◌, length, length-append, get_or, nat_eq, refl, sym, ◌∙◌, ap, subst, arith, ◌⊎◌, inl, inr, Some, slice_get, length-set}
+use Rattle.std.proofs.Common.{◌≡◌, ◌≢◌, ℕ, zero, suc, set, replicate, nat_lt, ◌+◌, ◌-◌, ◌<◌, ◌≤◌, max, true, false}
+use Rattle.std.proofs.Common.{List, [], ◌∷◌, ◌++◌, length, length-append, get_or, nat_eq, refl, sym, ◌∙◌, ap, subst}
+use Rattle.std.proofs.Common.{arith, ◌⊎◌, inl, inr, Some, slice_get, length-set}
 use Rattle.std.proofs.lemmas.Bool.{ltb-true, lt-ltb, cases_eq, cases_lt, and_from, and_parts, or_cases, or_left, or_right, eq-eqb, eqb-true, false≢true}
 use Rattle.std.proofs.lemmas.List.{get_or-set_same, get_or-set_other, set_past, length-replicate}
 use Rattle.plan_steps.specs.declared.step.Next.{Next}
@@ -8,7 +10,8 @@ use Rattle.plan_steps.specs.declared.step.PlanEdge.{PlanEdge}
 use Rattle.plan_steps.specs.declared.step.Step.{Step}
 use Rattle.plan_steps.specs.Steps.{is_below, all_below, all_lead_back}
 use Rattle.listener_set.specs.Numbers.{is_in}
-use Rattle.plan_steps.specs.Numbering.{place_behind, places_behind, Leads, IsPath, HasPath, IsDepth, AreDepths, deepened_at, deepened, is_deeper, all_deeper, all_within}
+use Rattle.plan_steps.specs.Numbering.{place_behind, places_behind, Leads, IsPath, HasPath, IsDepth, AreDepths}
+use Rattle.plan_steps.specs.Numbering.{deepened_at, deepened, is_deeper, all_deeper, all_within}
 use Rattle.plan_steps.proofs.StepTrees.{all_weaker, all_below-le, back_at}
 
 max_cases : (a b : ℕ) → (max a b ≡ a) ⊎ (max a b ≡ b)
@@ -29,7 +32,9 @@ in_behind (Both new old) ps k h = h
 in_behind (To place) ps k h = or_right (nat_eq place.0 k) (is_in ps k) h
 
 -- what one edge changes
-at_cases : (n depth : ℕ) (next : Next) (depths : List ℕ) → is_below n next ≡ true → (k : ℕ) → (get_or (deepened_at depth next depths) k 0 ≡ get_or depths k 0) ⊎ ((k < n) × (get_or (deepened_at depth next depths) k 0 ≡ depth) × (is_in (place_behind next []) k ≡ true))
+at_cases : (n depth : ℕ) (next : Next) (depths : List ℕ) → is_below n next ≡ true → (k : ℕ) →
+    (get_or (deepened_at depth next depths) k 0 ≡ get_or depths k 0) ⊎
+    ((k < n) × (get_or (deepened_at depth next depths) k 0 ≡ depth) × (is_in (place_behind next []) k ≡ true))
 at_cases n depth (Over end) depths below k = inl refl
 at_cases n depth (Both new old) depths below k = inl refl
 at_cases n depth (To place) depths below k =
@@ -41,7 +46,11 @@ at_cases n depth (To place) depths below k =
       ]
     ]
   where
-    here : k ≡ place.0 → get_or (deepened_at depth (To place) depths) place.0 0 ≡ max (get_or depths place.0 0) depth → (max (get_or depths place.0 0) depth ≡ get_or depths place.0 0) ⊎ (max (get_or depths place.0 0) depth ≡ depth) → (get_or (deepened_at depth (To place) depths) k 0 ≡ get_or depths k 0) ⊎ ((k < n) × (get_or (deepened_at depth (To place) depths) k 0 ≡ depth) × (is_in (place.0 ∷ []) k ≡ true))
+    here : k ≡ place.0 → get_or (deepened_at depth (To place) depths) place.0 0 ≡ max (get_or depths place.0 0) depth →
+        (max (get_or depths place.0 0) depth ≡ get_or depths place.0 0) ⊎
+        (max (get_or depths place.0 0) depth ≡ depth) →
+        (get_or (deepened_at depth (To place) depths) k 0 ≡ get_or depths k 0) ⊎
+        ((k < n) × (get_or (deepened_at depth (To place) depths) k 0 ≡ depth) × (is_in (place.0 ∷ []) k ≡ true))
     here same is (inl stays) = inl (ap (λ j. get_or (deepened_at depth (To place) depths) j 0) same ∙ (is ∙ (stays ∙ ap (λ j. get_or depths j 0) (sym same))))
     here same is (inr moves) = inr (omega (arith, ltb-true place.0 n below), ap (λ j. get_or (deepened_at depth (To place) depths) j 0) same ∙ (is ∙ moves), or_left (nat_eq place.0 k) false (eq-eqb place.0 k (sym same)))
 
@@ -67,7 +76,9 @@ length-deepened depth [] depths = refl
 length-deepened depth (e ∷ edges) depths = length-deepened depth edges (deepened_at depth e.next depths) ∙ at_length depth e.next depths
 
 -- Each depth stays, or its place is behind an edge, below n, and gets the new one.
-pub deepened_cases : (n depth : ℕ) (edges : List PlanEdge) (depths : List ℕ) → all_below n edges ≡ true → (k : ℕ) → (get_or (deepened depth edges depths) k 0 ≡ get_or depths k 0) ⊎ ((k < n) × (get_or (deepened depth edges depths) k 0 ≡ depth) × (is_in (places_behind edges) k ≡ true))
+pub deepened_cases : (n depth : ℕ) (edges : List PlanEdge) (depths : List ℕ) → all_below n edges ≡ true → (k : ℕ) →
+    (get_or (deepened depth edges depths) k 0 ≡ get_or depths k 0) ⊎
+    ((k < n) × (get_or (deepened depth edges depths) k 0 ≡ depth) × (is_in (places_behind edges) k ≡ true))
 deepened_cases n depth [] depths below k = inl refl
 deepened_cases n depth (e ∷ edges) depths below k =
     let tests = and_parts (is_below n e.next) (all_below n edges) below in
@@ -89,17 +100,20 @@ deeper_le old new d (Both a b) ge h = refl
 deeper_le old new d (To place) ge h = lt-ltb d (get_or new place.0 0) (omega (arith, ge place.0, ltb-true d (get_or old place.0 0) h))
 
 -- what lies deeper stays so where depths grow
-pub all_deeper-le : (old new : List ℕ) (d : ℕ) (edges : List PlanEdge) → ((k : ℕ) → get_or old k 0 ≤ get_or new k 0) → all_deeper old d edges ≡ true → all_deeper new d edges ≡ true
+pub all_deeper-le : (old new : List ℕ) (d : ℕ) (edges : List PlanEdge) → ((k : ℕ) → get_or old k 0 ≤ get_or new k 0) →
+    all_deeper old d edges ≡ true → all_deeper new d edges ≡ true
 all_deeper-le old new d edges ge = all_weaker (λ e. is_deeper old d e.next) (λ e. is_deeper new d e.next) (λ e h. deeper_le old new d e.next ge h) edges
 
-one_behind : (d depth : ℕ) (next : Next) (depths : List ℕ) → d < depth → is_below (length depths) next ≡ true → is_deeper (deepened_at depth next depths) d next ≡ true
+one_behind : (d depth : ℕ) (next : Next) (depths : List ℕ) → d < depth → is_below (length depths) next ≡ true →
+    is_deeper (deepened_at depth next depths) d next ≡ true
 one_behind d depth (Over end) depths h below = refl
 one_behind d depth (Both new old) depths h below = refl
 one_behind d depth (To place) depths h below =
     lt-ltb d _ (omega (arith, get_or-set_same depths place.0 (max (get_or depths place.0 0) depth) 0 (ltb-true place.0 (length depths) below)))
 
 -- what is behind the edges lies deeper
-pub deepened_behind : (d depth : ℕ) (edges : List PlanEdge) (depths : List ℕ) → d < depth → all_below (length depths) edges ≡ true → all_deeper (deepened depth edges depths) d edges ≡ true
+pub deepened_behind : (d depth : ℕ) (edges : List PlanEdge) (depths : List ℕ) → d < depth →
+    all_below (length depths) edges ≡ true → all_deeper (deepened depth edges depths) d edges ≡ true
 deepened_behind d depth [] depths h below = refl
 deepened_behind d depth (e ∷ edges) depths h below =
     let tests = and_parts (is_below (length depths) e.next) (all_below (length depths) edges) below in
@@ -118,14 +132,16 @@ pub record AreDeepened (steps : List Step) (roots : List ℕ) (from : ℕ) (dept
   pub path : (k : ℕ) → 1 ≤ get_or depths k 0 → HasPath steps roots k (get_or depths k 0)
 
 -- what lies no lower keeps its depth
-deepened_above : (place depth : ℕ) (edges : List PlanEdge) (depths : List ℕ) → all_below place edges ≡ true → (k : ℕ) → place ≤ k → get_or (deepened depth edges depths) k 0 ≡ get_or depths k 0
+deepened_above : (place depth : ℕ) (edges : List PlanEdge) (depths : List ℕ) → all_below place edges ≡ true → (k : ℕ) →
+    place ≤ k → get_or (deepened depth edges depths) k 0 ≡ get_or depths k 0
 deepened_above place depth edges depths back k le = elim (deepened_cases place depth edges depths back k) [ inl same ↦ same | inr moved ↦ absurd (omega (arith, moved.0)) ]
 
 some_one : {x y : Step} → Some x ≡ Some y → x ≡ y
 some_one e = cc
 
 -- a path goes on by an edge
-path_more : (steps : List Step) (from : ℕ) (places : List ℕ) (k to : ℕ) → IsPath steps from places k → Leads steps k to → IsPath steps from (places ++ to ∷ []) to
+path_more : (steps : List Step) (from : ℕ) (places : List ℕ) (k to : ℕ) → IsPath steps from places k →
+    Leads steps k to → IsPath steps from (places ++ to ∷ []) to
 path_more steps from [] k to path on = (subst (λ (j : ℕ). Leads steps j to) (sym path) on, refl)
 path_more steps from (x ∷ places) k to path on = (path.0, path_more steps x places k to path.1 on)
 
@@ -140,7 +156,9 @@ path_on steps roots k to n h on =
     }
 
 -- a place passes its depth on
-pub deepened_on : (steps : List Step) (roots : List ℕ) (place : ℕ) (s : Step) (depths : List ℕ) → AreDeepened steps roots (place + 1) depths → slice_get steps place ≡ Some s → all_below place s.edges.items ≡ true → place < length steps → 1 ≤ get_or depths place 0
+pub deepened_on : (steps : List Step) (roots : List ℕ) (place : ℕ) (s : Step) (depths : List ℕ) →
+    AreDeepened steps roots (place + 1) depths → slice_get steps place ≡ Some s → all_below place s.edges.items ≡ true →
+    place < length steps → 1 ≤ get_or depths place 0
     → AreDeepened steps roots place (deepened (get_or depths place 0 + 1) s.edges.items depths)
 deepened_on steps roots place s depths h at back low has =
     let edges = s.edges.items in
@@ -175,7 +193,8 @@ deepened_on steps roots place s depths h at back low has =
 
 -- ---- the depths are greatest
 
-behind_deeper : (depths : List ℕ) (d : ℕ) (next : Next) (ps : List ℕ) (k : ℕ) → is_deeper depths d next ≡ true → (is_in ps k ≡ true → d < get_or depths k 0) → is_in (place_behind next ps) k ≡ true → d < get_or depths k 0
+behind_deeper : (depths : List ℕ) (d : ℕ) (next : Next) (ps : List ℕ) (k : ℕ) → is_deeper depths d next ≡ true →
+    (is_in ps k ≡ true → d < get_or depths k 0) → is_in (place_behind next ps) k ≡ true → d < get_or depths k 0
 behind_deeper depths d (Over end) ps k deep rest h = rest h
 behind_deeper depths d (Both new old) ps k deep rest h = rest h
 behind_deeper depths d (To place) ps k deep rest h = elim (or_cases (nat_eq place.0 k) (is_in ps k) h) [
@@ -184,20 +203,24 @@ behind_deeper depths d (To place) ps k deep rest h = elim (or_cases (nat_eq plac
 ]
 
 -- what is behind edges lies deeper, where that is so of each edge
-places_deeper : (depths : List ℕ) (d : ℕ) (edges : List PlanEdge) (k : ℕ) → all_deeper depths d edges ≡ true → is_in (places_behind edges) k ≡ true → d < get_or depths k 0
+places_deeper : (depths : List ℕ) (d : ℕ) (edges : List PlanEdge) (k : ℕ) → all_deeper depths d edges ≡ true →
+    is_in (places_behind edges) k ≡ true → d < get_or depths k 0
 places_deeper depths d [] k deep h = absurd (false≢true h)
 places_deeper depths d (e ∷ edges) k deep h =
     let parts = and_parts (is_deeper depths d e.next) (all_deeper depths d edges) deep in
     behind_deeper depths d e.next (places_behind edges) k parts.0 (places_deeper depths d edges k parts.1) h
 
 -- no path is longer than the depths allow
-path_most : (steps : List Step) (roots depths : List ℕ) → AreDepths steps roots depths → (from : ℕ) (places : List ℕ) (to : ℕ) → 1 ≤ get_or depths from 0 → IsPath steps from places to → get_or depths from 0 + length places ≤ get_or depths to 0
+path_most : (steps : List Step) (roots depths : List ℕ) → AreDepths steps roots depths →
+    (from : ℕ) (places : List ℕ) (to : ℕ) → 1 ≤ get_or depths from 0 → IsPath steps from places to →
+    get_or depths from 0 + length places ≤ get_or depths to 0
 path_most steps roots depths h from [] to has path = omega (arith, ap (λ j. get_or depths j 0) path)
 path_most steps roots depths h from (k ∷ places) to has path =
     let more = places_deeper depths (get_or depths from 0) path.0.step.edges.items k (h.deeper from path.0.step path.0.is has) path.0.behind in
     omega (arith, more, path_most steps roots depths h k places to (omega (arith, more)) path.1)
 
-pub is_depth : (steps : List Step) (roots depths : List ℕ) (k : ℕ) → AreDepths steps roots depths → 1 ≤ get_or depths k 0 → IsDepth steps roots k (get_or depths k 0)
+pub is_depth : (steps : List Step) (roots depths : List ℕ) (k : ℕ) → AreDepths steps roots depths →
+    1 ≤ get_or depths k 0 → IsDepth steps roots k (get_or depths k 0)
 is_depth steps roots depths k h has =
     record {
       path = h.path k has;
@@ -263,7 +286,8 @@ laid_more places roots depths p h low =
       | inr there ↦ or_right (nat_eq x k) (is_in (ks ++ p ∷ []) k) (longer k ks there)
     ]
 
-pub deepened_none : (steps : List Step) (roots depths : List ℕ) → all_within (length steps) roots ≡ true → AreLaid (length steps) roots depths → AreDeepened steps roots (length steps) depths
+pub deepened_none : (steps : List Step) (roots depths : List ℕ) → all_within (length steps) roots ≡ true →
+    AreLaid (length steps) roots depths → AreDeepened steps roots (length steps) depths
 deepened_none steps roots depths low h =
     record {
       count = h.count;
@@ -307,7 +331,8 @@ below_in n (e ∷ edges) k below h =
     ]
 
 -- a path of a draft goes down
-path_falls : (steps : List Step) → all_lead_back 0 steps ≡ true → (from : ℕ) (places : List ℕ) (to : ℕ) → IsPath steps from places to → to + length places ≤ from
+path_falls : (steps : List Step) → all_lead_back 0 steps ≡ true → (from : ℕ) (places : List ℕ) (to : ℕ) →
+    IsPath steps from places to → to + length places ≤ from
 path_falls steps back from [] to path = omega (arith, path)
 path_falls steps back from (k ∷ places) to path =
     let low = below_in (0 + from) path.0.step.edges.items k (back_at 0 steps from path.0.step back path.0.is) path.0.behind in
@@ -317,7 +342,8 @@ one_of : (x k : ℕ) → is_in (x ∷ []) k ≡ true → x ≡ k
 one_of x k h = elim (or_cases (nat_eq x k) false h) [ inl same ↦ eqb-true x k same | inr no_more ↦ absurd (false≢true no_more) ]
 
 -- the only root lies at depth 1
-pub root_depth : (steps : List Step) (first : ℕ) (depths : List ℕ) → all_lead_back 0 steps ≡ true → AreDepths steps (first ∷ []) depths → get_or depths first 0 ≡ 1
+pub root_depth : (steps : List Step) (first : ℕ) (depths : List ℕ) → all_lead_back 0 steps ≡ true →
+    AreDepths steps (first ∷ []) depths → get_or depths first 0 ≡ 1
 root_depth steps first depths back h =
     let has = h.begins first (or_left (nat_eq first first) false (eq-eqb first first refl)) in
     let path = h.path first has in

@@ -1,5 +1,7 @@
 -- No place is met twice.
-use Rattle.std.proofs.Common.{◌≡◌, ◌≢◌, ℕ, zero, suc, ◌+◌, ◌<◌, ◌≤◌, Bool, true, false, cond, List, [], ◌∷◌, ◌++◌, length, get_or, set, slice_get, take, filter, refl, sym, ◌∙◌, ap, subst, arith, inl, inr, Some, nat_eq}
+use Rattle.std.proofs.Common.{◌≡◌, ◌≢◌, ℕ, zero, suc, ◌+◌, ◌<◌, ◌≤◌, Bool, true, false, cond, List, [], ◌∷◌, ◌++◌}
+use Rattle.std.proofs.Common.{length, get_or, set, slice_get, take, filter, refl, sym, ◌∙◌, ap, subst, arith, inl, inr}
+use Rattle.std.proofs.Common.{Some, nat_eq}
 use Rattle.std.proofs.lemmas.Bool.{or_cases, or_left, or_right, eq-eqb, eqb-true, false≢true}
 use Rattle.std.proofs.lemmas.List.{take_more}
 use Rattle.std.proofs.lemmas.Option.{slice_get-get_or}
@@ -33,7 +35,8 @@ not_in k (y ∷ places) h =
       | inr there ↦ false≢true (sym (not_in k places h.1) ∙ there)
     ])
 
-pub distinct-append : (xs ys : List ℕ) → IsDistinct nat_eq xs → IsDistinct nat_eq ys → ((k : ℕ) → is_in xs k ≡ true → is_in ys k ≡ false) → IsDistinct nat_eq (xs ++ ys)
+pub distinct-append : (xs ys : List ℕ) → IsDistinct nat_eq xs → IsDistinct nat_eq ys →
+    ((k : ℕ) → is_in xs k ≡ true → is_in ys k ≡ false) → IsDistinct nat_eq (xs ++ ys)
 unfolding IsDistinct
 distinct-append [] ys h more apart = more
 distinct-append (x ∷ xs) ys h more apart = (
@@ -81,7 +84,8 @@ filter_holds p (x ∷ places) k h = one (p x) refl (filter_holds p places k) h
     ]
     one false fails more here = more here
 
-distinct_layers : (depths places : List ℕ) (from n : ℕ) → IsDistinct nat_eq places → IsDistinct nat_eq (flat_map (λ d. laid_at depths places (suc d)) (range_with_len from n))
+distinct_layers : (depths places : List ℕ) (from n : ℕ) → IsDistinct nat_eq places →
+    IsDistinct nat_eq (flat_map (λ d. laid_at depths places (suc d)) (range_with_len from n))
 unfolding IsDistinct
 distinct_layers depths places from zero h = tt
 distinct_layers depths places from (suc n) h =
@@ -99,7 +103,9 @@ unfolding IsDistinct
 order_distinct steps roots depths met order walk sorted = subst (IsDistinct nat_eq) (sym sorted.is) (distinct_layers depths met 0 sorted.deepest (walk_distinct steps walk tt))
 
 -- places that were found in order can be numbered
-pub can_be_order : (steps lent : List Step) (roots order order_lent : List ℕ) → lent ≡ steps → all_lead_back 0 steps ≡ true → all_within (length steps) roots ≡ true → length steps ≤ 65536 → IsOrder lent roots order
+pub can_be_order : (steps lent : List Step) (roots order order_lent : List ℕ) → lent ≡ steps →
+    all_lead_back 0 steps ≡ true → all_within (length steps) roots ≡ true → length steps ≤ 65536 →
+    IsOrder lent roots order
     → order_lent ≡ order → CanBeOrder (length steps) order_lent
 can_be_order steps lent roots order order_lent same back low few found again =
     let o = ordered steps lent roots order same back low found in
@@ -131,7 +137,8 @@ slice_get-set_other (x ∷ steps) (suc i) zero y other = refl
 slice_get-set_other (x ∷ steps) (suc i) (suc k) y other = slice_get-set_other steps i k y (λ same. other (ap suc same))
 
 -- the next place is taken, and the others stay
-pub left_more : (old steps : List Step) (order : List ℕ) (i : ℕ) (y : Step) → i < length order → ((k : ℕ) → is_in (take i order) k ≡ false → slice_get steps k ≡ slice_get old k)
+pub left_more : (old steps : List Step) (order : List ℕ) (i : ℕ) (y : Step) → i < length order →
+    ((k : ℕ) → is_in (take i order) k ≡ false → slice_get steps k ≡ slice_get old k)
     → (k : ℕ) → is_in (take (i + 1) order) k ≡ false → slice_get (set steps (get_or order i 0) y) k ≡ slice_get old k
 left_more old steps order i y low left k free =
     let longer = take_more order i 0 low in

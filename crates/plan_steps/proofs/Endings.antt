@@ -1,28 +1,34 @@
 -- Where the trees of a draft end, and which of its places lead to the parts.
-use Rattle.std.proofs.Common.{◌≡◌, ◌≢◌, ℕ, zero, suc, ◌+◌, ◌-◌, ◌≤◌, max, Bool, true, List, [], ◌∷◌, ◌++◌, get_or, map, filter, refl, sym, ◌∙◌, ap, subst, arith, ◌⊎◌, inl, inr, Some, slice_get, unwrap_or, nat_lt, nat_eq}
+use Rattle.std.proofs.Common.{◌≡◌, ◌≢◌, ℕ, zero, suc, ◌+◌, ◌-◌, ◌≤◌, max, Bool, true, List, [], ◌∷◌, ◌++◌, get_or, map}
+use Rattle.std.proofs.Common.{filter, refl, sym, ◌∙◌, ap, subst, arith, ◌⊎◌, inl, inr, Some, slice_get, unwrap_or}
+use Rattle.std.proofs.Common.{nat_lt, nat_eq}
 use Rattle.std.proofs.lemmas.Bool.{and_from, and_parts, cases_lt, eqb-true, eq-eqb, false≢true}
 use Rattle.vocabulary.specs.declared.plans.End.{End}
 use Rattle.vocabulary.specs.declared.plans.End.TheVariants.{Done, RolledBack, ShortOld, ShortTarget, Split, JoinReady, JoinBack, Join}
-use Rattle.definitions.specs.Tree.{Tree, Branches, Ends, Does, Nothing, Branch}
+use Rattle.definitions.specs.Run.{Tree, Branches, Ends, Does, Nothing, Branch}
 use Rattle.plan_steps.specs.declared.step.Next.{Next}
 use Rattle.plan_steps.specs.declared.step.Next.TheVariants.{To, Over, Both}
 use Rattle.plan_steps.specs.declared.step.PlanEdge.{PlanEdge}
 use Rattle.plan_steps.specs.declared.step.Step.{Step}
 use Rattle.plan_steps.specs.Steps.{at_place, tree_among, branches_among, step_tree, trees_after, all_lead_back}
 use Rattle.plan_steps.specs.Numbering.{holds_behind, holds_of_edges}
-use Rattle.plan_steps.specs.Stretches.{has_some, ends_at, all_end_at, is_last, is_onward, ends_new, ends_old, split_end, one_more, to_split, farthest, split_behind, farthest_among, is_before, is_off}
+use Rattle.plan_steps.specs.Stretches.{has_some, ends_at, all_end_at, is_last, is_onward, ends_new, ends_old, split_end}
+use Rattle.plan_steps.specs.Stretches.{one_more, to_split, farthest, split_behind, farthest_among, is_before, is_off}
 use Rattle.plan_steps.proofs.Unfolded.{draft_at}
 
 -- ---- what is behind a place
 
-here : (steps : List Step) (k : ℕ) (s : Step) → all_lead_back 0 steps ≡ true → slice_get steps k ≡ Some s → at_place steps k ≡ step_tree 0 (trees_after [] steps) s
+here : (steps : List Step) (k : ℕ) (s : Step) → all_lead_back 0 steps ≡ true → slice_get steps k ≡ Some s →
+    at_place steps k ≡ step_tree 0 (trees_after [] steps) s
 here steps k s back at = ap (λ o. unwrap_or o (Ends Done)) (draft_at steps k s back at)
 
 to_place : (steps : List Step) (k : ℕ) → tree_among 0 (trees_after [] steps) (To (record { 0 = k })) ≡ at_place steps k
 to_place steps k = ap (λ j. unwrap_or (slice_get (trees_after [] steps) j) (Ends Done)) (let e : k - 0 ≡ k = omega arith in e)
 
 -- what a place ends at is what is behind it ends at
-pub ends_pass : (test : End → Bool) (steps : List Step) → all_lead_back 0 steps ≡ true → (k : ℕ) (s : Step) → ends_at test (at_place steps k) ≡ true → slice_get steps k ≡ Some s → holds_of_edges (λ j. ends_at test (at_place steps j)) s.edges.items ≡ true
+pub ends_pass : (test : End → Bool) (steps : List Step) → all_lead_back 0 steps ≡ true → (k : ℕ) (s : Step) →
+    ends_at test (at_place steps k) ≡ true → slice_get steps k ≡ Some s →
+    holds_of_edges (λ j. ends_at test (at_place steps j)) s.edges.items ≡ true
 ends_pass test steps back k s ends at = all s.edges.items (and_parts (has_some (branches_among 0 (trees_after [] steps) s.edges.items)) (all_end_at test (branches_among 0 (trees_after [] steps) s.edges.items)) (subst (λ (t : Tree). ends_at test t ≡ true) (here steps k s back at) ends)).1
   where
     one : (next : Next) → ends_at test (tree_among 0 (trees_after [] steps) next) ≡ true → holds_behind (λ j. ends_at test (at_place steps j)) next ≡ true
@@ -30,7 +36,8 @@ ends_pass test steps back k s ends at = all s.edges.items (and_parts (has_some (
     one (Both new old) h = refl
     one (To place) h = subst (λ (t : Tree). ends_at test t ≡ true) (to_place steps place.0) h
 
-    all : (edges : List PlanEdge) → all_end_at test (branches_among 0 (trees_after [] steps) edges) ≡ true → holds_of_edges (λ j. ends_at test (at_place steps j)) edges ≡ true
+    all : (edges : List PlanEdge) → all_end_at test (branches_among 0 (trees_after [] steps) edges) ≡ true →
+        holds_of_edges (λ j. ends_at test (at_place steps j)) edges ≡ true
     all [] h = refl
     all (e ∷ edges) h =
         let parts = and_parts (ends_at test (tree_among 0 (trees_after [] steps) e.next)) (all_end_at test (branches_among 0 (trees_after [] steps) edges)) h in
@@ -44,7 +51,8 @@ max_none : (a b : ℕ) → max a b ≡ 0 → (a ≡ 0) × (b ≡ 0)
 max_none a b h = (omega (arith, h), omega (arith, h))
 
 -- what is behind a place that does not lead to the parts does not either
-pub off_pass : (steps : List Step) → all_lead_back 0 steps ≡ true → (k : ℕ) (s : Step) → is_off steps k ≡ true → slice_get steps k ≡ Some s → holds_of_edges (is_off steps) s.edges.items ≡ true
+pub off_pass : (steps : List Step) → all_lead_back 0 steps ≡ true → (k : ℕ) (s : Step) → is_off steps k ≡ true →
+    slice_get steps k ≡ Some s → holds_of_edges (is_off steps) s.edges.items ≡ true
 off_pass steps back k s off at =
     all s.edges.items (none_more (farthest (branches_among 0 (trees_after [] steps) s.edges.items)) (sym (ap to_split (here steps k s back at)) ∙ eqb-true (to_split (at_place steps k)) 0 off))
   where
@@ -184,7 +192,9 @@ split_at steps k = at (trees_after [] steps) k
     at (t ∷ ts) zero = refl
     at (t ∷ ts) (suc k) = at ts k
 
-pub splits_more : (trees : List Tree) (s : Step) → map to_split (trees ++ step_tree 0 trees s ∷ []) ≡ map to_split trees ++ one_more (farthest_among (map to_split trees) s.edges.items) ∷ []
+pub splits_more : (trees : List Tree) (s : Step) →
+    map to_split (trees ++ step_tree 0 trees s ∷ [])
+    ≡ map to_split trees ++ one_more (farthest_among (map to_split trees) s.edges.items) ∷ []
 splits_more trees s = on trees ∙ ap (λ n. map to_split trees ++ one_more n ∷ []) (sym (farthest_read trees s.edges.items))
   where
     on : (ts : List Tree) → map to_split (ts ++ step_tree 0 trees s ∷ []) ≡ map to_split ts ++ one_more (farthest (branches_among 0 trees s.edges.items)) ∷ []
@@ -219,8 +229,10 @@ one_more_le zero = omega arith
 one_more_le (suc n) = omega arith
 
 -- places that are kept by their splits
-pub before_kept : (steps : List Step) (splits places kept : List ℕ) → splits ≡ map to_split (trees_after [] steps) → kept ≡ filter (λ k. nat_lt 0 (get_or splits k 0)) places → kept ≡ filter (is_before steps) places
+pub before_kept : (steps : List Step) (splits places kept : List ℕ) → splits ≡ map to_split (trees_after [] steps) →
+    kept ≡ filter (λ k. nat_lt 0 (get_or splits k 0)) places → kept ≡ filter (is_before steps) places
 before_kept steps splits places kept same is = is ∙ (λ i. filter (λ k. nat_lt 0 ((ap (λ ss. get_or ss k 0) same ∙ split_at steps k) i)) places)
 
-pub off_kept : (steps : List Step) (splits places : List ℕ) → splits ≡ map to_split (trees_after [] steps) → filter (λ k. nat_eq (get_or splits k 0) 0) places ≡ filter (is_off steps) places
+pub off_kept : (steps : List Step) (splits places : List ℕ) → splits ≡ map to_split (trees_after [] steps) →
+    filter (λ k. nat_eq (get_or splits k 0) 0) places ≡ filter (is_off steps) places
 off_kept steps splits places same = λ i. filter (λ k. nat_eq ((ap (λ ss. get_or ss k 0) same ∙ split_at steps k) i) 0) places

@@ -1,17 +1,20 @@
 -- A draft is finished.
-use Rattle.std.proofs.Common.{◌≡◌, ℕ, zero, suc, ◌+◌, ◌-◌, ◌<◌, ◌≤◌, Bool, true, List, [], ◌∷◌, length, get_or, map, refl, sym, ◌∙◌, ap, subst, arith, inl, inr, Some, slice_get, unwrap_or, nat_lt, nat_eq}
+use Rattle.std.proofs.Common.{◌≡◌, ℕ, zero, suc, ◌+◌, ◌-◌, ◌<◌, ◌≤◌, Bool, true, List, [], ◌∷◌, length, get_or, map}
+use Rattle.std.proofs.Common.{refl, sym, ◌∙◌, ap, subst, arith, inl, inr, Some, slice_get, unwrap_or, nat_lt, nat_eq}
 use Rattle.std.proofs.lemmas.Bool.{cases_lt, and_from, and_parts, ltb-true, lt-ltb, eq-eqb, or_left, or_right}
 use Rattle.std.specs.List.{list_all}
 use Rattle.listener_set.specs.Numbers.{is_in}
 use Rattle.vocabulary.specs.declared.plans.End.TheVariants.{Done}
-use Rattle.definitions.specs.Tree.{Tree, Ends}
+use Rattle.definitions.specs.Run.{Tree, Ends}
 use Rattle.call_laws.specs.Lengths.{height}
 use Rattle.plan_steps.specs.declared.step.Next.{Next}
 use Rattle.plan_steps.specs.declared.step.Next.TheVariants.{To, Over, Both}
 use Rattle.plan_steps.specs.declared.step.PlanEdge.{PlanEdge}
 use Rattle.plan_steps.specs.declared.step.Step.{Step}
 use Rattle.plan_steps.specs.Steps.{at_place, trees_after, all_below, all_lead_back, leads_back, all_lead_on, first_tree}
-use Rattle.plan_steps.specs.Numbering.{IsNumberedFrom, IsNumbering, IsStretch, IsOrder, IsInOrder, AreDepths, IsWalk, IsByDepth, AreNumbers, AllNumbered, holds_of_edges, holds_behind, is_deeper, all_deeper, are_laid, all_within}
+use Rattle.plan_steps.specs.Numbering.{IsNumberedFrom, IsNumbering, IsStretch, IsOrder, IsInOrder, AreDepths, IsWalk}
+use Rattle.plan_steps.specs.Numbering.{IsByDepth, AreNumbers, AllNumbered, holds_of_edges, holds_behind, is_deeper}
+use Rattle.plan_steps.specs.Numbering.{all_deeper, are_laid, all_within}
 use Rattle.plan_steps.proofs.StepTrees.{all_weaker, all_below-le, length-trees}
 use Rattle.plan_steps.proofs.Ordered.{Rises, layers_rise, rises_in, rises_to, in_layers, layers_in, layers_few}
 use Rattle.plan_steps.proofs.Walked.{all_in, low_passes}
@@ -52,10 +55,12 @@ met_laid steps roots depths met d walk =
 pub order_rises : (steps : List Step) (roots depths met order : List ℕ) → AreOrdered steps roots depths met order → Rises depths 1 order
 order_rises steps roots depths met order h = subst (Rises depths 1) (sym h.sorted.is) (layers_rise depths met 0 h.sorted.deepest)
 
-pub order_in : (steps : List Step) (roots depths met order : List ℕ) → AreOrdered steps roots depths met order → (k : ℕ) → is_in order k ≡ true → is_in met k ≡ true
+pub order_in : (steps : List Step) (roots depths met order : List ℕ) → AreOrdered steps roots depths met order →
+    (k : ℕ) → is_in order k ≡ true → is_in met k ≡ true
 order_in steps roots depths met order h k here = in_layers depths met 0 h.sorted.deepest k (subst (λ (ks : List ℕ). is_in ks k ≡ true) h.sorted.is here)
 
-pub in_order : (steps : List Step) (roots depths met order : List ℕ) → AreOrdered steps roots depths met order → (k : ℕ) → is_in met k ≡ true → is_in order k ≡ true
+pub in_order : (steps : List Step) (roots depths met order : List ℕ) → AreOrdered steps roots depths met order →
+    (k : ℕ) → is_in met k ≡ true → is_in order k ≡ true
 in_order steps roots depths met order h k here =
     subst (λ (ks : List ℕ). is_in ks k ≡ true) (sym h.sorted.is)
     (layers_in depths met 0 h.sorted.deepest k here (ltb-true 0 (get_or depths k 0) (all_in (λ j. nat_lt 0 (get_or depths j 0)) met k (met_laid steps roots depths met h.laid h.walk) here)) (omega (arith, h.sorted.enough k)))
@@ -80,7 +85,8 @@ found_in (x ∷ ks) zero p at = let is : x ≡ p = cc in or_left (nat_eq x p) (i
 found_in (x ∷ ks) (suc i) p at = or_right (nat_eq x p) (is_in ks p) (found_in ks i p at)
 
 -- each place's edges lead to places that stand later
-pub order_leads_on : (steps : List Step) (roots depths met order numbers : List ℕ) → AreOrdered steps roots depths met order → AreNumbers order (length steps) numbers → OrderLeadsOn steps order numbers
+pub order_leads_on : (steps : List Step) (roots depths met order numbers : List ℕ) →
+    AreOrdered steps roots depths met order → AreNumbers order (length steps) numbers → OrderLeadsOn steps order numbers
 order_leads_on steps roots depths met order numbers h ns i p s at step =
     let here = order_in steps roots depths met order h p (found_in order i p at) in
     let has : 1 ≤ get_or depths p 0 = rises_in depths 1 order p (order_rises steps roots depths met order h) (found_in order i p at) in
@@ -99,7 +105,8 @@ order_leads_on steps roots depths met order numbers h ns i p s at step =
               omega (arith, le, ltb-true (get_or depths p 0) (get_or depths place.0 0) deep))
         ]
 
-    all : (edges : List PlanEdge) → holds_of_edges (is_in met) edges ≡ true → all_deeper depths (get_or depths p 0) edges ≡ true → AllLeadOn order numbers i edges
+    all : (edges : List PlanEdge) → holds_of_edges (is_in met) edges ≡ true →
+        all_deeper depths (get_or depths p 0) edges ≡ true → AllLeadOn order numbers i edges
     all [] known deep = tt
     all (e ∷ edges) known deep =
         let knowns = and_parts (holds_behind (is_in met) e.next) (holds_of_edges (is_in met) edges) known in
@@ -121,7 +128,9 @@ first_stands steps first depths met order h = front order (order_rises steps (fi
 whole : (order : List ℕ) → IsRest order 0 order
 whole order k = ap (slice_get order) (let e : k ≡ 0 + k = omega arith in e)
 
-pub plan_tree : (steps : List Step) (first : ℕ) (depths met order numbers : List ℕ) (plan : List Step) → AreOrdered steps (first ∷ []) depths met order → AreNumbers order (length steps) numbers → AllNumbered numbers steps order plan → first_tree plan ≡ at_place steps first
+pub plan_tree : (steps : List Step) (first : ℕ) (depths met order numbers : List ℕ) (plan : List Step) →
+    AreOrdered steps (first ∷ []) depths met order → AreNumbers order (length steps) numbers →
+    AllNumbered numbers steps order plan → first_tree plan ≡ at_place steps first
 plan_tree steps first depths met order numbers plan h ns all =
     ap (λ ts. unwrap_or (slice_get ts 0) (Ends Done)) (trees_numbered steps order numbers 0 order plan h.back (order_leads_on steps (first ∷ []) depths met order numbers h ns) (whole order) all)
     ∙ front order (first_stands steps first depths met order h)
@@ -130,11 +139,14 @@ plan_tree steps first depths met order numbers plan h ns all =
     front [] at = cc
     front (x ∷ ks) at = let is : x ≡ first = cc in ap (at_place steps) is
 
-pub plan_on : (steps : List Step) (roots depths met order numbers : List ℕ) (plan : List Step) → AreOrdered steps roots depths met order → AreNumbers order (length steps) numbers → AllNumbered numbers steps order plan → all_lead_on 1 plan ≡ true
+pub plan_on : (steps : List Step) (roots depths met order numbers : List ℕ) (plan : List Step) →
+    AreOrdered steps roots depths met order → AreNumbers order (length steps) numbers →
+    AllNumbered numbers steps order plan → all_lead_on 1 plan ≡ true
 plan_on steps roots depths met order numbers plan h ns all =
     plan_leads_on steps order numbers 0 order plan (order_leads_on steps roots depths met order numbers h ns) (whole order) (omega arith) all
 
-pub plan_begins : (steps : List Step) (first : ℕ) (depths met order numbers : List ℕ) (plan : List Step) → AreOrdered steps (first ∷ []) depths met order → AllNumbered numbers steps order plan → 0 < length plan
+pub plan_begins : (steps : List Step) (first : ℕ) (depths met order numbers : List ℕ) (plan : List Step) →
+    AreOrdered steps (first ∷ []) depths met order → AllNumbered numbers steps order plan → 0 < length plan
 plan_begins steps first depths met order numbers plan h all = omega (arith, length-numbered numbers steps order plan all, some order (first_stands steps first depths met order h))
   where
     some : (ks : List ℕ) → slice_get ks 0 ≡ Some first → 0 < length ks
@@ -142,7 +154,8 @@ plan_begins steps first depths met order numbers plan h all = omega (arith, leng
     some (x ∷ ks) at = omega arith
 
 -- the height of the tree at a place
-pub height_of : (steps : List Step) (heights : List ℕ) (first h : ℕ) → heights ≡ map height (trees_after [] steps) → h ≡ get_or heights first h → first < length steps → h ≡ height (at_place steps first)
+pub height_of : (steps : List Step) (heights : List ℕ) (first h : ℕ) → heights ≡ map height (trees_after [] steps) →
+    h ≡ get_or heights first h → first < length steps → h ≡ height (at_place steps first)
 height_of steps heights first h e is low =
     is ∙ (ap (λ hs. get_or hs first h) e ∙ (at (trees_after [] steps) first (omega (arith, length-trees steps))))
   where
@@ -152,7 +165,9 @@ height_of steps heights first h e is low =
     at (t ∷ ts) (suc k) low = at ts k (omega arith)
 
 -- what was found of the steps of a draft, where they were lent
-pub ordered : (steps lent : List Step) (roots order : List ℕ) → lent ≡ steps → all_lead_back 0 steps ≡ true → all_within (length steps) roots ≡ true → (o : IsOrder lent roots order) → AreOrdered steps roots o.depths o.met order
+pub ordered : (steps lent : List Step) (roots order : List ℕ) → lent ≡ steps → all_lead_back 0 steps ≡ true →
+    all_within (length steps) roots ≡ true → (o : IsOrder lent roots order) →
+    AreOrdered steps roots o.depths o.met order
 ordered steps lent roots order same back low o =
     subst (λ (xs : List Step). AreOrdered xs roots o.depths o.met order) same
     (record {
@@ -175,7 +190,8 @@ stretch_of steps roots depths met order o =
     }
 
 -- how the plan numbers the places
-numbering_of : (steps : List Step) (first : ℕ) (depths met order : List ℕ) (plan : List Step) → AreOrdered steps (first ∷ []) depths met order → IsInOrder steps order plan → IsNumbering steps first plan
+numbering_of : (steps : List Step) (first : ℕ) (depths met order : List ℕ) (plan : List Step) →
+    AreOrdered steps (first ∷ []) depths met order → IsInOrder steps order plan → IsNumbering steps first plan
 numbering_of steps first depths met order plan o all =
     record {
       order = order;
@@ -186,7 +202,8 @@ numbering_of steps first depths met order plan o all =
     }
 
 -- in an order that was lent
-pub finished : (steps lent : List Step) (first : ℕ) (order order_lent : List ℕ) (plan : List Step) → lent ≡ steps → all_lead_back 0 steps ≡ true → all_within (length steps) (first ∷ []) ≡ true → IsOrder lent (first ∷ []) order
+pub finished : (steps lent : List Step) (first : ℕ) (order order_lent : List ℕ) (plan : List Step) → lent ≡ steps →
+    all_lead_back 0 steps ≡ true → all_within (length steps) (first ∷ []) ≡ true → IsOrder lent (first ∷ []) order
     → order_lent ≡ order → IsInOrder steps order_lent plan → IsNumberedFrom steps first plan
 finished steps lent first order order_lent plan same back low found again lent_all =
     let o = ordered steps lent (first ∷ []) order same back low found in

@@ -2,7 +2,7 @@
 use Rattle.std.proofs.Common.{◌≡◌, ℕ, zero, suc, ◌+◌, ◌-◌, ◌≤◌, List, [], ◌∷◌, ◌++◌, map, get_or, refl, sym, ◌∙◌, ap, arith, add-one, slice_get, unwrap_or}
 use Rattle.std.proofs.lemmas.List.{map_push}
 use Rattle.vocabulary.specs.declared.plans.End.TheVariants.{Done}
-use Rattle.definitions.specs.Tree.{Tree, Ends}
+use Rattle.definitions.specs.Run.{Tree, Ends}
 use Rattle.call_laws.specs.Lengths.{height, highest}
 use Rattle.plan_steps.specs.declared.step.Next.{Next}
 use Rattle.plan_steps.specs.declared.step.Next.TheVariants.{To, Over, Both}
@@ -26,7 +26,8 @@ highest_there trees [] = refl
 highest_there trees (e ∷ edges) = rw (height_there trees e.next, highest_there trees edges) refl
 
 -- one step more
-pub height_more : (trees : List Tree) (s : Step) (h : ℕ) → h ≡ highest_behind (map height trees) s.edges.items → map height trees ++ (h + 1) ∷ [] ≡ map height (trees ++ step_tree 0 trees s ∷ [])
+pub height_more : (trees : List Tree) (s : Step) (h : ℕ) → h ≡ highest_behind (map height trees) s.edges.items →
+    map height trees ++ (h + 1) ∷ [] ≡ map height (trees ++ step_tree 0 trees s ∷ [])
 height_more trees s h e =
     let is : h + 1 ≡ height (step_tree 0 trees s) = add-one h ∙ ap suc (e ∙ highest_there trees s.edges.items) in
     ap (λ n. map height trees ++ n ∷ []) is ∙ sym (map_push height trees (step_tree 0 trees s))

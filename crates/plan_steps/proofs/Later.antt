@@ -1,5 +1,7 @@
 -- An order in which each place leads to later ones.
-use Rattle.std.proofs.Common.{◌≡◌, ℕ, zero, suc, ◌+◌, ◌-◌, ◌<◌, ◌≤◌, Bool, true, false, cond, List, [], ◌∷◌, ◌++◌, length, get_or, filter, refl, sym, ◌∙◌, ap, subst, arith, ◌⊎◌, inl, inr, Some, slice_get, nat_eq}
+use Rattle.std.proofs.Common.{◌≡◌, ℕ, zero, suc, ◌+◌, ◌-◌, ◌<◌, ◌≤◌, Bool, true, false, cond, List, [], ◌∷◌, ◌++◌}
+use Rattle.std.proofs.Common.{length, get_or, filter, refl, sym, ◌∙◌, ap, subst, arith, ◌⊎◌, inl, inr, Some, slice_get}
+use Rattle.std.proofs.Common.{nat_eq}
 use Rattle.std.proofs.lemmas.Bool.{cases_lt, and_parts, ltb-true, eqb-true, or_cases, or_left, or_right, false≢true}
 use Rattle.std.specs.List.{IsDistinct}
 use Rattle.listener_set.specs.Numbers.{is_in}
@@ -15,7 +17,8 @@ use Rattle.plan_steps.proofs.Unfolded.{LeadsOn, AllLeadOn, OrderLeadsOn}
 use Rattle.plan_steps.proofs.Finished.{AreOrdered, order_rises, order_in, in_order, found_in}
 use Rattle.plan_steps.proofs.Distinct.{not_in}
 
-all_later : (order more : List ℕ) (i j : ℕ) (edges : List PlanEdge) → ((k : ℕ) → StandsAfter order i k → StandsAfter more j k) → AllLater order i edges → AllLater more j edges
+all_later : (order more : List ℕ) (i j : ℕ) (edges : List PlanEdge) →
+    ((k : ℕ) → StandsAfter order i k → StandsAfter more j k) → AllLater order i edges → AllLater more j edges
 all_later order more i j [] f h = tt
 all_later order more i j (e ∷ edges) f h = (one e.next h.0, all_later order more i j edges f h.1)
   where
@@ -56,7 +59,8 @@ index_unique (x ∷ xs) (suc i) zero k h at there = absurd (false≢true (sym (n
 index_unique (x ∷ xs) (suc i) (suc j) k h at there = ap suc (index_unique xs i j k h.1 at there)
 
 -- later places have greater numbers
-pub later_leads : (steps : List Step) (order numbers : List ℕ) → IsDistinct nat_eq order → AreNumbers order (length steps) numbers → OrderRuns steps order → OrderLeadsOn steps order numbers
+pub later_leads : (steps : List Step) (order numbers : List ℕ) → IsDistinct nat_eq order →
+    AreNumbers order (length steps) numbers → OrderRuns steps order → OrderLeadsOn steps order numbers
 later_leads steps order numbers once ns runs i p s at step = all s.edges.items (runs i p s at step)
   where
     one : (next : Next) → IsLater order i next → LeadsOn order numbers i next
@@ -141,7 +145,8 @@ pub filter_holds : (test : ℕ → Bool) (ks : List ℕ) (k : ℕ) → is_in (fi
 filter_holds test [] k h = absurd (false≢true h)
 filter_holds test (x ∷ ks) k h = one (test x) refl (filter_holds test ks k) h
   where
-    one : (b : Bool) → test x ≡ b → (is_in (filter test ks) k ≡ true → (is_in ks k ≡ true) × (test k ≡ true)) → is_in (cond b (x ∷ filter test ks) (filter test ks)) k ≡ true → (is_in (x ∷ ks) k ≡ true) × (test k ≡ true)
+    one : (b : Bool) → test x ≡ b → (is_in (filter test ks) k ≡ true → (is_in ks k ≡ true) × (test k ≡ true)) →
+        is_in (cond b (x ∷ filter test ks) (filter test ks)) k ≡ true → (is_in (x ∷ ks) k ≡ true) × (test k ≡ true)
     one true holds more here = elim (or_cases (nat_eq x k) (is_in (filter test ks) k) here) [
       | inl same ↦ (or_left (nat_eq x k) (is_in ks k) same, subst (λ (j : ℕ). test j ≡ true) (eqb-true x k same) holds)
       | inr there ↦ (or_right (nat_eq x k) (is_in ks k) (more there).0, (more there).1)
@@ -184,7 +189,8 @@ runs_filter steps roots depths met order ys test h else i p s at step =
               }
         ]
 
-    all : (edges : List PlanEdge) → holds_of_edges (is_in met) edges ≡ true → all_deeper depths (get_or depths p 0) edges ≡ true → AllLater (filter test order ++ ys) i edges
+    all : (edges : List PlanEdge) → holds_of_edges (is_in met) edges ≡ true →
+        all_deeper depths (get_or depths p 0) edges ≡ true → AllLater (filter test order ++ ys) i edges
     all [] known deep = tt
     all (e ∷ edges) known deep =
         let knowns = and_parts (holds_behind (is_in met) e.next) (holds_of_edges (is_in met) edges) known in

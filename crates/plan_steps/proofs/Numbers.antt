@@ -1,5 +1,6 @@
 -- Places get numbers.
-use Rattle.std.proofs.Common.{◌≡◌, ◌≢◌, inl, inr, ℕ, zero, suc, ◌+◌, ◌-◌, ◌<◌, ◌≤◌, true, List, [], ◌∷◌, ◌++◌, length, get_or, set, take, refl, sym, ◌∙◌, ap, subst, arith, Some, slice_get, nat_lt, Bool}
+use Rattle.std.proofs.Common.{◌≡◌, ◌≢◌, inl, inr, ℕ, zero, suc, ◌+◌, ◌-◌, ◌<◌, ◌≤◌, true, List, [], ◌∷◌, ◌++◌, length}
+use Rattle.std.proofs.Common.{get_or, set, take, refl, sym, ◌∙◌, ap, subst, arith, Some, slice_get, nat_lt, Bool}
 use Rattle.std.proofs.lemmas.Bool.{cases_eq, ltb-true, and_parts}
 use Rattle.std.proofs.lemmas.List.{take_more, length-set, get_or-set_same, get_or-set_other}
 use Rattle.std.specs.List.{list_all}
@@ -35,7 +36,9 @@ laid_depth depths (x ∷ places) zero h low = let positive = ltb-true 0 (get_or 
 laid_depth depths (x ∷ places) (suc i) h low = laid_depth depths places i (and_parts (nat_lt 0 (get_or depths x 0)) (are_laid depths places) h).1 (omega arith)
 
 -- one number more
-pub numbered_more : (order : List ℕ) (places n : ℕ) (numbers : List ℕ) → AreNumbered order places n numbers → n < length order → get_or order n 0 < places → AreNumbered order places (n + 1) (set numbers (get_or order n 0) (n + 1))
+pub numbered_more : (order : List ℕ) (places n : ℕ) (numbers : List ℕ) → AreNumbered order places n numbers →
+    n < length order → get_or order n 0 < places →
+    AreNumbered order places (n + 1) (set numbers (get_or order n 0) (n + 1))
 numbered_more order places n numbers h low within =
     record {
       count = length-set numbers (get_or order n 0) (n + 1) ∙ h.count;
@@ -56,7 +59,9 @@ numbered_more order places n numbers h low within =
     ]
 
 -- one step more
-pub all_numbered-push : (numbers : List ℕ) (steps : List Step) (order : List ℕ) (plan : List Step) (k : ℕ) (s n : Step) → AllNumbered numbers steps order plan → slice_get steps k ≡ Some s → IsNumbered numbers s n → AllNumbered numbers steps (order ++ k ∷ []) (plan ++ n ∷ [])
+pub all_numbered-push : (numbers : List ℕ) (steps : List Step) (order : List ℕ) (plan : List Step) (k : ℕ)
+    (s n : Step) → AllNumbered numbers steps order plan → slice_get steps k ≡ Some s → IsNumbered numbers s n →
+    AllNumbered numbers steps (order ++ k ∷ []) (plan ++ n ∷ [])
 all_numbered-push numbers steps [] plan k s n h at one = subst (λ (ns : List Step). AllNumbered numbers steps (k ∷ []) (ns ++ n ∷ [])) (sym h) (s, at, one, refl)
 all_numbered-push numbers steps (x ∷ order) [] k s n h at one = absurd h
 all_numbered-push numbers steps (x ∷ order) (m ∷ plan) k s n h at one = (h.0, h.1, h.2, all_numbered-push numbers steps order plan k s n h.3 at one)

@@ -1,5 +1,7 @@
 -- The four stretches of a plan with two parts, in a row.
-use Rattle.std.proofs.Common.{◌≡◌, ℕ, zero, suc, ◌+◌, ◌-◌, ◌<◌, ◌≤◌, Bool, true, false, List, [], ◌∷◌, ◌++◌, length, get_or, map, filter, refl, sym, ◌∙◌, ap, subst, arith, ◌⊎◌, inl, inr, Some, slice_get, unwrap_or, nat_lt, nat_eq}
+use Rattle.std.proofs.Common.{◌≡◌, ℕ, zero, suc, ◌+◌, ◌-◌, ◌<◌, ◌≤◌, Bool, true, false, List, [], ◌∷◌, ◌++◌, length}
+use Rattle.std.proofs.Common.{get_or, map, filter, refl, sym, ◌∙◌, ap, subst, arith, ◌⊎◌, inl, inr, Some, slice_get}
+use Rattle.std.proofs.Common.{unwrap_or, nat_lt, nat_eq}
 use Rattle.std.proofs.lemmas.Bool.{cases_lt, and_from, ltb-true, lt-ltb, eq-eqb, eqb-true, or_cases, or_left, or_right, false≢true}
 use Rattle.std.proofs.lemmas.List.{length-map}
 use Rattle.std.proofs.lemmas.Option.{slice_get_within}
@@ -8,14 +10,15 @@ use Rattle.std.specs.List.{list_all, list_any, IsDistinct}
 use Rattle.listener_set.specs.Numbers.{is_in}
 use Rattle.vocabulary.specs.declared.plans.End.{End}
 use Rattle.vocabulary.specs.declared.plans.End.TheVariants.{Done}
-use Rattle.definitions.specs.Tree.{Ends}
+use Rattle.definitions.specs.Run.{Ends}
 use Rattle.plan_steps.specs.declared.step.Next.TheVariants.{To}
 use Rattle.plan_steps.specs.declared.step.Place.{Place}
 use Rattle.plan_steps.specs.declared.step.Step.{Step}
 use Rattle.plan_steps.specs.declared.parts.Parts.{Parts}
 use Rattle.plan_steps.specs.Steps.{at_place, trees_after, trees_from, all_lead_back, tree_behind, is_within}
 use Rattle.plan_steps.specs.Numbering.{IsOrder, AreNumbers, AllNumbered, holds_of_edges, all_within}
-use Rattle.plan_steps.specs.Stretches.{ends_at, is_last, is_onward, ends_new, ends_old, to_split, is_before, is_off, AreParts, AreOrders, OrderRuns, AreParted, IsPartedPlan, rest_roots}
+use Rattle.plan_steps.specs.Stretches.{ends_at, is_last, is_onward, ends_new, ends_old, to_split, is_before, is_off}
+use Rattle.plan_steps.specs.Stretches.{AreParts, AreOrders, OrderRuns, AreParted, IsPartedPlan, rest_roots}
 use Rattle.plan_steps.proofs.Trees.{slice_get-append}
 use Rattle.plan_steps.proofs.Ordered.{in_filter, filter_in}
 use Rattle.plan_steps.proofs.Walked.{in_left, in_right, in_cases, all_in, all_append, in_itself}
@@ -28,7 +31,8 @@ use Rattle.plan_steps.proofs.Later.{runs_of, runs_append, runs_before, runs_filt
 
 -- what is so of the roots of a stretch, and passes on, is so of its places
 holds_in : (steps : List Step) (roots depths met order : List ℕ) → AreOrdered steps roots depths met order → (test : ℕ → Bool) → list_all test roots ≡ true
-    → ((k : ℕ) (s : Step) → test k ≡ true → slice_get steps k ≡ Some s → holds_of_edges test s.edges.items ≡ true) → (k : ℕ) → is_in order k ≡ true → test k ≡ true
+    → ((k : ℕ) (s : Step) → test k ≡ true → slice_get steps k ≡ Some s → holds_of_edges test s.edges.items ≡ true) →
+    (k : ℕ) → is_in order k ≡ true → test k ≡ true
 holds_in steps roots depths met order h test begins passes k here = all_in test met k (h.walk.reached test begins passes) (order_in steps roots depths met order h k here)
 
 any_in : (xs : List ℕ) (q : ℕ) → list_any (nat_eq q) xs ≡ true → is_in xs q ≡ true
@@ -39,7 +43,9 @@ any_in (x ∷ xs) q h = elim (or_cases (nat_eq q x) (list_any (nat_eq q) xs) h) 
 ]
 
 -- the roots of the rest are places, at which trees end for good
-pub roots_within : (steps : List Step) (first : ℕ) (parts : Parts) (reached : List ℕ) → all_lead_back 0 steps ≡ true → first < length steps → AreParts steps first parts → IsOrder steps (first ∷ []) reached → all_within (length steps) (rest_roots steps parts reached) ≡ true
+pub roots_within : (steps : List Step) (first : ℕ) (parts : Parts) (reached : List ℕ) → all_lead_back 0 steps ≡ true →
+    first < length steps → AreParts steps first parts → IsOrder steps (first ∷ []) reached →
+    all_within (length steps) (rest_roots steps parts reached) ≡ true
 roots_within steps first parts reached back low h found =
     let o = ordered steps steps (first ∷ []) reached refl back (lone_root (length steps) first low) found in
     and_from (nat_lt parts.ready.0 (length steps)) _ (lt-ltb parts.ready.0 (length steps) h.low.2)
@@ -47,7 +53,8 @@ roots_within steps first parts reached back low h found =
     (all_from (λ k. nat_lt k (length steps)) (filter (is_off steps) reached)
     (λ k here. all_in (λ j. nat_lt j (length steps)) reached k (order_within steps (first ∷ []) found.depths found.met reached o) (in_filter (is_off steps) reached k here))))
 
-pub parted : (steps : List Step) (first : ℕ) (parts : Parts) (reached order : List ℕ) → all_lead_back 0 steps ≡ true → first < length steps → length steps ≤ 65536 → AreParts steps first parts → IsOrder steps (first ∷ []) reached
+pub parted : (steps : List Step) (first : ℕ) (parts : Parts) (reached order : List ℕ) → all_lead_back 0 steps ≡ true →
+    first < length steps → length steps ≤ 65536 → AreParts steps first parts → IsOrder steps (first ∷ []) reached
     → AreOrders steps reached parts (rest_roots steps parts reached) order → AreParted steps first parts order
 unfolding IsDistinct
 parted steps first parts reached order back low few h found all = subst (AreParted steps first parts) (sym all.is) (record {
@@ -120,7 +127,8 @@ parted steps first parts reached order back low few h found all = subst (ArePart
     leads = filter_holds (is_before steps) reached
 
     -- no place stands in two stretches
-    apart : (p q : End → Bool) (k : ℕ) → ((e : End) → p e ≡ true → q e ≡ true → ⊥) → ends_at p (at_place steps k) ≡ true → ends_at q (at_place steps k) ≡ true → ⊥
+    apart : (p q : End → Bool) (k : ℕ) → ((e : End) → p e ≡ true → q e ≡ true → ⊥) →
+        ends_at p (at_place steps k) ≡ true → ends_at q (at_place steps k) ≡ true → ⊥
     apart p q k never one two = let both = both_end p q (at_place steps k) one two in never both.0 both.1 both.2
 
     before_rest : (k : ℕ) → is_in before k ≡ true → is_in all.rest k ≡ true → ⊥
@@ -202,13 +210,16 @@ parted steps first parts reached order back low few h found all = subst (ArePart
 
 -- ---- what was lent
 
-pub reached_within : (steps : List Step) (first : ℕ) (reached lent splits splits_lent : List ℕ) → all_lead_back 0 steps ≡ true → first < length steps → IsOrder steps (first ∷ []) reached → lent ≡ reached → splits_lent ≡ splits → splits ≡ map to_split (trees_after [] steps) → all_within (length splits_lent) lent ≡ true
+pub reached_within : (steps : List Step) (first : ℕ) (reached lent splits splits_lent : List ℕ) →
+    all_lead_back 0 steps ≡ true → first < length steps → IsOrder steps (first ∷ []) reached → lent ≡ reached →
+    splits_lent ≡ splits → splits ≡ map to_split (trees_after [] steps) → all_within (length splits_lent) lent ≡ true
 reached_within steps first reached lent splits splits_lent back low found again same is =
     let o = ordered steps steps (first ∷ []) reached refl back (lone_root (length steps) first low) found in
     let many : length splits_lent ≡ length steps = ap length (same ∙ is) ∙ (length-map (trees_after [] steps) to_split ∙ length-trees steps) in
     subst (λ (n : ℕ). all_within n lent ≡ true) (sym many) (subst (λ (ks : List ℕ). all_within (length steps) ks ≡ true) (sym again) (order_within steps (first ∷ []) found.depths found.met reached o))
 
-pub roots_are : (steps : List Step) (parts : Parts) (reached lent splits splits_lent roots : List ℕ) → lent ≡ reached → splits_lent ≡ splits → splits ≡ map to_split (trees_after [] steps)
+pub roots_are : (steps : List Step) (parts : Parts) (reached lent splits splits_lent roots : List ℕ) → lent ≡ reached →
+    splits_lent ≡ splits → splits ≡ map to_split (trees_after [] steps)
     → roots ≡ parts.ready.0 ∷ parts.back.0 ∷ filter (λ k. nat_eq (get_or splits_lent k 0) 0) lent → roots ≡ rest_roots steps parts reached
 roots_are steps parts reached lent splits splits_lent roots again same is roots_is =
     roots_is ∙ ap (λ ks. parts.ready.0 ∷ parts.back.0 ∷ ks) (off_kept steps splits_lent lent (same ∙ is) ∙ ap (filter (is_off steps)) again)
@@ -218,13 +229,18 @@ roots_are steps parts reached lent splits splits_lent roots again same is roots_
 whole : (order : List ℕ) → IsRest order 0 order
 whole order k = ap (slice_get order) (let e : k ≡ 0 + k = omega arith in e)
 
-get_mapped : (steps : List Step) (ks : List ℕ) (i p : ℕ) → slice_get ks i ≡ Some p → unwrap_or (slice_get (map (at_place steps) ks) i) (Ends Done) ≡ at_place steps p
+get_mapped : (steps : List Step) (ks : List ℕ) (i p : ℕ) → slice_get ks i ≡ Some p →
+    unwrap_or (slice_get (map (at_place steps) ks) i) (Ends Done) ≡ at_place steps p
 get_mapped steps [] i p at = cc
 get_mapped steps (x ∷ ks) zero p at = let is : x ≡ p = cc in ap (at_place steps) is
 get_mapped steps (x ∷ ks) (suc i) p at = get_mapped steps ks i p at
 
-pub parted_plan : (steps : List Step) (first : ℕ) (parts : Parts) (order numbers : List ℕ) (plan : List Step) (told : Parts) → all_lead_back 0 steps ≡ true → AreParted steps first parts order → AreNumbers order (length steps) numbers
-    → AllNumbered numbers steps order plan → told.new.0 ≡ get_or numbers parts.new.0 0 → told.old.0 ≡ get_or numbers parts.old.0 0 → told.ready.0 ≡ get_or numbers parts.ready.0 0 → told.back.0 ≡ get_or numbers parts.back.0 0
+pub parted_plan : (steps : List Step) (first : ℕ) (parts : Parts) (order numbers : List ℕ) (plan : List Step)
+    (told : Parts) → all_lead_back 0 steps ≡ true → AreParted steps first parts order →
+    AreNumbers order (length steps) numbers
+    → AllNumbered numbers steps order plan → told.new.0 ≡ get_or numbers parts.new.0 0 →
+    told.old.0 ≡ get_or numbers parts.old.0 0 → told.ready.0 ≡ get_or numbers parts.ready.0 0 →
+    told.back.0 ≡ get_or numbers parts.back.0 0
     → IsPartedPlan steps first parts plan told
 parted_plan steps first parts order numbers plan told back h ns all e_new e_old e_ready e_back = record {
   begins = omega (arith, length-numbered numbers steps order plan all, some order h.stands);

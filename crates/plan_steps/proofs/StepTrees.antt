@@ -1,9 +1,11 @@
 -- The trees of steps.
-use Rattle.std.proofs.Common.{nat_lt, ◌≡◌, ℕ, zero, suc, ◌+◌, ◌<◌, ◌≤◌, ◌&&◌, Bool, true, false, List, [], ◌∷◌, ◌++◌, length, get_or, take, refl, sym, ◌∙◌, ap, subst, arith, add-zero, zero-add, length-append, append_assoc, Some, slice_get}
+use Rattle.std.proofs.Common.{nat_lt, ◌≡◌, ℕ, zero, suc, ◌+◌, ◌<◌, ◌≤◌, ◌&&◌, Bool, true, false, List, [], ◌∷◌, ◌++◌}
+use Rattle.std.proofs.Common.{length, get_or, take, refl, sym, ◌∙◌, ap, subst, arith, add-zero, zero-add, length-append}
+use Rattle.std.proofs.Common.{append_assoc, Some, slice_get}
 use Rattle.std.proofs.lemmas.Bool.{ltb-true, lt-ltb, and_parts, and_from}
 use Rattle.std.proofs.lemmas.List.{append-nil, take_at, take_all, take_more}
 use Rattle.std.specs.List.{list_all}
-use Rattle.definitions.specs.Tree.{Tree}
+use Rattle.definitions.specs.Run.{Tree}
 use Rattle.plan_steps.specs.declared.step.Step.{Step}
 use Rattle.plan_steps.specs.declared.step.Next.{Next}
 use Rattle.plan_steps.specs.declared.step.Next.TheVariants.{To, Over, Both}
@@ -30,7 +32,8 @@ pub trees_after-nil : trees_after [] [] ≡ []
 unfolding trees_after
 trees_after-nil = refl
 
-pub trees_after-push : (trees : List Tree) (steps : List Step) (s : Step) → trees_after trees (steps ++ s ∷ []) ≡ trees_after trees steps ++ step_tree 0 (trees_after trees steps) s ∷ []
+pub trees_after-push : (trees : List Tree) (steps : List Step) (s : Step) →
+    trees_after trees (steps ++ s ∷ []) ≡ trees_after trees steps ++ step_tree 0 (trees_after trees steps) s ∷ []
 unfolding trees_after
 trees_after-push trees [] s = refl
 trees_after-push trees (x ∷ steps) s = trees_after-push (trees ++ step_tree 0 trees x ∷ []) steps s
@@ -57,7 +60,9 @@ pub trees-take : (k : ℕ) (steps : List Step) → trees_after [] (take k steps)
 trees-take k steps = trees_after-take [] k steps ∙ ap (λ n. take n (trees_after [] steps)) (zero-add k)
 
 -- one step more
-pub trees-more : (steps : List Step) (i : ℕ) (s : Step) → i < length steps → s ≡ get_or steps i s → trees_after [] (take (i + 1) steps) ≡ trees_after [] (take i steps) ++ step_tree 0 (trees_after [] (take i steps)) s ∷ []
+pub trees-more : (steps : List Step) (i : ℕ) (s : Step) → i < length steps → s ≡ get_or steps i s →
+    trees_after [] (take (i + 1) steps) ≡ trees_after [] (take i steps) ++ step_tree 0 (trees_after [] (take i steps)) s
+    ∷ []
 trees-more steps i s h is = ap (trees_after []) (take_more steps i s h ∙ ap (λ x. take i steps ++ x ∷ []) (sym is)) ∙ trees_after-push [] (take i steps) s
 
 -- ---- edges that lead back

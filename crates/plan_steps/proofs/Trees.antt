@@ -2,7 +2,7 @@
 use Rattle.std.proofs.Common.{◌≡◌, ℕ, zero, suc, ◌-◌, ◌<◌, true, List, [], ◌∷◌, ◌++◌, length, refl, ap, arith, Some, slice_get, unwrap_or}
 use Rattle.std.proofs.lemmas.Bool.{ltb-true}
 use Rattle.vocabulary.specs.declared.plans.End.TheVariants.{Done}
-use Rattle.definitions.specs.Tree.{Tree, Ends}
+use Rattle.definitions.specs.Run.{Tree, Ends}
 use Rattle.plan_steps.specs.declared.step.Next.{Next}
 use Rattle.plan_steps.specs.declared.step.Next.TheVariants.{To, Over, Both}
 use Rattle.plan_steps.specs.Steps.{tree_among, is_below}

@@ -1,5 +1,7 @@
 -- How far a walk has come.
-use Rattle.std.proofs.Common.{◌≡◌, ℕ, zero, suc, ◌+◌, ◌<◌, ◌≤◌, ◌||◌, Bool, true, false, List, [], ◌∷◌, ◌++◌, length, get_or, set, replicate, reverse, refl, sym, ◌∙◌, ap, subst, arith, length-append, ◌⊎◌, inl, inr, Some, slice_get, nat_eq, nat_lt}
+use Rattle.std.proofs.Common.{◌≡◌, ℕ, zero, suc, ◌+◌, ◌<◌, ◌≤◌, ◌||◌, Bool, true, false, List, [], ◌∷◌, ◌++◌, length}
+use Rattle.std.proofs.Common.{get_or, set, replicate, reverse, refl, sym, ◌∙◌, ap, subst, arith, length-append, ◌⊎◌}
+use Rattle.std.proofs.Common.{inl, inr, Some, slice_get, nat_eq, nat_lt}
 use Rattle.std.proofs.lemmas.Bool.{or_cases, or_left, or_right, and_from, and_parts, eqb-true, eq-eqb, lt-ltb, ltb-true, cases_eq, false≢true}
 use Rattle.std.proofs.lemmas.List.{reverse-append, length-reverse, length-replicate, length-set, get_or-set_same, get_or-set_other, reverse-reverse}
 use Rattle.std.specs.List.{list_all}
@@ -85,7 +87,8 @@ behind_weaker t u (Over end) f h = refl
 behind_weaker t u (Both new old) f h = refl
 behind_weaker t u (To place) f h = f place.0 h
 
-pub edges_weaker : (t u : ℕ → Bool) (edges : List PlanEdge) → ((k : ℕ) → t k ≡ true → u k ≡ true) → holds_of_edges t edges ≡ true → holds_of_edges u edges ≡ true
+pub edges_weaker : (t u : ℕ → Bool) (edges : List PlanEdge) → ((k : ℕ) → t k ≡ true → u k ≡ true) →
+    holds_of_edges t edges ≡ true → holds_of_edges u edges ≡ true
 edges_weaker t u edges f = all_weaker (λ e. holds_behind t e.next) (λ e. holds_behind u e.next) (λ e. behind_weaker t u e.next f) edges
 
 one_behind : (next : Next) (ps : List ℕ) → holds_behind (is_in (place_behind next ps)) next ≡ true
@@ -100,7 +103,8 @@ edges_in (e ∷ edges) =
     and_from (holds_behind (is_in (places_behind (e ∷ edges))) e.next) _ (one_behind e.next (places_behind edges))
     (edges_weaker (is_in (places_behind edges)) (is_in (places_behind (e ∷ edges))) edges (in_behind e.next (places_behind edges)) (edges_in edges))
 
-all_behind : (test : ℕ → Bool) (next : Next) (ps : List ℕ) → holds_behind test next ≡ true → list_all test ps ≡ true → list_all test (place_behind next ps) ≡ true
+all_behind : (test : ℕ → Bool) (next : Next) (ps : List ℕ) → holds_behind test next ≡ true → list_all test ps ≡ true →
+    list_all test (place_behind next ps) ≡ true
 all_behind test (Over end) ps h k = k
 all_behind test (Both new old) ps h k = k
 all_behind test (To place) ps h k = and_from (test place.0) (list_all test ps) h k
@@ -142,7 +146,9 @@ unmet_set (false ∷ flags) zero low e = refl
 unmet_set (true ∷ flags) (suc k) low e = unmet_set flags k (omega arith) e
 unmet_set (false ∷ flags) (suc k) low e = ap suc (unmet_set flags k (omega arith) e)
 
-work_set : (flags : List Bool) (steps : List Step) (k : ℕ) (s : Step) → k < length flags → get_or flags k false ≡ false → slice_get steps k ≡ Some s → work flags steps ≡ suc (length s.edges.items) + work (set flags k true) steps
+work_set : (flags : List Bool) (steps : List Step) (k : ℕ) (s : Step) → k < length flags →
+    get_or flags k false ≡ false → slice_get steps k ≡ Some s →
+    work flags steps ≡ suc (length s.edges.items) + work (set flags k true) steps
 work_set [] steps k s low e at = absurd (omega arith)
 work_set (flag ∷ flags) [] k s low e at = cc
 work_set (true ∷ flags) (x ∷ steps) zero s low e at = cc
@@ -165,12 +171,16 @@ pub record AreWalked (steps : List Step) (roots : List ℕ) (flags : List Bool) 
   pub flagged : (k : ℕ) → get_or flags k false ≡ true → is_in met k ≡ true
   pub begins : list_all (is_known met waiting) roots ≡ true
   pub closed : (k : ℕ) (s : Step) → is_in met k ≡ true → slice_get steps k ≡ Some s → holds_of_edges (is_known met waiting) s.edges.items ≡ true
-  pub reached : (test : ℕ → Bool) → list_all test roots ≡ true → ((k : ℕ) (s : Step) → test k ≡ true → slice_get steps k ≡ Some s → holds_of_edges test s.edges.items ≡ true) → (list_all test met ≡ true) × (list_all test waiting ≡ true)
+  pub reached : (test : ℕ → Bool) → list_all test roots ≡ true →
+      ((k : ℕ) (s : Step) → test k ≡ true → slice_get steps k ≡ Some s → holds_of_edges test s.edges.items ≡ true) →
+      (list_all test met ≡ true) × (list_all test waiting ≡ true)
   pub only : (k : ℕ) → is_in met k ≡ true → get_or flags k false ≡ true
   pub turns : (all : List ℕ) → Walks steps met (reverse waiting) all → Walks steps [] roots all
   pub few : length met + unmet flags ≡ length steps
 
-pub walked_none : (steps : List Step) (roots : List ℕ) (flags : List Bool) (met waiting : List ℕ) → flags ≡ replicate (length steps) false → met ≡ [] → waiting ≡ reverse roots → AreWalked steps roots flags met waiting
+pub walked_none : (steps : List Step) (roots : List ℕ) (flags : List Bool) (met waiting : List ℕ) →
+    flags ≡ replicate (length steps) false → met ≡ [] → waiting ≡ reverse roots →
+    AreWalked steps roots flags met waiting
 walked_none steps roots flags met waiting e none one = rw (e, none, one)
     record {
       count = length-replicate (length steps) false;
@@ -195,7 +205,9 @@ walked_none steps roots flags met waiting e none one = rw (e, none, one)
         (all_known ks (λ k here. f k (or_right (nat_eq x k) (is_in ks k) here)))
 
 -- a place that was met goes from those that wait
-pub walked_past : (steps : List Step) (roots : List ℕ) (flags : List Bool) (met waiting : List ℕ) (p : ℕ) → AreWalked steps roots flags met (waiting ++ p ∷ []) → get_or flags p false ≡ true → AreWalked steps roots flags met waiting
+pub walked_past : (steps : List Step) (roots : List ℕ) (flags : List Bool) (met waiting : List ℕ) (p : ℕ) →
+    AreWalked steps roots flags met (waiting ++ p ∷ []) → get_or flags p false ≡ true →
+    AreWalked steps roots flags met waiting
 walked_past steps roots flags met waiting p h was =
     record {
       count = h.count;
@@ -221,7 +233,9 @@ some_one : {x y : Step} → Some x ≡ Some y → x ≡ y
 some_one e = cc
 
 -- a place is met, and what is behind it waits
-pub walked_on : (steps : List Step) (roots : List ℕ) (flags : List Bool) (met waiting : List ℕ) (p : ℕ) (s : Step) → AreWalked steps roots flags met (waiting ++ p ∷ []) → get_or flags p false ≡ false → slice_get steps p ≡ Some s → p < length flags
+pub walked_on : (steps : List Step) (roots : List ℕ) (flags : List Bool) (met waiting : List ℕ) (p : ℕ) (s : Step) →
+    AreWalked steps roots flags met (waiting ++ p ∷ []) → get_or flags p false ≡ false → slice_get steps p ≡ Some s →
+    p < length flags
     → AreWalked steps roots (set flags p true) (met ++ p ∷ []) (waiting ++ reverse (places_behind s.edges.items))
 walked_on steps roots flags met waiting p s h was at low =
     record {
@@ -280,13 +294,17 @@ low_behind n k (Both new old) lt below = refl
 low_behind n k (To place) lt below = lt-ltb place.0 n (omega (arith, ltb-true place.0 k below))
 
 -- what is behind the edges of a place is a place
-pub low_passes : (steps : List Step) → all_lead_back 0 steps ≡ true → (k : ℕ) (s : Step) → nat_lt k (length steps) ≡ true → slice_get steps k ≡ Some s → holds_of_edges (λ j. nat_lt j (length steps)) s.edges.items ≡ true
+pub low_passes : (steps : List Step) → all_lead_back 0 steps ≡ true → (k : ℕ) (s : Step) →
+    nat_lt k (length steps) ≡ true → slice_get steps k ≡ Some s →
+    holds_of_edges (λ j. nat_lt j (length steps)) s.edges.items ≡ true
 low_passes steps back k s here at =
     all_weaker (λ e. is_below k e.next) (λ e. holds_behind (λ j. nat_lt j (length steps)) e.next) (λ e. low_behind (length steps) k e.next (ltb-true k (length steps) here)) s.edges.items
     (subst (λ (n : ℕ). all_below n s.edges.items ≡ true) (let e : 0 + k ≡ k = omega arith in e) (back_at 0 steps k s back at))
 
 -- places that are met or wait are places of the steps
-pub walked_low : (steps : List Step) (roots : List ℕ) (flags : List Bool) (met waiting : List ℕ) → AreWalked steps roots flags met waiting → all_lead_back 0 steps ≡ true → all_within (length steps) roots ≡ true → list_all (λ k. nat_lt k (length steps)) waiting ≡ true
+pub walked_low : (steps : List Step) (roots : List ℕ) (flags : List Bool) (met waiting : List ℕ) →
+    AreWalked steps roots flags met waiting → all_lead_back 0 steps ≡ true → all_within (length steps) roots ≡ true →
+    list_all (λ k. nat_lt k (length steps)) waiting ≡ true
 walked_low steps roots flags met waiting h back low = (h.reached (λ k. nat_lt k (length steps)) low (low_passes steps back)).1
 
 -- nothing waits any more
@@ -304,13 +322,17 @@ walked_all steps roots flags met h =
     over k known = elim (or_cases (is_in met k) false known) [ inl here ↦ here | inr no_more ↦ absurd (false≢true no_more) ]
 
 -- the place that waited last is a place of the steps
-pub place_low : (steps : List Step) (roots : List ℕ) (flags : List Bool) (met waiting rest : List ℕ) (p : ℕ) → AreWalked steps roots flags met waiting → waiting ≡ rest ++ p ∷ [] → all_lead_back 0 steps ≡ true → all_within (length steps) roots ≡ true → p < length steps
+pub place_low : (steps : List Step) (roots : List ℕ) (flags : List Bool) (met waiting rest : List ℕ) (p : ℕ) →
+    AreWalked steps roots flags met waiting → waiting ≡ rest ++ p ∷ [] → all_lead_back 0 steps ≡ true →
+    all_within (length steps) roots ≡ true → p < length steps
 place_low steps roots flags met waiting rest p h e back low =
     let all = subst (λ (ws : List ℕ). list_all (λ k. nat_lt k (length steps)) ws ≡ true) e (walked_low steps roots flags met waiting h back low) in
     ltb-true p (length steps) (and_parts (nat_lt p (length steps)) true (all_front (λ k. nat_lt k (length steps)) rest (p ∷ []) all).1).0
 
 -- less is left to do where a place is met
-pub work_less : (flags : List Bool) (steps : List Step) (p : ℕ) (s : Step) (waiting rest new : List ℕ) → p < length flags → get_or flags p false ≡ false → slice_get steps p ≡ Some s → waiting ≡ rest ++ p ∷ [] → new ≡ rest ++ reverse (places_behind s.edges.items)
+pub work_less : (flags : List Bool) (steps : List Step) (p : ℕ) (s : Step) (waiting rest new : List ℕ) →
+    p < length flags → get_or flags p false ≡ false → slice_get steps p ≡ Some s → waiting ≡ rest ++ p ∷ [] →
+    new ≡ rest ++ reverse (places_behind s.edges.items)
     → work (set flags p true) steps + length new < work flags steps + length waiting
 work_less flags steps p s waiting rest new low was at e f =
     omega (arith, work_set flags steps p s low was at, ap length e, length-append rest (p ∷ []), ap length f, length-append rest (reverse (places_behind s.edges.items)), length-reverse (places_behind s.edges.items), length-places_behind s.edges.items)

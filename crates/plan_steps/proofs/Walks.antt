@@ -37,7 +37,8 @@ behind_none (Both new old) off = refl
 behind_none (To place) off = absurd (off place refl)
 
 -- one edge more
-pub behind_more : (old waiting : List ℕ) (es : List PlanEdge) (e : PlanEdge) (next : Next) → e.next ≡ next → waiting ≡ old ++ places_behind es → waiting ++ place_behind next [] ≡ old ++ places_behind (es ++ e ∷ [])
+pub behind_more : (old waiting : List ℕ) (es : List PlanEdge) (e : PlanEdge) (next : Next) → e.next ≡ next →
+    waiting ≡ old ++ places_behind es → waiting ++ place_behind next [] ≡ old ++ places_behind (es ++ e ∷ [])
 behind_more old waiting es e next is before =
     ap (λ ws. ws ++ place_behind next []) before
     ∙ (append_assoc old (places_behind es) (place_behind next [])

@@ -6,8 +6,8 @@ use Rattle.vocabulary.specs.declared.calls.Reply.{Reply}
 use Rattle.vocabulary.specs.declared.plans.PidNote.{PidNote}
 use Rattle.vocabulary.specs.declared.plans.End.{End}
 use Rattle.vocabulary.specs.declared.plans.End.TheVariants.{Done, RolledBack, ShortOld, ShortTarget, Split, JoinReady, JoinBack, Join}
-use Rattle.call_laws.specs.Pieces.{branch}
-use Rattle.definitions.specs.Tree.{Tree, Branches, Ends, Does, Nothing, Branch, among}
+use Rattle.call_laws.specs.Pieces.{branch, among}
+use Rattle.definitions.specs.Run.{Tree, Branches, Ends, Does, Nothing, Branch}
 use Rattle.call_laws.specs.Lengths.{height, highest}
 use Rattle.plan_steps.specs.Fit.{is_fit, are_fit, short_after}
 use Rattle.call_replies.specs.Replies.{order_replies}
@@ -31,25 +31,34 @@ mutual
   graft_highest then m le (Branch replies said rest more) = omega (arith, graft_height then m le rest, graft_highest then m le more)
 
 mutual
-  beside_high : (goes : List Turn → Tree → Tree) (a m : ℕ) → ((turns : List Turn) (old : Tree) → height (goes turns old) ≤ a + height old + m) → (turns : List Turn) (old : Tree) → height (beside goes turns old) ≤ a + height old + m
+  beside_high : (goes : List Turn → Tree → Tree) (a m : ℕ) →
+      ((turns : List Turn) (old : Tree) → height (goes turns old) ≤ a + height old + m) →
+      (turns : List Turn) (old : Tree) → height (beside goes turns old) ≤ a + height old + m
   beside_high goes a m le turns (Ends end) = le turns (Ends end)
   beside_high goes a m le [] (Does by order set branches) = le [] (Does by order set branches)
   beside_high goes a m le (New ∷ turns) (Does by order set branches) = le turns (Does by order set branches)
   beside_high goes a m le (Old ∷ turns) (Does by order set branches) = omega (arith, beside_highest goes a m le turns branches)
 
-  beside_highest : (goes : List Turn → Tree → Tree) (a m : ℕ) → ((turns : List Turn) (old : Tree) → height (goes turns old) ≤ a + height old + m) → (turns : List Turn) (bs : Branches) → highest (beside_all goes turns bs) ≤ a + highest bs + m
+  beside_highest : (goes : List Turn → Tree → Tree) (a m : ℕ) →
+      ((turns : List Turn) (old : Tree) → height (goes turns old) ≤ a + height old + m) →
+      (turns : List Turn) (bs : Branches) → highest (beside_all goes turns bs) ≤ a + highest bs + m
   beside_highest goes a m le turns Nothing = omega arith
   beside_highest goes a m le turns (Branch replies said rest more) = omega (arith, beside_high goes a m le turns rest, beside_highest goes a m le turns more)
 
 mutual
-  weave_height : (join : End → Tree) (m : ℕ) → ((e : End) → height (join e) ≤ m) → (new : Tree) (turns : List Turn) (old : Tree) → height (weave join new turns old) ≤ height new + height old + m
+  weave_height : (join : End → Tree) (m : ℕ) → ((e : End) → height (join e) ≤ m) →
+      (new : Tree) (turns : List Turn) (old : Tree) → height (weave join new turns old) ≤ height new + height old + m
   weave_height join m le (Ends end) turns old = omega (arith, graft_height (λ e. join end) m (λ e. le end) old)
   weave_height join m le (Does by order set branches) turns old =
-      beside_high (λ later still. Does by order set (weave_all join branches later still)) (suc (highest branches)) m (λ later still. omega (arith, weave_highest join m le branches later still)) turns old
+      beside_high (λ later still. Does by order set (weave_all join branches later still)) (suc (highest branches)) m
+      (λ later still. omega (arith, weave_highest join m le branches later still)) turns old
 
-  weave_highest : (join : End → Tree) (m : ℕ) → ((e : End) → height (join e) ≤ m) → (bs : Branches) (turns : List Turn) (old : Tree) → highest (weave_all join bs turns old) ≤ highest bs + height old + m
+  weave_highest : (join : End → Tree) (m : ℕ) → ((e : End) → height (join e) ≤ m) →
+      (bs : Branches) (turns : List Turn) (old : Tree) →
+      highest (weave_all join bs turns old) ≤ highest bs + height old + m
   weave_highest join m le Nothing turns old = omega arith
-  weave_highest join m le (Branch replies said rest more) turns old = omega (arith, weave_height join m le rest turns old, weave_highest join m le more turns old)
+  weave_highest join m le (Branch replies said rest more) turns old =
+      omega (arith, weave_height join m le rest turns old, weave_highest join m le more turns old)
 
 joined_height : (ready back : Tree) (e : End) → height (joined ready back e) ≤ max (height ready) (height back)
 joined_height ready back Done = omega arith
@@ -79,18 +88,22 @@ mutual
       none_left zero h = refl
       none_left (suc n) h = absurd (omega (arith, h))
 
-  off_highest : (ready back new old : Tree) (turns : List Turn) (bs : Branches) → farthest bs ≡ 0 → highest (graft_all (part_end ready back new old turns) bs) ≤ highest bs
+  off_highest : (ready back new old : Tree) (turns : List Turn) (bs : Branches) → farthest bs ≡ 0 →
+      highest (graft_all (part_end ready back new old turns) bs) ≤ highest bs
   off_highest ready back new old turns Nothing off = omega arith
   off_highest ready back new old turns (Branch replies said rest more) off =
       omega (arith, off_height ready back new old turns rest (omega (arith, off)), off_highest ready back new old turns more (omega (arith, off)))
 
-one_higher : (n high tall behind m : ℕ) → (n ≡ 0 → high ≤ tall) → high ≤ (n - 1) + max m behind → suc high ≤ (one_more n - 1) + max m (beside_height (one_more n) (suc tall) behind)
+one_higher : (n high tall behind m : ℕ) → (n ≡ 0 → high ≤ tall) → high ≤ (n - 1) + max m behind →
+    suc high ≤ (one_more n - 1) + max m (beside_height (one_more n) (suc tall) behind)
 one_higher zero high tall behind m off on = omega (arith, off refl)
 one_higher (suc n) high tall behind m off on = omega (arith, on)
 
 -- what leads to the parts is as high as what lies before them, and the higher of them and what lies aside
 mutual
-  on_height : (ready back new old : Tree) (turns : List Turn) (m : ℕ) → height (weave (joined ready back) new turns old) ≤ m → (t : Tree) → height (graft (part_end ready back new old turns) t) ≤ (to_split t - 1) + max m (aside t)
+  on_height : (ready back new old : Tree) (turns : List Turn) (m : ℕ) →
+      height (weave (joined ready back) new turns old) ≤ m → (t : Tree) →
+      height (graft (part_end ready back new old turns) t) ≤ (to_split t - 1) + max m (aside t)
   on_height ready back new old turns m le (Ends Done) = omega arith
   on_height ready back new old turns m le (Ends RolledBack) = omega arith
   on_height ready back new old turns m le (Ends ShortOld) = omega arith
@@ -100,11 +113,16 @@ mutual
   on_height ready back new old turns m le (Ends JoinBack) = omega arith
   on_height ready back new old turns m le (Ends Join) = omega arith
   on_height ready back new old turns m le (Does by order set branches) =
-      one_higher (farthest branches) (highest (graft_all (part_end ready back new old turns) branches)) (highest branches) (asides branches) m (off_highest ready back new old turns branches) (on_highest ready back new old turns m le branches)
+      one_higher (farthest branches) (highest (graft_all (part_end ready back new old turns) branches))
+      (highest branches) (asides branches) m (off_highest ready back new old turns branches)
+      (on_highest ready back new old turns m le branches)
 
-  on_highest : (ready back new old : Tree) (turns : List Turn) (m : ℕ) → height (weave (joined ready back) new turns old) ≤ m → (bs : Branches) → highest (graft_all (part_end ready back new old turns) bs) ≤ (farthest bs - 1) + max m (asides bs)
+  on_highest : (ready back new old : Tree) (turns : List Turn) (m : ℕ) →
+      height (weave (joined ready back) new turns old) ≤ m → (bs : Branches) →
+      highest (graft_all (part_end ready back new old turns) bs) ≤ (farthest bs - 1) + max m (asides bs)
   on_highest ready back new old turns m le Nothing = omega arith
-  on_highest ready back new old turns m le (Branch replies said rest more) = omega (arith, on_height ready back new old turns m le rest, on_highest ready back new old turns m le more)
+  on_highest ready back new old turns m le (Branch replies said rest more) =
+      omega (arith, on_height ready back new old turns m le rest, on_highest ready back new old turns m le more)
 
 -- no order of turns makes a path longer
 pub woven_height : (steps : List Step) (parts : Option Parts) (turns : List Turn) → height (woven steps parts turns) ≤ length_in steps parts
@@ -116,7 +134,12 @@ woven_height steps (Some p) turns =
     let old = tree_behind steps (To p.old) in
     let first = first_tree steps in
     let most = height new + height old + max (height ready) (height back) in
-    omega (arith, on_height ready back new old turns most (weave_height (joined ready back) (max (height ready) (height back)) (joined_height ready back) new turns old) first)
+    omega (
+      arith,
+      on_height ready back new old turns most
+          (weave_height (joined ready back) (max (height ready) (height back))
+          (joined_height ready back) new turns old) first,
+    )
 
 -- ---- replies
 
@@ -128,20 +151,26 @@ on_rest f (Some e) = Some (e.0, f e.1)
 abbrev pub picked : Bool → Option (Option PidNote × Tree) → Option (Option PidNote × Tree) → Option (Option PidNote × Tree)
 picked b found others = elim b as (λ _. Option (Option PidNote × Tree)) [ true ↦ found | false ↦ others ]
 
-pick_rest : (f : Tree → Tree) (b : Bool) (said : Option PidNote) (rest : Tree) (x y : Option (Option PidNote × Tree)) → x ≡ on_rest f y → picked b (Some (said, f rest)) x ≡ on_rest f (picked b (Some (said, rest)) y)
+pick_rest : (f : Tree → Tree) (b : Bool) (said : Option PidNote) (rest : Tree) (x y : Option (Option PidNote × Tree)) →
+    x ≡ on_rest f y → picked b (Some (said, f rest)) x ≡ on_rest f (picked b (Some (said, rest)) y)
 pick_rest f true said rest x y e = refl
 pick_rest f false said rest x y e = e
 
 pub graft_branch : (then : End → Tree) (bs : Branches) (r : Reply) → branch (graft_all then bs) r ≡ on_rest (graft then) (branch bs r)
 graft_branch then Nothing r = refl
-graft_branch then (Branch replies said rest more) r = pick_rest (graft then) (among replies r) said rest (branch (graft_all then more) r) (branch more r) (graft_branch then more r)
+graft_branch then (Branch replies said rest more) r =
+    pick_rest (graft then) (among replies r) said rest (branch (graft_all then more) r) (branch more r)
+    (graft_branch then more r)
 
-pub weave_branch : (join : End → Tree) (bs : Branches) (turns : List Turn) (old : Tree) (r : Reply) → branch (weave_all join bs turns old) r ≡ on_rest (λ t. weave join t turns old) (branch bs r)
+pub weave_branch : (join : End → Tree) (bs : Branches) (turns : List Turn) (old : Tree) (r : Reply) →
+    branch (weave_all join bs turns old) r ≡ on_rest (λ t. weave join t turns old) (branch bs r)
 weave_branch join Nothing turns old r = refl
 weave_branch join (Branch replies said rest more) turns old r =
-    pick_rest (λ t. weave join t turns old) (among replies r) said rest (branch (weave_all join more turns old) r) (branch more r) (weave_branch join more turns old r)
+    pick_rest (λ t. weave join t turns old) (among replies r) said rest (branch (weave_all join more turns old) r)
+    (branch more r) (weave_branch join more turns old r)
 
-pub beside_branch : (goes : List Turn → Tree → Tree) (turns : List Turn) (bs : Branches) (r : Reply) → branch (beside_all goes turns bs) r ≡ on_rest (beside goes turns) (branch bs r)
+pub beside_branch : (goes : List Turn → Tree → Tree) (turns : List Turn) (bs : Branches) (r : Reply) →
+    branch (beside_all goes turns bs) r ≡ on_rest (beside goes turns) (branch bs r)
 beside_branch goes turns Nothing r = refl
 beside_branch goes turns (Branch replies said rest more) r =
     pick_rest (beside goes turns) (among replies r) said rest (branch (beside_all goes turns more) r) (branch more r) (beside_branch goes turns more r)
@@ -165,10 +194,13 @@ mutual
   graft_answers then ends (Does by order set branches) h =
       let parts = and_parts (list_all (λ r. is_some (branch branches r)) (order_replies order)) (all_answer branches) h in
       and_from (list_all (λ r. is_some (branch (graft_all then branches) r)) (order_replies order)) (all_answer (graft_all then branches))
-      (alike (λ r. is_some (branch branches r)) (λ r. is_some (branch (graft_all then branches) r)) (λ r has. ap is_some (graft_branch then branches r) ∙ (some_rest (graft then) (branch branches r) ∙ has)) (order_replies order) parts.0)
+      (alike (λ r. is_some (branch branches r)) (λ r. is_some (branch (graft_all then branches) r))
+      (λ r has. ap is_some (graft_branch then branches r) ∙ (some_rest (graft then) (branch branches r) ∙ has))
+      (order_replies order) parts.0)
       (graft_all_answer then ends branches parts.1)
 
-  graft_all_answer : (then : End → Tree) → ((e : End) → answers (then e) ≡ true) → (bs : Branches) → all_answer bs ≡ true → all_answer (graft_all then bs) ≡ true
+  graft_all_answer : (then : End → Tree) → ((e : End) → answers (then e) ≡ true) → (bs : Branches) →
+      all_answer bs ≡ true → all_answer (graft_all then bs) ≡ true
   graft_all_answer then ends Nothing h = refl
   graft_all_answer then ends (Branch replies said rest more) h =
       let parts = and_parts (list_all (λ r. answers rest) replies) (all_answer more) h in
@@ -177,17 +209,23 @@ mutual
       (graft_all_answer then ends more parts.1)
 
 mutual
-  beside_answers : (goes : List Turn → Tree → Tree) → ((turns : List Turn) (old : Tree) → answers old ≡ true → answers (goes turns old) ≡ true) → (turns : List Turn) (old : Tree) → answers old ≡ true → answers (beside goes turns old) ≡ true
+  beside_answers : (goes : List Turn → Tree → Tree) →
+      ((turns : List Turn) (old : Tree) → answers old ≡ true → answers (goes turns old) ≡ true) →
+      (turns : List Turn) (old : Tree) → answers old ≡ true → answers (beside goes turns old) ≡ true
   beside_answers goes on turns (Ends end) h = on turns (Ends end) h
   beside_answers goes on [] (Does by order set branches) h = on [] (Does by order set branches) h
   beside_answers goes on (New ∷ turns) (Does by order set branches) h = on turns (Does by order set branches) h
   beside_answers goes on (Old ∷ turns) (Does by order set branches) h =
       let parts = and_parts (list_all (λ r. is_some (branch branches r)) (order_replies order)) (all_answer branches) h in
       and_from (list_all (λ r. is_some (branch (beside_all goes turns branches) r)) (order_replies order)) (all_answer (beside_all goes turns branches))
-      (alike (λ r. is_some (branch branches r)) (λ r. is_some (branch (beside_all goes turns branches) r)) (λ r has. ap is_some (beside_branch goes turns branches r) ∙ (some_rest (beside goes turns) (branch branches r) ∙ has)) (order_replies order) parts.0)
+      (alike (λ r. is_some (branch branches r)) (λ r. is_some (branch (beside_all goes turns branches) r))
+      (λ r has. ap is_some (beside_branch goes turns branches r) ∙
+      (some_rest (beside goes turns) (branch branches r) ∙ has)) (order_replies order) parts.0)
       (beside_all_answer goes on turns branches parts.1)
 
-  beside_all_answer : (goes : List Turn → Tree → Tree) → ((turns : List Turn) (old : Tree) → answers old ≡ true → answers (goes turns old) ≡ true) → (turns : List Turn) (bs : Branches) → all_answer bs ≡ true → all_answer (beside_all goes turns bs) ≡ true
+  beside_all_answer : (goes : List Turn → Tree → Tree) →
+      ((turns : List Turn) (old : Tree) → answers old ≡ true → answers (goes turns old) ≡ true) →
+      (turns : List Turn) (bs : Branches) → all_answer bs ≡ true → all_answer (beside_all goes turns bs) ≡ true
   beside_all_answer goes on turns Nothing h = refl
   beside_all_answer goes on turns (Branch replies said rest more) h =
       let parts = and_parts (list_all (λ r. answers rest) replies) (all_answer more) h in
@@ -196,17 +234,24 @@ mutual
       (beside_all_answer goes on turns more parts.1)
 
 mutual
-  pub weave_answers : (join : End → Tree) → ((e : End) → answers (join e) ≡ true) → (new : Tree) (turns : List Turn) (old : Tree) → answers new ≡ true → answers old ≡ true → answers (weave join new turns old) ≡ true
+  pub weave_answers : (join : End → Tree) → ((e : End) → answers (join e) ≡ true) →
+      (new : Tree) (turns : List Turn) (old : Tree) → answers new ≡ true → answers old ≡ true →
+      answers (weave join new turns old) ≡ true
   weave_answers join ends (Ends end) turns old h k = graft_answers (λ e. join end) (λ e. ends end) old k
   weave_answers join ends (Does by order set branches) turns old h k =
       let parts = and_parts (list_all (λ r. is_some (branch branches r)) (order_replies order)) (all_answer branches) h in
       beside_answers (λ later still. Does by order set (weave_all join branches later still))
       (λ later still on.
-      and_from (list_all (λ r. is_some (branch (weave_all join branches later still) r)) (order_replies order)) (all_answer (weave_all join branches later still))
-      (alike (λ r. is_some (branch branches r)) (λ r. is_some (branch (weave_all join branches later still) r)) (λ r has. ap is_some (weave_branch join branches later still r) ∙ (some_rest (λ t. weave join t later still) (branch branches r) ∙ has)) (order_replies order) parts.0)
+      and_from (list_all (λ r. is_some (branch (weave_all join branches later still) r)) (order_replies order))
+      (all_answer (weave_all join branches later still))
+      (alike (λ r. is_some (branch branches r)) (λ r. is_some (branch (weave_all join branches later still) r))
+      (λ r has. ap is_some (weave_branch join branches later still r) ∙
+      (some_rest (λ t. weave join t later still) (branch branches r) ∙ has)) (order_replies order) parts.0)
       (weave_all_answer join ends branches later still parts.1 on)) turns old k
 
-  weave_all_answer : (join : End → Tree) → ((e : End) → answers (join e) ≡ true) → (bs : Branches) (turns : List Turn) (old : Tree) → all_answer bs ≡ true → answers old ≡ true → all_answer (weave_all join bs turns old) ≡ true
+  weave_all_answer : (join : End → Tree) → ((e : End) → answers (join e) ≡ true) →
+      (bs : Branches) (turns : List Turn) (old : Tree) → all_answer bs ≡ true → answers old ≡ true →
+      all_answer (weave_all join bs turns old) ≡ true
   weave_all_answer join ends Nothing turns old h k = refl
   weave_all_answer join ends (Branch replies said rest more) turns old h k =
       let parts = and_parts (list_all (λ r. answers rest) replies) (all_answer more) h in
@@ -224,7 +269,8 @@ joined_answers ready back h k JoinReady = h
 joined_answers ready back h k JoinBack = k
 joined_answers ready back h k Join = k
 
-part_answers : (ready back new old : Tree) (turns : List Turn) → answers ready ≡ true → answers back ≡ true → answers new ≡ true → answers old ≡ true → (e : End) → answers (part_end ready back new old turns e) ≡ true
+part_answers : (ready back new old : Tree) (turns : List Turn) → answers ready ≡ true → answers back ≡ true →
+    answers new ≡ true → answers old ≡ true → (e : End) → answers (part_end ready back new old turns e) ≡ true
 part_answers ready back new old turns a b c d Done = refl
 part_answers ready back new old turns a b c d RolledBack = refl
 part_answers ready back new old turns a b c d ShortOld = refl

@@ -2,7 +2,7 @@
 use Rattle.std.specs.Prelude.{ℕ, List, length, map}
 use Rattle.listener_set.specs.declared.generation.Generation.{Generation}
 use Rattle.definitions.specs.Calls.{Call}
-use Rattle.definitions.specs.Crew.{fork_of}
+use Rattle.definitions.specs.Master.{fork_of}
 use Rattle.vocabulary.specs.declared.calls.Call.TheVariants as call
 use Rattle.plan_steps.specs.declared.batch.Errand.{Errand}
 use Rattle.plan_steps.specs.declared.batch.Errand.TheVariants as asked

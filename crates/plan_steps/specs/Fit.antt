@@ -6,7 +6,7 @@ use Rattle.vocabulary.specs.declared.calls.Reply.TheVariants as reply
 use Rattle.vocabulary.specs.declared.plans.Order.{Order}
 use Rattle.vocabulary.specs.declared.plans.Order.TheVariants.{Make}
 use Rattle.call_laws.specs.Pieces.{branch}
-use Rattle.definitions.specs.Tree.{Tree, Branches, Ends, Does, Nothing, Branch}
+use Rattle.definitions.specs.Run.{Tree, Branches, Ends, Does, Nothing, Branch}
 use Rattle.call_replies.specs.Replies.{order_replies}
 
 abbrev pub names_lacking : Order → Bool

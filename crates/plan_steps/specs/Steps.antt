@@ -4,7 +4,8 @@ use Rattle.std.specs.List.{list_all, find}
 use Rattle.vocabulary.specs.declared.calls.Reply.{Reply}
 use Rattle.vocabulary.specs.declared.plans.Order.{Order}
 use Rattle.vocabulary.specs.declared.plans.End.TheVariants.{Done, Split}
-use Rattle.definitions.specs.Tree.{Tree, Branches, Ends, Does, Nothing, Branch, among}
+use Rattle.definitions.specs.Run.{Tree, Branches, Ends, Does, Nothing, Branch}
+use Rattle.call_laws.specs.Pieces.{among}
 use Rattle.plan_steps.specs.declared.step.Next.{Next}
 use Rattle.plan_steps.specs.declared.step.Next.TheVariants.{To, Over, Both}
 use Rattle.plan_steps.specs.declared.step.PlanEdge.{PlanEdge}

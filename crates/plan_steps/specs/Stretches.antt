@@ -1,11 +1,12 @@
 -- How a plan with two parts numbers the places of a draft: the steps before the parts, the new master's part, the old one's, and
 -- the rest, each as a plan of one part numbers its places.
-use Rattle.std.specs.Prelude.{◌≡◌, Some, ◌≤◌, ◌<◌, ℕ, zero, suc, ◌+◌, ◌-◌, max, Bool, true, false, ◌&&◌, List, [], ◌∷◌, ◌++◌, slice_get, slice_index, nat_lt, nat_eq, length, filter}
+use Rattle.std.specs.Prelude.{◌≡◌, Some, ◌≤◌, ◌<◌, ℕ, zero, suc, ◌+◌, ◌-◌, max, Bool, true, false, ◌&&◌, List, [], ◌∷◌}
+use Rattle.std.specs.Prelude.{◌++◌, slice_get, slice_index, nat_lt, nat_eq, length, filter}
 use Rattle.std.specs.List.{list_all}
 use Rattle.listener_set.specs.Numbers.{is_in}
 use Rattle.vocabulary.specs.declared.plans.End.{End}
 use Rattle.vocabulary.specs.declared.plans.End.TheVariants.{Split, JoinReady, JoinBack, Join}
-use Rattle.definitions.specs.Tree.{Tree, Branches, Ends, Does, Nothing, Branch}
+use Rattle.definitions.specs.Run.{Tree, Branches, Ends, Does, Nothing, Branch}
 use Rattle.call_laws.specs.Lengths.{height}
 use Rattle.plan_steps.specs.declared.step.Next.{Next}
 use Rattle.plan_steps.specs.declared.step.Next.TheVariants.{To, Over, Both}
@@ -248,4 +249,6 @@ longest_of first new old ready back = (to_split first - 1) + height new + height
 
 -- the same of a draft's places
 abbrev pub longest_at : List Step → ℕ → Parts → ℕ
-longest_at steps first parts = longest_of (at_place steps first) (at_place steps parts.new.0) (at_place steps parts.old.0) (at_place steps parts.ready.0) (at_place steps parts.back.0)
+longest_at steps first parts =
+    longest_of (at_place steps first) (at_place steps parts.new.0) (at_place steps parts.old.0)
+    (at_place steps parts.ready.0) (at_place steps parts.back.0)

@@ -4,7 +4,7 @@ use Rattle.std.specs.List.{list_all}
 use Rattle.vocabulary.specs.declared.plans.End.{End}
 use Rattle.vocabulary.specs.declared.plans.End.TheVariants.{Split}
 use Rattle.call_laws.specs.Pieces.{branch}
-use Rattle.definitions.specs.Tree.{Tree, Branches, Ends, Does, Nothing, Branch}
+use Rattle.definitions.specs.Run.{Tree, Branches, Ends, Does, Nothing, Branch}
 use Rattle.call_laws.specs.Lengths.{height}
 use Rattle.call_replies.specs.Replies.{order_replies}
 use Rattle.definitions.specs.Plans.{Turn, graft, weave, joined}
@@ -27,7 +27,8 @@ part_end ready back new old turns end = Ends end
 abbrev pub woven_behind : List Step → Option Parts → Next → List Turn → Tree
 woven_behind steps None next turns = tree_behind steps next
 woven_behind steps (Some p) next turns =
-    graft (part_end (tree_behind steps (To p.ready)) (tree_behind steps (To p.back)) (tree_behind steps (To p.new)) (tree_behind steps (To p.old)) turns) (tree_behind steps next)
+    graft (part_end (tree_behind steps (To p.ready)) (tree_behind steps (To p.back)) (tree_behind steps (To p.new))
+    (tree_behind steps (To p.old)) turns) (tree_behind steps next)
 
 -- the tree of a plan's steps
 abbrev pub woven : List Step → Option Parts → List Turn → Tree
@@ -65,7 +66,10 @@ abbrev mutual
 abbrev pub plan_answers : List Step → Option Parts → Bool
 plan_answers steps None = answers (first_tree steps)
 plan_answers steps (Some p) =
-    answers (first_tree steps) && (answers (tree_behind steps (To p.new)) && (answers (tree_behind steps (To p.old)) && (answers (tree_behind steps (To p.ready)) && answers (tree_behind steps (To p.back)))))
+    answers (first_tree steps)
+    && (answers (tree_behind steps (To p.new))
+    && (answers (tree_behind steps (To p.old))
+    && (answers (tree_behind steps (To p.ready)) && answers (tree_behind steps (To p.back)))))
 
 ---- Numbers
 

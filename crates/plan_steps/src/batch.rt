@@ -1,6 +1,6 @@
 //! Calls of one kind.
 ghost use Rattle.std.specs.Prelude.{◌≡◌, ◌<◌, Some, length, slice_get};
-ghost use Rattle.definitions.specs.Crew.{fork_of};
+ghost use Rattle.definitions.specs.Master.{fork_of};
 ghost use Rattle.plan_steps.specs.Batches.{asked_call, calls_of, size_of};
 
 use listener_set::{Address, Generation};

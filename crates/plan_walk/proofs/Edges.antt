@@ -17,12 +17,11 @@ use Rattle.vocabulary.specs.declared.plans.PidNote.{PidNote}
 use Rattle.vocabulary.specs.declared.plans.Order.{Order}
 use Rattle.vocabulary.specs.declared.plans.Order.TheVariants.{Make, ForkLacking, AwaitLacking, KillLacking}
 use Rattle.vocabulary.specs.declared.reports.Entry.{Entry}
-use Rattle.definitions.specs.Tree.{Tree, Ends, Does, Branches, Nothing, Branch, among, same_reply, reply_of}
-use Rattle.definitions.specs.Tree.{full_or_short, replies_to, call_of}
+use Rattle.definitions.specs.Run.{Tree, Ends, Does, Branches, Nothing, Branch, same_reply, reply_of, call_of}
+use Rattle.definitions.specs.Run.{ready_after, Lack, lacked_by, lacked_after}
+use Rattle.call_laws.specs.Pieces.{among, full_or_short, went_wrong, first_cause, branch, replies_to}
 use Rattle.call_laws.specs.Lengths.{height, highest}
 use Rattle.call_replies.specs.Replies.{is_listed, order_replies}
-use Rattle.definitions.specs.Run.{ready_after, Lack, lacked_by, lacked_after, went_wrong}
-use Rattle.call_laws.specs.Pieces.{first_cause, branch}
 use Rattle.plan_walk.specs.Path.{Trail, advance, Asks}
 use Rattle.rollback_plan.specs.Following.{follow}
 use Rattle.plan_steps.specs.declared.step.Step.{Step}
@@ -159,13 +158,15 @@ lower_after (Ends end) a found e = cc
 lower_after (Does by order set branches) a found e = omega (arith, height_branch branches (reply_of set a) found e)
 
 -- an answer that no edge takes is that the master is gone
-pub lost_after : (t : Tree) (lacked : List Lack) (by : ℕ) (c : Call) (a : Answer) → AsksOne t lacked by c → answers t ≡ true → is_listed c a ≡ true → follow (Some t) a ≡ None → a ≡ answer.MasterGone
+pub lost_after : (t : Tree) (lacked : List Lack) (by : ℕ) (c : Call) (a : Answer) → AsksOne t lacked by c →
+    answers t ≡ true → is_listed c a ≡ true → follow (Some t) a ≡ None → a ≡ answer.MasterGone
 lost_after (Ends end) lacked by c a h on listed e = absurd h
 lost_after (Does own order set branches) lacked by c a h on listed e =
     elim (listed_reply c set a listed) [
       | inl gone ↦ gone
       | inr reply ↦
-          let of_order = subst (λ (replies : List Reply). among replies (reply_of set a) ≡ true) (ap replies_to h.1 ∙ replies_of_order (lacked_by own lacked) order) reply in
+          let of_order = subst (λ (replies : List Reply). among replies (reply_of set a) ≡ true)
+          (ap replies_to h.1 ∙ replies_of_order (lacked_by own lacked) order) reply in
           let has = among_has (λ r. is_some (branch branches r)) (order_replies order) (reply_of set a) of_order (and_left _ (all_answer branches) on) in
           absurd (true≢false (sym has ∙ ap is_some e))
     ]
@@ -174,13 +175,24 @@ abbrev pub trail_at : Option Tree → List ℕ → List Lack → PidNote → Opt
 trail_at rest ready lacked note cause made = record { rest = rest; ready = ready; lacked = lacked; note = note; cause = cause; made = made }
 
 -- what an entry makes of a trail, where no edge takes its answer
-pub advanced_lost : (rest : Option Tree) (t : Tree) (set ready ready' : List ℕ) (lacked lacked' : List Lack) (note : PidNote) (cause first : Option ℕ) (made : ℕ) (e : Entry) → rest ≡ Some t → SetIs t set → ready' ≡ ready_after e.answer ready → lacked' ≡ lacked_after e.by set e.answer lacked → first ≡ first_cause cause (went_wrong e.call (reply_of set e.answer)) (made + 1) → follow (Some t) e.answer ≡ None → trail_at None ready' lacked' note first (made + 1) ≡ advance (trail_at rest ready lacked note cause made) e
+pub advanced_lost : (rest : Option Tree) (t : Tree) (set ready ready' : List ℕ) (lacked lacked' : List Lack)
+    (note : PidNote) (cause first : Option ℕ) (made : ℕ) (e : Entry) → rest ≡ Some t → SetIs t set →
+    ready' ≡ ready_after e.answer ready → lacked' ≡ lacked_after e.by set e.answer lacked →
+    first ≡ first_cause cause (went_wrong e.call (reply_of set e.answer)) (made + 1) → follow (Some t) e.answer ≡ None →
+    trail_at None ready' lacked' note first (made + 1) ≡ advance (trail_at rest ready lacked note cause made) e
 advanced_lost rest (Ends end) set ready ready' lacked lacked' note cause first made e is s readies all causes none = absurd s
 advanced_lost rest (Does by order own branches) set ready ready' lacked lacked' note cause first made e is s readies all causes none =
     rw (is, readies, all, causes, s, none) refl
 
 -- and where one does
-pub advanced_on : (rest : Option Tree) (t : Tree) (set ready ready' : List ℕ) (lacked lacked' : List Lack) (note said : PidNote) (cause first : Option ℕ) (made : ℕ) (e : Entry) (found : Option PidNote × Tree) → rest ≡ Some t → SetIs t set → ready' ≡ ready_after e.answer ready → lacked' ≡ lacked_after e.by set e.answer lacked → first ≡ first_cause cause (went_wrong e.call (reply_of set e.answer)) (made + 1) → follow (Some t) e.answer ≡ Some found → said ≡ unwrap_or found.0 note → trail_at (Some found.1) ready' lacked' said first (made + 1) ≡ advance (trail_at rest ready lacked note cause made) e
+pub advanced_on : (rest : Option Tree) (t : Tree) (set ready ready' : List ℕ) (lacked lacked' : List Lack)
+    (note said : PidNote) (cause first : Option ℕ) (made : ℕ) (e : Entry) (found : Option PidNote × Tree) →
+    rest ≡ Some t → SetIs t set → ready' ≡ ready_after e.answer ready →
+    lacked' ≡ lacked_after e.by set e.answer lacked →
+    first ≡ first_cause cause (went_wrong e.call (reply_of set e.answer)) (made + 1) →
+    follow (Some t) e.answer ≡ Some found → said ≡ unwrap_or found.0 note →
+    trail_at (Some found.1) ready' lacked' said first (made + 1)
+    ≡ advance (trail_at rest ready lacked note cause made) e
 advanced_on rest (Ends end) set ready ready' lacked lacked' note said cause first made e found is s readies all causes on notes = absurd s
 advanced_on rest (Does by order own branches) set ready ready' lacked lacked' note said cause first made e found is s readies all causes on notes =
     rw (is, readies, all, causes, s, on, notes) refl
@@ -218,8 +230,11 @@ pub begun_by : (t : Tree) (s : Step) (lacked : List Lack) (e : Entry) → begins
 begun_by (Ends end) s lacked e h asks = absurd asks
 begun_by (Does by order set branches) s lacked e h asks = asks.0 ∙ sym h.0
 
-pub causes_of : (before first : Option ℕ) (number : ℕ) (plain : Bool) (r q r' q' : Reply) → first ≡ first_cause before (not plain) number → plain ≡ same_reply r q → r ≡ r' → q ≡ q' → first ≡ first_cause before (not (same_reply r' q')) number
-causes_of before first number plain r q r' q' e p a b = e ∙ ap (λ x. first_cause before (not x) number) (p ∙ (ap (λ x. same_reply x q) a ∙ ap (same_reply r') b))
+pub causes_of : (before first : Option ℕ) (number : ℕ) (plain : Bool) (r q r' q' : Reply) →
+    first ≡ first_cause before (not plain) number → plain ≡ same_reply r q → r ≡ r' → q ≡ q' →
+    first ≡ first_cause before (not (same_reply r' q')) number
+causes_of before first number plain r q r' q' e p a b =
+    e ∙ ap (λ x. first_cause before (not x) number) (p ∙ (ap (λ x. same_reply x q) a ∙ ap (same_reply r') b))
 
 -- where the rest of a walk is lower, its numbers still fit
 pub still_countable : (made h below : ℕ) → made + below < 2 ^ 32 → h + 1 ≤ below → (made + 1) + h < 2 ^ 32

@@ -18,7 +18,8 @@ same-entry : (whole : List Entry) (e : Entry) (s : Slot) → is_kept (length who
 same-entry whole e (Worker w) h = refl
 same-entry whole e (Whole place) h = let lt : place < length whole = grind (arith, nat_tests) in get_or_append_left whole (e ∷ []) no_entry place lt
 
-pub same-entries : (whole : List Entry) (e : Entry) (slots : List Slot) → are_kept (length whole) slots ≡ true → entries_in (whole ++ e ∷ []) slots ≡ entries_in whole slots
+pub same-entries : (whole : List Entry) (e : Entry) (slots : List Slot) → are_kept (length whole) slots ≡ true →
+    entries_in (whole ++ e ∷ []) slots ≡ entries_in whole slots
 same-entries whole e [] h = refl
 same-entries whole e (s ∷ slots) h =
     let parts = and_parts (is_kept (length whole) s) (are_kept (length whole) slots) h in
@@ -35,14 +36,17 @@ pub kept-more : (n : ℕ) (slots : List Slot) → are_kept n slots ≡ true → 
 kept-more n slots h = all_weaker (is_kept n) (is_kept (n + 1)) (kept-one n) slots h
 
 -- one more that is kept whole
-pub kept-pushed : (n place more : ℕ) (slots longer : List Slot) → place ≡ n → more ≡ n + 1 → longer ≡ slots ++ Whole place ∷ [] → are_kept n slots ≡ true → are_kept more longer ≡ true
+pub kept-pushed : (n place more : ℕ) (slots longer : List Slot) → place ≡ n → more ≡ n + 1 →
+    longer ≡ slots ++ Whole place ∷ [] → are_kept n slots ≡ true → are_kept more longer ≡ true
 kept-pushed n place more slots longer at is pushed h =
     let last : is_kept (n + 1) (Whole n) ≡ true = lt-ltb n (n + 1) (omega arith) in
     ap (λ k. are_kept k longer) is
     ∙ (ap (are_kept (n + 1)) (pushed ∙ ap (λ k. slots ++ Whole k ∷ []) at)
     ∙ (list_all-append (is_kept (n + 1)) slots (Whole n ∷ []) ∙ and_from (are_kept (n + 1) slots) _ (kept-more n slots h) (and_from (is_kept (n + 1) (Whole n)) true last refl)))
 
-pub pushed-whole : (whole longer : List Entry) (e : Entry) (slots more : List Slot) (place : ℕ) → place ≡ length whole → longer ≡ whole ++ e ∷ [] → more ≡ slots ++ Whole place ∷ [] → are_kept (length whole) slots ≡ true → entries_in longer more ≡ entries_in whole slots ++ e ∷ []
+pub pushed-whole : (whole longer : List Entry) (e : Entry) (slots more : List Slot) (place : ℕ) → place ≡ length whole →
+    longer ≡ whole ++ e ∷ [] → more ≡ slots ++ Whole place ∷ [] → are_kept (length whole) slots ≡ true →
+    entries_in longer more ≡ entries_in whole slots ++ e ∷ []
 pushed-whole whole longer e slots more place at is pushed h =
     (λ i. entries_in (is i) ((pushed ∙ ap (λ k. slots ++ Whole k ∷ []) at) i))
     ∙ (map-append (entry_in (whole ++ e ∷ [])) slots (Whole (length whole) ∷ [])
@@ -54,7 +58,9 @@ pushed-whole whole longer e slots more place at is pushed h =
 at-kept : (n : ℕ) (slots : List Slot) (i at : ℕ) → are_kept n slots ≡ true → slice_get slots i ≡ Some (Whole at) → at < n
 at-kept n slots i at kept is = ltb-true at n (all_at (is_kept n) slots i (Whole at) kept is)
 
-pub whole-at : (whole : List Entry) (slots : List Slot) (n i at : ℕ) (s : Slot) (e : Entry) → i < length slots → s ≡ get_or slots i s → s ≡ Whole at → are_kept n slots ≡ true → n ≡ length whole → e ≡ get_or whole at e → slice_get (entries_in whole slots) i ≡ Some e
+pub whole-at : (whole : List Entry) (slots : List Slot) (n i at : ℕ) (s : Slot) (e : Entry) → i < length slots →
+    s ≡ get_or slots i s → s ≡ Whole at → are_kept n slots ≡ true → n ≡ length whole → e ≡ get_or whole at e →
+    slice_get (entries_in whole slots) i ≡ Some e
 whole-at whole slots n i at s e within here says kept count found =
     let slot : slice_get slots i ≡ Some (Whole at) = slice_get_read slots (length slots) i s refl within here ∙ ap Some says in
     let below : at < n = at-kept n slots i at kept slot in

@@ -5,9 +5,8 @@ use Rattle.vocabulary.specs.declared.plans.PidNote.{PidNote}
 use Rattle.vocabulary.specs.declared.reports.Entry.{Entry}
 use Rattle.std.specs.Prelude.{unwrap_or, slice_get}
 use Rattle.definitions.specs.Plans.{Turn, New}
-use Rattle.definitions.specs.Tree.{Tree, Ends, Does}
+use Rattle.definitions.specs.Run.{Tree, Ends, Does, Lack}
 use Rattle.call_laws.specs.Lengths.{height}
-use Rattle.definitions.specs.Run.{Lack}
 use Rattle.plan_walk.specs.Path.{Asks, IsOver}
 use Rattle.rollback_plan.specs.Following.{follow}
 use Rattle.plan_steps.specs.Woven.{answers}
@@ -43,17 +42,23 @@ abbrev pub Leads : Cursor → Turn → Answer → Option PidNote → Cursor → 
 Leads k turn a note rest = (turns : List Turn) → IsTurn k turn turns → follow (Some (rest_under k turns)) a ≡ Some (note, rest_under rest (left_after k turns))
 
 -- the rest answers
-pub rest_answers : (old : Option Cursor) (k rest : Cursor) (turn : Turn) (a : Answer) (note : Option PidNote) → old ≡ Some k → ((turns : List Turn) → answers_next (rest_in old turns) ≡ true) → Leads k turn a note rest → (turns : List Turn) → answers (rest_under rest turns) ≡ true
+pub rest_answers : (old : Option Cursor) (k rest : Cursor) (turn : Turn) (a : Answer) (note : Option PidNote) →
+    old ≡ Some k → ((turns : List Turn) → answers_next (rest_in old turns) ≡ true) → Leads k turn a note rest →
+    (turns : List Turn) → answers (rest_under rest turns) ≡ true
 rest_answers old k rest turn a note is all leads turns =
     let from = earlier k.at turn turns in
     let on = answers_one (rest_in old from.0) (rest_under k from.0) (ap (λ o. rest_in o from.0) is) (all from.0) in
     subst (λ (ts : List Turn). answers (rest_under rest ts) ≡ true) from.2 (answers_after (rest_under k from.0) a (note, rest_under rest (left_after k from.0)) on (leads from.0 from.1))
 
 -- and is lower
-pub rest_lower : (k rest : Cursor) (turn : Turn) (a : Answer) (note : Option PidNote) → Leads k turn a note rest → (turns : List Turn) → IsTurn k turn turns → height (rest_under rest (left_after k turns)) + 1 ≤ height (rest_under k turns)
+pub rest_lower : (k rest : Cursor) (turn : Turn) (a : Answer) (note : Option PidNote) → Leads k turn a note rest →
+    (turns : List Turn) → IsTurn k turn turns →
+    height (rest_under rest (left_after k turns)) + 1 ≤ height (rest_under k turns)
 rest_lower k rest turn a note leads turns first = lower_after (rest_under k turns) a (note, rest_under rest (left_after k turns)) (leads turns first)
 
-pub rest_countable : (made : ℕ) (old : Option Cursor) (k rest : Cursor) (turn : Turn) (a : Answer) (note : Option PidNote) → old ≡ Some k → ((turns : List Turn) → made + height_next (rest_in old turns) < 2 ^ 32) → Leads k turn a note rest → (turns : List Turn) → (made + 1) + height (rest_under rest turns) < 2 ^ 32
+pub rest_countable : (made : ℕ) (old : Option Cursor) (k rest : Cursor) (turn : Turn) (a : Answer)
+    (note : Option PidNote) → old ≡ Some k → ((turns : List Turn) → made + height_next (rest_in old turns) < 2 ^ 32) →
+    Leads k turn a note rest → (turns : List Turn) → (made + 1) + height (rest_under rest turns) < 2 ^ 32
 rest_countable made old k rest turn a note is all leads turns =
     let from = earlier k.at turn turns in
     let below : made + height (rest_under k from.0) < 2 ^ 32 = subst (λ (o : Option Cursor). made + height_next (rest_in o from.0) < 2 ^ 32) is (all from.0) in

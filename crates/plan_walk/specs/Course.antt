@@ -1,7 +1,7 @@
 -- What a contract sees of a course.
 use Rattle.std.specs.Prelude.{List, drop}
 use Rattle.definitions.specs.Plans.{Turn}
-use Rattle.definitions.specs.Run.{Sides}
+use Rattle.definitions.specs.Master.{Sides}
 use Rattle.plan_walk.specs.Path.{Trail}
 use Rattle.plan_walk.specs.declared.course.Course.{Course}
 use Rattle.plan_walk.specs.Walk.{trail_under, sides_in}

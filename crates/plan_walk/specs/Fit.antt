@@ -1,6 +1,6 @@
 -- What keeps an execution going.
 use Rattle.std.specs.Prelude.{ℕ, Bool, true, Option, None, Some}
-use Rattle.definitions.specs.Tree.{Tree}
+use Rattle.definitions.specs.Run.{Tree}
 use Rattle.call_laws.specs.Lengths.{height}
 use Rattle.plan_steps.specs.Woven.{answers}
 

@@ -2,10 +2,10 @@
 use Rattle.std.specs.Prelude.{ℕ, ◌+◌, ◌≡◌, List, [], ◌∷◌, ◌++◌, Option, Some, None, unwrap_or}
 use Rattle.vocabulary.specs.declared.calls.Answer.TheVariants as answer
 use Rattle.vocabulary.specs.declared.reports.Outcome.TheVariants as outcome
-use Rattle.definitions.specs.Tree.{reply_of, Done, PidNote, call_of, Tree, Ends, Does}
-use Rattle.definitions.specs.Run.{Entry, Report, Outcome, Sides, Lack, ready_after}
-use Rattle.definitions.specs.Run.{lacked_by, lacked_last, lacked_after, went_wrong, outcome_of, At}
-use Rattle.call_laws.specs.Pieces.{first_cause}
+use Rattle.definitions.specs.Run.{reply_of, Done, call_of, Tree, Ends, Does, Entry, Report, Outcome, Lack, ready_after}
+use Rattle.definitions.specs.Run.{lacked_by, lacked_after, outcome_of, At}
+use Rattle.definitions.specs.Master.{PidNote, Sides}
+use Rattle.call_laws.specs.Pieces.{lacked_last, went_wrong, first_cause}
 use Rattle.rollback_plan.specs.Following.{follow}
 
 -- How far a path has come: the rest of the tree, or nothing where the last answer had no edge; the last count, and

@@ -2,7 +2,7 @@
 use Rattle.std.specs.Prelude.{List, Option, None, Some}
 use Rattle.std.specs.Option.{option_map}
 use Rattle.definitions.specs.Plans.{Turn}
-use Rattle.definitions.specs.Tree.{Tree}
+use Rattle.definitions.specs.Run.{Tree}
 use Rattle.rollback_plan.specs.declared.cursor.Cursor.{Cursor}
 use Rattle.rollback_plan.specs.Cursors.{rest_under, left_after, IsTurn}
 

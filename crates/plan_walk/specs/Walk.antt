@@ -3,7 +3,8 @@ use Rattle.std.specs.Prelude.{ℕ, List, []}
 use Rattle.vocabulary.specs.declared.calls.Call.{Call}
 use Rattle.vocabulary.specs.declared.calls.Answer.{Answer}
 use Rattle.definitions.specs.Plans.{Turn}
-use Rattle.definitions.specs.Run.{Sides, Entry}
+use Rattle.definitions.specs.Master.{Sides}
+use Rattle.definitions.specs.Run.{Entry}
 use Rattle.plan_walk.specs.Path.{Trail, Asks, IsOver}
 use Rattle.rollback_plan.specs.Bounds.{lacked_in}
 use Rattle.plan_walk.specs.declared.walk.Walk.{Walk}

@@ -2,9 +2,9 @@
 ghost use Rattle.std.specs.Prelude.{◌≡◌, ◌+◌, ◌<◌, ◌≤◌, ◌^◌, ◌↔◌, true, false, List, IsTrue, IfSome, IfNone, None, is_none};
 ghost use Rattle.definitions.specs.Plans.{Turn};
 ghost use Rattle.vocabulary.specs.declared.calls.Answer.TheVariants.{MasterGone};
-ghost use Rattle.definitions.specs.Crew.{shortfalls_of};
+ghost use Rattle.definitions.specs.Master.{shortfalls_of};
 ghost use Rattle.call_laws.specs.Lengths.{height};
-ghost use Rattle.definitions.specs.Run.{lacked_last};
+ghost use Rattle.call_laws.specs.Pieces.{lacked_last};
 ghost use Rattle.call_laws.specs.Pieces.{first_cause};
 ghost use Rattle.rollback_plan.specs.Plans.{tree_under, length_of, note_of, sides_told};
 ghost use Rattle.plan_walk.specs.Fit.{answers_next, height_next};

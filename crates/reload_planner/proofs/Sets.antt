@@ -1,10 +1,12 @@
 -- Sets of numbers, as plans use them.
-use Rattle.std.proofs.Common.{◌≡◌, ℕ, zero, suc, ◌+◌, ◌<◌, ◌≤◌, ◌||◌, ◌&&◌, inl, inr, Bool, true, false, not, cond, filter, nat_eq, List, [], ◌∷◌, ◌++◌, length, length-append, reverse, refl, sym, ◌∙◌, ap, subst, arith, nat_lt}
+use Rattle.std.proofs.Common.{◌≡◌, ℕ, zero, suc, ◌+◌, ◌<◌, ◌≤◌, ◌||◌, ◌&&◌, inl, inr, Bool, true, false, not, cond}
+use Rattle.std.proofs.Common.{filter, nat_eq, List, [], ◌∷◌, ◌++◌, length, length-append, reverse, refl, sym, ◌∙◌, ap}
+use Rattle.std.proofs.Common.{subst, arith, nat_lt}
 use Rattle.std.proofs.lemmas.Bool.{lt-ltb, le-ltb, eq-eqb, ne_eqb, cases_order, cases_eq, cond_both, or_cases, eqb-true}
 use Rattle.std.proofs.lemmas.List.Folds.{list_any-append}
 use Rattle.std.specs.List.{AllByRecursion}
 use Rattle.listener_set.specs.Numbers.{numbers_below, is_in, lacks, RisesFrom, AreBelow, AreNumbers}
-use Rattle.definitions.specs.Crew.{Crew}
+use Rattle.definitions.specs.Master.{Crew}
 use Rattle.definitions.specs.Plans.{workers_tree, mend_tree}
 use Rattle.reload_planner.specs.Changes.{change_tree, repair_tree}
 
@@ -47,7 +49,8 @@ is_in-filter : (p : ℕ → Bool) (ks : List ℕ) (k : ℕ) → is_in (filter p 
 is_in-filter p [] k = refl
 is_in-filter p (x ∷ ks) k = one (p x) refl (is_in-filter p ks k)
   where
-    one : (b : Bool) → p x ≡ b → is_in (filter p ks) k ≡ (is_in ks k && p k) → is_in (cond b (x ∷ filter p ks) (filter p ks)) k ≡ ((nat_eq x k || is_in ks k) && p k)
+    one : (b : Bool) → p x ≡ b → is_in (filter p ks) k ≡ (is_in ks k && p k) →
+        is_in (cond b (x ∷ filter p ks) (filter p ks)) k ≡ ((nat_eq x k || is_in ks k) && p k)
     one true e rest = elim (cases_eq x k) [
       | inl same ↦ rw (eq-eqb x k same) (sym (ap p (sym same) ∙ e))
       | inr other ↦ rw (ne_eqb x k other) rest
@@ -87,7 +90,9 @@ lacks_below : (n : ℕ) (ks : List ℕ) → lacks ks (numbers_below n) ≡ filte
 lacks_below n ks = filter_same (λ k. not (is_in (numbers_below n) k)) (λ k. not (nat_lt k n)) ks (λ k _. ap not (below_is n k))
 
 -- the change that brings n workers
-pub change_is : (by : ℕ) (crew : Crew) (ready : List ℕ) (rounds n : ℕ) (all fresh surplus : List ℕ) → all ≡ numbers_below n → fresh ≡ lacks (numbers_below n) ready → surplus ≡ lacks ready (numbers_below n) → change_tree by crew ready rounds all fresh (reverse surplus) ≡ workers_tree by crew ready rounds n
+pub change_is : (by : ℕ) (crew : Crew) (ready : List ℕ) (rounds n : ℕ) (all fresh surplus : List ℕ) →
+    all ≡ numbers_below n → fresh ≡ lacks (numbers_below n) ready → surplus ≡ lacks ready (numbers_below n) →
+    change_tree by crew ready rounds all fresh (reverse surplus) ≡ workers_tree by crew ready rounds n
 change_is by crew ready rounds n all fresh surplus a f s = rw (a, f, s, lacks_below n ready) refl
 
 ---- A mending
@@ -101,7 +106,9 @@ kept_in ready overdue =
     twice true = refl
     twice false = refl
 
-lost_in : (n : ℕ) (ready overdue : List ℕ) → lacks (numbers_below n) (lacks ready overdue) ≡ filter (λ k. not (is_in ready k) || is_in overdue k) (numbers_below n)
+lost_in : (n : ℕ) (ready overdue : List ℕ) →
+    lacks (numbers_below n) (lacks ready overdue)
+    ≡ filter (λ k. not (is_in ready k) || is_in overdue k) (numbers_below n)
 lost_in n ready overdue =
     filter_same (λ k. not (is_in (lacks ready overdue) k)) (λ k. not (is_in ready k) || is_in overdue k) (numbers_below n)
     (λ k _. ap not (is_in-filter (λ j. not (is_in overdue j)) ready k) ∙ apart (is_in ready k) (is_in overdue k))
@@ -112,12 +119,15 @@ lost_in n ready overdue =
     apart false b = refl
 
 -- the repair that mends
-pub repair_is : (by : ℕ) (crew : Crew) (ready : List ℕ) (rounds : ℕ) (overdue : List ℕ) (n : ℕ) (all late fresh : List ℕ) → all ≡ numbers_below n → late ≡ lacks overdue (lacks overdue ready) → fresh ≡ lacks (numbers_below n) (lacks ready overdue)
+pub repair_is : (by : ℕ) (crew : Crew) (ready : List ℕ) (rounds : ℕ) (overdue : List ℕ) (n : ℕ)
+    (all late fresh : List ℕ) → all ≡ numbers_below n → late ≡ lacks overdue (lacks overdue ready) →
+    fresh ≡ lacks (numbers_below n) (lacks ready overdue)
     → repair_tree by crew rounds all late fresh ≡ mend_tree by crew ready rounds overdue n
 repair_is by crew ready rounds overdue n all late fresh a l f = rw (a, l, f, kept_in ready overdue, lost_in n ready overdue) refl
 
 -- there are no more of them than wanted numbers
-pub late_few : (n : ℕ) (ready overdue late : List ℕ) → AllByRecursion (λ k. k < n) ready → AreNumbers 1024 late → late ≡ lacks overdue (lacks overdue ready) → length late ≤ n
+pub late_few : (n : ℕ) (ready overdue late : List ℕ) → AllByRecursion (λ k. k < n) ready → AreNumbers 1024 late →
+    late ≡ lacks overdue (lacks overdue ready) → length late ≤ n
 late_few n ready overdue late all numbers is =
     omega (arith, rising_few 0 n late numbers.rising (subst (AreBelow n) (sym (is ∙ kept_in ready overdue)) (all_low n (is_in ready) overdue (λ k here. low_in n ready k all here))) (omega arith))
 

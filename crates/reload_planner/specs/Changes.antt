@@ -2,10 +2,9 @@
 use Rattle.std.specs.Prelude.{ℕ, Bool, true, false, List, [], reverse}
 use Rattle.listener_set.specs.declared.generation.Generation.{Generation}
 use Rattle.definitions.specs.Table.{Address}
-use Rattle.definitions.specs.Crew.{Posts, Crew}
-use Rattle.definitions.specs.Target.{reload_generation}
+use Rattle.definitions.specs.Master.{Posts, Crew, reload_generation}
 use Rattle.vocabulary.specs.declared.plans.Side.TheVariants.{Old, Target}
-use Rattle.definitions.specs.Tree.{Tree}
+use Rattle.definitions.specs.Run.{Tree}
 use Rattle.definitions.specs.Plans.{starts, starts_any, awaits_gone, opens, settle}
 use Rattle.call_laws.specs.Pieces.{quits, kills, closes, census, census_edges}
 
@@ -13,7 +12,8 @@ use Rattle.call_laws.specs.Pieces.{quits, kills, closes, census, census_edges}
 -- side settles.
 abbrev pub change_tree : ℕ → Crew → List ℕ → ℕ → List ℕ → List ℕ → List ℕ → Tree
 change_tree by crew ready rounds wanted fresh surplus =
-    starts by crew fresh (quits by crew.generation surplus (settle by crew wanted Target rounds)) (λ forked. quits by crew.generation forked (settle by crew ready Old rounds))
+    starts by crew fresh (quits by crew.generation surplus (settle by crew wanted Target rounds))
+    (λ forked. quits by crew.generation forked (settle by crew ready Old rounds))
 
 -- Some numbers are killed and then others started, going on after a failure, and the target settles.
 abbrev pub repair_tree : ℕ → Crew → ℕ → List ℕ → List ℕ → List ℕ → Tree

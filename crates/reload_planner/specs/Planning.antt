@@ -1,9 +1,9 @@
 -- What a planner promises of a plan's size, and when there is none.
 use Rattle.std.specs.Prelude.{ℕ, ◌+◌, ◌*◌, Bool, false, length, is_some}
-use Rattle.definitions.specs.Record.{Record}
+use Rattle.definitions.specs.Master.{Record, numbers_wanted, addresses_wanted}
 use Rattle.vocabulary.specs.declared.targets.Target.{Target}
 use Rattle.vocabulary.specs.declared.targets.Target.TheVariants.{Workers, Mend, Reopen, Reload, Upgrade, Attended, Stop}
-use Rattle.definitions.specs.Target.{numbers_wanted, addresses_wanted, next_image}
+use Rattle.definitions.specs.After.{next_image}
 
 -- how many steps a plan has at most, by the workers that are ready and those that are wanted, the addresses before and after,
 -- and the rounds of a settle

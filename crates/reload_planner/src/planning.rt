@@ -1,6 +1,6 @@
 //! The plan of a target.
 ghost use Rattle.std.specs.Prelude.{◌≡◌, ◌≤◌, ◌↔◌, List, [], None, length, IfOk, IsErrOf, IsTrue};
-ghost use Rattle.definitions.specs.Target.{sides_of};
+ghost use Rattle.definitions.specs.Master.{sides_of};
 ghost use Rattle.service_state.specs.Targets.{IsTarget, lacks_generation};
 ghost use Rattle.definitions.specs.Plans.{Turn, plan_tree};
 ghost use Rattle.call_laws.specs.Lengths.{plan_length};

@@ -1,7 +1,7 @@
 //! The plan that brings a new configuration.
 ghost use Rattle.std.specs.Prelude.{◌≡◌, ◌≤◌, ◌<◌, ◌+◌, ◌*◌, ◌↔◌, List, ℕ, [], None, length, reverse, take, IfOk, IfNone, IsErrOf, IsTrue, OnOk};
-ghost use Rattle.definitions.specs.Target as wanted;
-ghost use Rattle.definitions.specs.Tree.{Tree};
+ghost use Rattle.definitions.specs.After as wanted;
+ghost use Rattle.definitions.specs.Run.{Tree};
 ghost use Rattle.call_laws.specs.Lengths.{height};
 ghost use Rattle.definitions.specs.Plans.{Turn, reload_tree};
 ghost use Rattle.call_laws.specs.Pieces.{census, census_edges};

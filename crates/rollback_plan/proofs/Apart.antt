@@ -1,9 +1,10 @@
 -- No master has steps in both parts.
-use Rattle.std.proofs.Common.{◌≡◌, ◌≢◌, ◌-◌, ℕ, ◌==◌, Bool, true, false, ◌&&◌, not, List, [], ◌∷◌, slice_get, Option, Some, refl, sym, ◌∙◌, ap, subst, arith, if◌then◌else◌}
+use Rattle.std.proofs.Common.{◌≡◌, ◌≢◌, ◌-◌, ℕ, ◌==◌, Bool, true, false, ◌&&◌, not, List, [], ◌∷◌, slice_get, Option}
+use Rattle.std.proofs.Common.{Some, refl, sym, ◌∙◌, ap, subst, arith, if◌then◌else◌}
 use Rattle.std.proofs.lemmas.Bool.{and_from, and_parts, false≢true}
 use Rattle.std.proofs.lemmas.Bool.Decides.{nat_tests}
 use Rattle.std.specs.List.{list_all}
-use Rattle.definitions.specs.Tree.{Tree, Branches, Ends, Does, Nothing, Branch}
+use Rattle.definitions.specs.Run.{Tree, Branches, Ends, Does, Nothing, Branch}
 use Rattle.vocabulary.specs.declared.plans.Order.{Order}
 use Rattle.definitions.specs.Plans.{Turn, New, Old}
 use Rattle.plan_steps.specs.declared.parts.Parts.{Parts}
@@ -50,13 +51,17 @@ first_apart by other order set bs h is =
     absurd (grind (arith, nat_tests))
 
 -- the test holds behind each edge
-by_edges : (test : ℕ → Bool) (n : ℕ) (trees : List Tree) (edges : List PlanEdge) → all_by_in test (branches_among n trees edges) ≡ true → list_all (λ e. all_by test (tree_among n trees e.next)) edges ≡ true
+by_edges : (test : ℕ → Bool) (n : ℕ) (trees : List Tree) (edges : List PlanEdge) →
+    all_by_in test (branches_among n trees edges) ≡ true →
+    list_all (λ e. all_by test (tree_among n trees e.next)) edges ≡ true
 by_edges test n trees [] h = refl
 by_edges test n trees (e ∷ edges) h =
     let parts = and_parts (all_by test (tree_among n trees e.next)) (all_by_in test (branches_among n trees edges)) h in
     and_from (all_by test (tree_among n trees e.next)) (list_all (λ e. all_by test (tree_among n trees e.next)) edges) parts.0 (by_edges test n trees edges parts.1)
 
-by_edges_of : (new : Tree) (n : ℕ) (trees : List Tree) (edges : List PlanEdge) → all_by (λ image. all_by_in (λ other. not (image == other)) (branches_among n trees edges)) new ≡ true → list_all (λ e. are_apart new (tree_among n trees e.next)) edges ≡ true
+by_edges_of : (new : Tree) (n : ℕ) (trees : List Tree) (edges : List PlanEdge) →
+    all_by (λ image. all_by_in (λ other. not (image == other)) (branches_among n trees edges)) new ≡ true →
+    list_all (λ e. are_apart new (tree_among n trees e.next)) edges ≡ true
 by_edges_of new n trees [] h = refl
 by_edges_of new n trees (e ∷ edges) h =
     let t = tree_among n trees e.next in
@@ -80,7 +85,9 @@ stands_tree steps (Over end) s on at = absurd at
 stands_tree steps (Both new old) s on at = absurd at
 
 -- what is left of both parts is apart behind each edge of the next step
-pub led_apart : (steps : List Step) (at : At) (turn : Turn) (s : Step) → all_lead_on 1 steps ≡ true → StandsAt steps (chosen_at at turn) s → is_apart steps at ≡ true → list_all (λ e. leads_apart steps at turn e.next) s.edges.items ≡ true
+pub led_apart : (steps : List Step) (at : At) (turn : Turn) (s : Step) → all_lead_on 1 steps ≡ true →
+    StandsAt steps (chosen_at at turn) s → is_apart steps at ≡ true →
+    list_all (λ e. leads_apart steps at turn e.next) s.edges.items ≡ true
 led_apart steps (Before from) turn s on stands apart = all_true s.edges.items
 led_apart steps (Behind from) turn s on stands apart = all_true s.edges.items
 led_apart steps (Beside new old) turn s on stands apart =
@@ -102,7 +109,8 @@ first_is (Ends end) s by first is = absurd is
 first_is (Does i order set bs) s by first is = is ∙ sym first.0
 
 -- two steps that stand in both parts are two masters'
-two_masters : (steps : List Step) (a b : Place) (x s : Step) → all_lead_on 1 steps ≡ true → StandsAt steps (To a) x → StandsAt steps (To b) s → is_apart steps (Beside (To a) (To b)) ≡ true → x.by ≢ s.by
+two_masters : (steps : List Step) (a b : Place) (x s : Step) → all_lead_on 1 steps ≡ true → StandsAt steps (To a) x →
+    StandsAt steps (To b) s → is_apart steps (Beside (To a) (To b)) ≡ true → x.by ≢ s.by
 two_masters steps a b x s on there here apart =
     let is = subst (λ (t : Tree). are_apart t (tree_behind steps (To b)) ≡ true) (stands_tree steps (To a) x on there) apart in
     let first = (and_parts (all_by (λ other. not (x.by == other)) (tree_behind steps (To b))) (all_by_in _ (branches_among 1 (trees_from 1 steps) x.edges.items)) is).0 in
@@ -113,14 +121,20 @@ pub record IsShownBy (by : ℕ) (s : Step) (turns : List Turn) : Type 0 where
   pub old : by ≡ s.by → turn_of turns ≡ Old
   pub new : by ≢ s.by → turn_of turns ≡ New
 
-news_turn : (steps : List Step) (parts : Option Parts) (a b : Place) (turns : List Turn) (by : ℕ) (x s : Step) → all_lead_on 1 steps ≡ true → is_at steps parts (Beside (To a) (To b)) ≡ true → is_apart steps (Beside (To a) (To b)) ≡ true → StandsAt steps (To b) x → x.by ≡ s.by → begins_by by (tree_at steps parts (Beside (To a) (To b)) turns) → turn_of turns ≡ New → IsShownBy by s turns
+news_turn : (steps : List Step) (parts : Option Parts) (a b : Place) (turns : List Turn) (by : ℕ) (x s : Step) →
+    all_lead_on 1 steps ≡ true → is_at steps parts (Beside (To a) (To b)) ≡ true →
+    is_apart steps (Beside (To a) (To b)) ≡ true → StandsAt steps (To b) x → x.by ≡ s.by →
+    begins_by by (tree_at steps parts (Beside (To a) (To b)) turns) → turn_of turns ≡ New → IsShownBy by s turns
 news_turn steps parts a b turns by x s on within apart here same begun is =
     let y = some_step steps a (and_parts (is_within steps (To a)) _ within).0 in
     let stands : StandsAt steps (chosen_at (Beside (To a) (To b)) (turn_of turns)) y.0 = subst (λ (t : Turn). StandsAt steps (chosen_at (Beside (To a) (To b)) t) y.0) (sym is) y.1 in
     let own = first_is (tree_at steps parts (Beside (To a) (To b)) turns) y.0 by (goes steps parts (Beside (To a) (To b)) turns y.0 on within stands).first begun in
     record { old = λ its. absurd (two_masters steps a b y.0 x on y.1 here apart (sym own ∙ (its ∙ sym same))); new = λ _. is }
 
-both_goes : (steps : List Step) (parts : Option Parts) (a b : Place) (turns : List Turn) (by : ℕ) (x s : Step) → all_lead_on 1 steps ≡ true → is_at steps parts (Beside (To a) (To b)) ≡ true → is_apart steps (Beside (To a) (To b)) ≡ true → StandsAt steps (To b) x → x.by ≡ s.by → begins_by by (tree_at steps parts (Beside (To a) (To b)) turns) → IsShownBy by s turns
+both_goes : (steps : List Step) (parts : Option Parts) (a b : Place) (turns : List Turn) (by : ℕ) (x s : Step) →
+    all_lead_on 1 steps ≡ true → is_at steps parts (Beside (To a) (To b)) ≡ true →
+    is_apart steps (Beside (To a) (To b)) ≡ true → StandsAt steps (To b) x → x.by ≡ s.by →
+    begins_by by (tree_at steps parts (Beside (To a) (To b)) turns) → IsShownBy by s turns
 both_goes steps parts a b [] by x s on within apart here same begun = news_turn steps parts a b [] by x s on within apart here same begun refl
 both_goes steps parts a b (New ∷ turns) by x s on within apart here same begun = news_turn steps parts a b (New ∷ turns) by x s on within apart here same begun refl
 both_goes steps parts a b (Old ∷ turns) by x s on within apart here same begun =
@@ -131,7 +145,10 @@ same_first : (t : Tree) (x s : Step) → begins t x → begins t s → x.by ≡ 
 same_first (Ends end) x s one other = absurd one
 same_first (Does by order set branches) x s one other = one.0 ∙ sym other.0
 
-pub shown_by : (steps : List Step) (parts : Option Parts) (at : At) (turns : List Turn) (by : ℕ) (s : Step) → all_lead_on 1 steps ≡ true → is_at steps parts at ≡ true → is_apart steps at ≡ true → begins (tree_at steps parts at (Old ∷ [])) s → begins_by by (tree_at steps parts at turns) → is_both at ≡ true → IsShownBy by s turns
+pub shown_by : (steps : List Step) (parts : Option Parts) (at : At) (turns : List Turn) (by : ℕ) (s : Step) →
+    all_lead_on 1 steps ≡ true → is_at steps parts at ≡ true → is_apart steps at ≡ true →
+    begins (tree_at steps parts at (Old ∷ [])) s → begins_by by (tree_at steps parts at turns) → is_both at ≡ true →
+    IsShownBy by s turns
 shown_by steps parts (Before next) turns by s on within apart olds begun both = absurd (false≢true both)
 shown_by steps parts (Behind next) turns by s on within apart olds begun both = absurd (false≢true both)
 shown_by steps parts (Beside (Over end) old) turns by s on within apart olds begun both = absurd (false≢true both)

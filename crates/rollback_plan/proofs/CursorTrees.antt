@@ -1,5 +1,6 @@
 -- The tree where a cursor stands: the step that it begins with, and where the step's edges lead.
-use Rattle.std.proofs.Common.{◌≡◌, ◌-◌, true, false, ◌&&◌, ◌||◌, not, List, [], ◌∷◌, refl, sym, ◌∙◌, ap, subst, if◌then◌else◌, Option, None, Some, slice_get, option_map}
+use Rattle.std.proofs.Common.{◌≡◌, ◌-◌, true, false, ◌&&◌, ◌||◌, not, List, [], ◌∷◌, refl, sym, ◌∙◌, ap, subst}
+use Rattle.std.proofs.Common.{if◌then◌else◌, Option, None, Some, slice_get, option_map}
 use Rattle.std.proofs.lemmas.Bool.{and_parts, false≢true}
 use Rattle.vocabulary.specs.declared.calls.Answer.{Answer}
 use Rattle.vocabulary.specs.declared.calls.Reply.{Reply}
@@ -7,7 +8,7 @@ use Rattle.vocabulary.specs.declared.plans.End.{End}
 use Rattle.vocabulary.specs.declared.plans.End.TheVariants.{Done, RolledBack, ShortOld, ShortTarget, Split, JoinReady, JoinBack, Join}
 use Rattle.vocabulary.specs.declared.plans.PidNote.{PidNote}
 use Rattle.call_laws.specs.Pieces.{branch}
-use Rattle.definitions.specs.Tree.{Tree, Branches, Ends, Does, reply_of}
+use Rattle.definitions.specs.Run.{Tree, Branches, Ends, Does, reply_of}
 use Rattle.rollback_plan.specs.Following.{follow}
 use Rattle.definitions.specs.Plans.{Turn, New, Old, graft, graft_all, beside_all, weave, weave_all}
 use Rattle.plan_steps.specs.declared.parts.Parts.{Parts}
@@ -21,7 +22,8 @@ use Rattle.plan_steps.specs.Woven.{part_end}
 use Rattle.plan_steps.proofs.Woven.{on_rest, graft_branch, weave_branch, beside_branch}
 use Rattle.rollback_plan.specs.declared.cursor.At.{At}
 use Rattle.rollback_plan.specs.declared.cursor.At.TheVariants.{Before, Beside, Behind}
-use Rattle.rollback_plan.specs.Places.{is_step, is_split, is_alone, is_at, is_both, goes_new, without_first, end_behind, joined_in, tree_at, turn_of, left_at, chosen_at, led_at, begins, end_of, IsEnd}
+use Rattle.rollback_plan.specs.Places.{is_step, is_split, is_alone, is_at, is_both, goes_new, without_first, end_behind}
+use Rattle.rollback_plan.specs.Places.{joined_in, tree_at, turn_of, left_at, chosen_at, led_at, begins, end_of, IsEnd}
 use Rattle.rollback_plan.proofs.PlanTrees.{tree_at_place, follow_here, within_at, some_at}
 
 -- a tree begins with a step, whose edges lead so
@@ -33,7 +35,8 @@ pub record Goes (t : Tree) (s : Step) (after : Next → Tree) : Type 0 where
 abbrev pub branches_of : List Step → Step → Branches
 branches_of steps s = branches_among 1 (trees_from 1 steps) s.edges.items
 
-rest_mapped : (f : Tree → Tree) (g : Next → Tree) (o : Option PlanEdge) → on_rest f (option_map (λ e. (e.note, g e.next)) o) ≡ option_map (λ e. (e.note, f (g e.next))) o
+rest_mapped : (f : Tree → Tree) (g : Next → Tree) (o : Option PlanEdge) →
+    on_rest f (option_map (λ e. (e.note, g e.next)) o) ≡ option_map (λ e. (e.note, f (g e.next))) o
 rest_mapped f g None = refl
 rest_mapped f g (Some e) = refl
 
@@ -44,7 +47,9 @@ never : {X : Type 0} → false ≡ true → X
 never e = absurd (false≢true e)
 
 -- a step of which each rest is another
-changed : (f : Tree → Tree) (steps : List Step) (s : Step) (bs : Branches) → ((r : Reply) → branch bs r ≡ on_rest f (branch (branches_of steps s) r)) → Goes (Does s.by s.order s.set bs) s (λ next. f (tree_behind steps next))
+changed : (f : Tree → Tree) (steps : List Step) (s : Step) (bs : Branches) →
+    ((r : Reply) → branch bs r ≡ on_rest f (branch (branches_of steps s) r)) →
+    Goes (Does s.by s.order s.set bs) s (λ next. f (tree_behind steps next))
 changed f steps s bs is = record {
   first = (refl, refl, refl);
   leads = λ answer. is (reply_of s.set answer) ∙ (ap (on_rest f) (follow_here steps s answer) ∙ rest_mapped f (tree_behind steps) (edge_for s.edges.items (reply_of s.set answer)));
@@ -57,7 +62,8 @@ StandsAt steps (Over end) s = ⊥
 StandsAt steps (Both new old) s = ⊥
 
 -- the tree of a step that stands there
-tree_there : (steps : List Step) (place : Place) (s : Step) → all_lead_on 1 steps ≡ true → slice_get steps (place.0 - 1) ≡ Some s → tree_behind steps (To place) ≡ tree_here steps s
+tree_there : (steps : List Step) (place : Place) (s : Step) → all_lead_on 1 steps ≡ true →
+    slice_get steps (place.0 - 1) ≡ Some s → tree_behind steps (To place) ≡ tree_here steps s
 tree_there steps place s on at = tree_at_place steps place.0 s on at
 
 -- some step stands there
@@ -66,18 +72,26 @@ some_step steps place w = some_at steps (place.0 - 1) (within_at steps (To place
 
 -- ---- both parts
 
-both_new : (steps : List Step) (join : End → Tree) (s x : Step) (turns : List Turn) → Goes (Does s.by s.order s.set (weave_all join (branches_of steps s) turns (tree_here steps x))) s (λ next. weave join (tree_behind steps next) turns (tree_here steps x))
+both_new : (steps : List Step) (join : End → Tree) (s x : Step) (turns : List Turn) →
+    Goes (Does s.by s.order s.set (weave_all join (branches_of steps s) turns (tree_here steps x))) s
+    (λ next. weave join (tree_behind steps next) turns (tree_here steps x))
 both_new steps join s x turns = changed (λ t. weave join t turns (tree_here steps x)) steps s (weave_all join (branches_of steps s) turns (tree_here steps x)) (weave_branch join (branches_of steps s) turns (tree_here steps x))
 
-both_old : (steps : List Step) (join : End → Tree) (x s : Step) (turns : List Turn) → Goes (weave join (tree_here steps x) (Old ∷ turns) (tree_here steps s)) s (λ next. weave join (tree_here steps x) turns (tree_behind steps next))
+both_old : (steps : List Step) (join : End → Tree) (x s : Step) (turns : List Turn) →
+    Goes (weave join (tree_here steps x) (Old ∷ turns) (tree_here steps s)) s
+    (λ next. weave join (tree_here steps x) turns (tree_behind steps next))
 both_old steps join x s turns =
     let goes : List Turn → Tree → Tree = λ later still. Does x.by x.order x.set (weave_all join (branches_of steps x) later still) in
     changed (λ t. weave join (tree_here steps x) turns t) steps s (beside_all goes turns (branches_of steps s)) (beside_branch goes turns (branches_of steps s))
 
-alone_new : (steps : List Step) (join : End → Tree) (s : Step) (turns : List Turn) (end : End) → Goes (weave join (tree_here steps s) turns (Ends end)) s (λ next. weave join (tree_behind steps next) turns (Ends end))
+alone_new : (steps : List Step) (join : End → Tree) (s : Step) (turns : List Turn) (end : End) →
+    Goes (weave join (tree_here steps s) turns (Ends end)) s
+    (λ next. weave join (tree_behind steps next) turns (Ends end))
 alone_new steps join s turns end = changed (λ t. weave join t turns (Ends end)) steps s (weave_all join (branches_of steps s) turns (Ends end)) (weave_branch join (branches_of steps s) turns (Ends end))
 
-alone_old : (steps : List Step) (join : End → Tree) (s : Step) (turns : List Turn) (end : End) → Goes (weave join (Ends end) turns (tree_here steps s)) s (λ next. weave join (Ends end) turns (tree_behind steps next))
+alone_old : (steps : List Step) (join : End → Tree) (s : Step) (turns : List Turn) (end : End) →
+    Goes (weave join (Ends end) turns (tree_here steps s)) s
+    (λ next. weave join (Ends end) turns (tree_behind steps next))
 alone_old steps join s turns end = changed (graft (λ e. join end)) steps s (graft_all (λ e. join end) (branches_of steps s)) (graft_branch (λ e. join end) (branches_of steps s))
 
 -- what follows the next step of a cursor
@@ -85,7 +99,9 @@ abbrev pub after_step : List Step → Option Parts → At → List Turn → Next
 after_step steps parts at turns next = led_at steps parts at (turn_of turns) next (left_at at turns)
 
 -- where both go on
-beside_goes : (steps : List Step) (parts : Option Parts) (a b : Place) (turns : List Turn) (s : Step) → all_lead_on 1 steps ≡ true → is_within steps (To a) ≡ true → is_within steps (To b) ≡ true → StandsAt steps (chosen_at (Beside (To a) (To b)) (turn_of turns)) s
+beside_goes : (steps : List Step) (parts : Option Parts) (a b : Place) (turns : List Turn) (s : Step) →
+    all_lead_on 1 steps ≡ true → is_within steps (To a) ≡ true → is_within steps (To b) ≡ true →
+    StandsAt steps (chosen_at (Beside (To a) (To b)) (turn_of turns)) s
     → Goes (tree_at steps parts (Beside (To a) (To b)) turns) s (after_step steps parts (Beside (To a) (To b)) turns)
 beside_goes steps parts a b [] s on wa wb at =
     let join = joined_in steps parts in
@@ -104,7 +120,9 @@ beside_goes steps parts a b (Old ∷ turns) s on wa wb at =
     (subst (λ (t : Tree). Goes (weave join (tree_here steps x.0) (Old ∷ turns) t) s (λ next. weave join (tree_here steps x.0) turns (tree_behind steps next))) (sym (tree_there steps b s on at)) (both_old steps join x.0 s turns))
 
 -- The step that is next, and where its edges lead.
-pub goes : (steps : List Step) (parts : Option Parts) (at : At) (turns : List Turn) (s : Step) → all_lead_on 1 steps ≡ true → is_at steps parts at ≡ true → StandsAt steps (chosen_at at (turn_of turns)) s → Goes (tree_at steps parts at turns) s (after_step steps parts at turns)
+pub goes : (steps : List Step) (parts : Option Parts) (at : At) (turns : List Turn) (s : Step) →
+    all_lead_on 1 steps ≡ true → is_at steps parts at ≡ true → StandsAt steps (chosen_at at (turn_of turns)) s →
+    Goes (tree_at steps parts at turns) s (after_step steps parts at turns)
 goes steps None (Before (To p)) turns s on w at = subst (λ (t : Tree). Goes t s (tree_behind steps)) (sym (tree_there steps p s on at)) (plain steps s)
 goes steps (Some q) (Before (To p)) turns s on w at =
     let onward = part_end (tree_behind steps (To q.ready)) (tree_behind steps (To q.back)) (tree_behind steps (To q.new)) (tree_behind steps (To q.old)) turns in
@@ -145,7 +163,8 @@ same_chosen (Beside (To a) (Both new old)) t u same = refl
 same_chosen (Beside (Over end) old) t u same = refl
 same_chosen (Beside (Both a b) old) t u same = refl
 
-pub same_led : (steps : List Step) (parts : Option Parts) (at : At) (t u : Turn) (next : Next) (turns : List Turn) → (is_both at ≡ true → t ≡ u) → led_at steps parts at t next turns ≡ led_at steps parts at u next turns
+pub same_led : (steps : List Step) (parts : Option Parts) (at : At) (t u : Turn) (next : Next) (turns : List Turn) →
+    (is_both at ≡ true → t ≡ u) → led_at steps parts at t next turns ≡ led_at steps parts at u next turns
 same_led steps parts (Before from) t u next turns same = refl
 same_led steps parts (Behind from) t u next turns same = refl
 same_led steps parts (Beside (To a) (To b)) t u next turns same = ap (λ (x : Turn). led_at steps parts (Beside (To a) (To b)) x next turns) (same refl)
@@ -155,13 +174,18 @@ same_led steps parts (Beside (Over end) old) t u next turns same = refl
 same_led steps parts (Beside (Both a b) old) t u next turns same = refl
 
 -- The step that is next at a turn, and where its edges lead at it.
-pub goes_at : (steps : List Step) (parts : Option Parts) (at : At) (turn : Turn) (turns : List Turn) (s : Step) → all_lead_on 1 steps ≡ true → is_at steps parts at ≡ true → (is_both at ≡ true → turn_of turns ≡ turn) → StandsAt steps (chosen_at at turn) s
+pub goes_at : (steps : List Step) (parts : Option Parts) (at : At) (turn : Turn) (turns : List Turn) (s : Step) →
+    all_lead_on 1 steps ≡ true → is_at steps parts at ≡ true → (is_both at ≡ true → turn_of turns ≡ turn) →
+    StandsAt steps (chosen_at at turn) s
     → Goes (tree_at steps parts at turns) s (λ next. led_at steps parts at turn next (left_at at turns))
 goes_at steps parts at turn turns s on w same stands =
     let there = goes steps parts at turns s on w (subst (λ (n : Next). StandsAt steps n s) (sym (same_chosen at (turn_of turns) turn same)) stands) in
     record { first = there.first; leads = λ answer. there.leads answer ∙ alike (edge_for s.edges.items (reply_of s.set answer)) }
   where
-    alike : (o : Option PlanEdge) → option_map {U = Option PidNote × Tree} (λ e. (e.note, led_at steps parts at (turn_of turns) e.next (left_at at turns))) o ≡ option_map {U = Option PidNote × Tree} (λ e. (e.note, led_at steps parts at turn e.next (left_at at turns))) o
+    alike : (o : Option PlanEdge) →
+        option_map {U = Option PidNote × Tree}
+        (λ e. (e.note, led_at steps parts at (turn_of turns) e.next (left_at at turns))) o
+        ≡ option_map {U = Option PidNote × Tree} (λ e. (e.note, led_at steps parts at turn e.next (left_at at turns))) o
     alike None = refl
     alike (Some e) = ap (λ t. Some (e.note, t)) (same_led steps parts at (turn_of turns) turn e.next (left_at at turns) same)
 
@@ -174,7 +198,8 @@ earlier at turn turns =
     ]
 
 -- it stands at a place of the steps
-pub chosen_within : (steps : List Step) (parts : Option Parts) (at : At) (turn : Turn) → is_at steps parts at ≡ true → is_within steps (chosen_at at turn) ≡ true
+pub chosen_within : (steps : List Step) (parts : Option Parts) (at : At) (turn : Turn) → is_at steps parts at ≡ true →
+    is_within steps (chosen_at at turn) ≡ true
 chosen_within steps parts (Before next) turn w = (and_parts (is_within steps next) _ w).0
 chosen_within steps parts (Behind next) turn w = w
 chosen_within steps parts (Beside new old) turn w =
@@ -191,7 +216,8 @@ alone_or : (steps : List Step) (next : Next) (parts : Option Parts) → is_at st
 alone_or steps next parts w = (and_parts (is_within steps next) (is_alone parts || not (is_split next)) w).1
 
 -- what stands where a cursor stands, if it is an end
-pub ends : (steps : List Step) (parts : Option Parts) (at : At) (turn : Turn) (turns : List Turn) → is_at steps parts at ≡ true → is_step (chosen_at at turn) ≡ false → IsEnd (tree_at steps parts at turns)
+pub ends : (steps : List Step) (parts : Option Parts) (at : At) (turn : Turn) (turns : List Turn) →
+    is_at steps parts at ≡ true → is_step (chosen_at at turn) ≡ false → IsEnd (tree_at steps parts at turns)
 ends steps None (Before (Over end)) turn turns w stop = tt
 ends steps None (Before (Both new old)) turn turns w stop = tt
 ends steps (Some q) (Before (Over Done)) turn turns w stop = tt
@@ -229,12 +255,16 @@ end_there (Before next) = end_behind next
 end_there (Beside new old) = None
 end_there (Behind next) = end_behind next
 
-goes_on : (steps : List Step) (parts : Option Parts) (at : At) (turns : List Turn) (p : Place) → all_lead_on 1 steps ≡ true → is_at steps parts at ≡ true → is_within steps (To p) ≡ true → ((s : Step) → slice_get steps (p.0 - 1) ≡ Some s → StandsAt steps (chosen_at at (turn_of turns)) s) → None ≡ end_of (tree_at steps parts at turns)
+goes_on : (steps : List Step) (parts : Option Parts) (at : At) (turns : List Turn) (p : Place) →
+    all_lead_on 1 steps ≡ true → is_at steps parts at ≡ true → is_within steps (To p) ≡ true →
+    ((s : Step) → slice_get steps (p.0 - 1) ≡ Some s → StandsAt steps (chosen_at at (turn_of turns)) s) →
+    None ≡ end_of (tree_at steps parts at turns)
 goes_on steps parts at turns p on w wp stands =
     let x = some_step steps p wp in
     sym (no_end (tree_at steps parts at turns) x.0 (goes steps parts at turns x.0 on w (stands x.0 x.1)).first)
 
-pub end_is : (steps : List Step) (parts : Option Parts) (at : At) (turns : List Turn) → all_lead_on 1 steps ≡ true → is_at steps parts at ≡ true → end_there at ≡ end_of (tree_at steps parts at turns)
+pub end_is : (steps : List Step) (parts : Option Parts) (at : At) (turns : List Turn) → all_lead_on 1 steps ≡ true →
+    is_at steps parts at ≡ true → end_there at ≡ end_of (tree_at steps parts at turns)
 end_is steps parts (Before (To p)) turns on w = goes_on steps parts (Before (To p)) turns p on w (and_parts (is_within steps (To p)) _ w).0 (λ s at. at)
 end_is steps None (Before (Over end)) turns on w = refl
 end_is steps None (Before (Both new old)) turns on w = refl

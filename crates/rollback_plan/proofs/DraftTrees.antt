@@ -2,7 +2,7 @@
 use Rattle.std.proofs.Common.{◌≡◌, ℕ, ◌-◌, ◌<◌, ◌≤◌, true, List, [], ◌++◌, length, refl, ◌∙◌, ap, arith, length-append, append_assoc, slice_get, unwrap_or}
 use Rattle.std.proofs.lemmas.Bool.{lt-ltb, ltb-true}
 use Rattle.vocabulary.specs.declared.plans.End.TheVariants.{Done}
-use Rattle.definitions.specs.Tree.{Tree, Ends}
+use Rattle.definitions.specs.Run.{Tree, Ends}
 use Rattle.rollback_plan.specs.declared.draft.Draft.{Draft}
 use Rattle.plan_steps.specs.declared.step.Place.{Place}
 use Rattle.plan_steps.specs.declared.step.Next.{Next}
@@ -50,10 +50,12 @@ plain_le n m (Over end) h p = refl
 plain_le n m (Both new old) h p = cc
 plain_le n m (To place) h p = lt-ltb place.0 m (omega (arith, h, ltb-true place.0 n p))
 
-pub tree_extended : (old new : Draft) (next : Next) → Extends old new → is_below (length (trees_of old)) next ≡ true → tree_among 0 (trees_of new) next ≡ tree_among 0 (trees_of old) next
+pub tree_extended : (old new : Draft) (next : Next) → Extends old new → is_below (length (trees_of old)) next ≡ true →
+    tree_among 0 (trees_of new) next ≡ tree_among 0 (trees_of old) next
 tree_extended old new next k h = ap (λ ts. tree_among 0 ts next) k.is ∙ tree_more (trees_of old) k.more next h
 
-pub tree_kept : (old new : Draft) (next : Next) → Keeps old new → is_below (length (trees_of old)) next ≡ true → tree_among 0 (trees_of new) next ≡ tree_among 0 (trees_of old) next
+pub tree_kept : (old new : Draft) (next : Next) → Keeps old new → is_below (length (trees_of old)) next ≡ true →
+    tree_among 0 (trees_of new) next ≡ tree_among 0 (trees_of old) next
 tree_kept old new next k h = tree_extended old new next (extended old new k) h
 
 -- what leads to one place leads there still

@@ -1,13 +1,14 @@
 -- The trees of a plan's steps.
-use Rattle.std.proofs.Common.{◌≡◌, ℕ, zero, suc, ◌+◌, ◌-◌, ◌<◌, Bool, true, false, List, [], ◌∷◌, length, refl, ◌∙◌, ap, subst, arith, Option, Some, IfSome, option_map, slice_get, unwrap_or, nat_lt, cond}
+use Rattle.std.proofs.Common.{◌≡◌, ℕ, zero, suc, ◌+◌, ◌-◌, ◌<◌, Bool, true, false, List, [], ◌∷◌, length, refl, ◌∙◌, ap}
+use Rattle.std.proofs.Common.{subst, arith, Option, Some, IfSome, option_map, slice_get, unwrap_or, nat_lt, cond}
 use Rattle.std.proofs.lemmas.Bool.{ltb-true, lt-ltb, and_parts, and_from}
 use Rattle.std.specs.List.{list_all, find}
 use Rattle.vocabulary.specs.declared.calls.Reply.{Reply}
 use Rattle.vocabulary.specs.declared.calls.Answer.{Answer}
 use Rattle.vocabulary.specs.declared.plans.PidNote.{PidNote}
 use Rattle.vocabulary.specs.declared.plans.End.TheVariants.{Done}
-use Rattle.call_laws.specs.Pieces.{branch}
-use Rattle.definitions.specs.Tree.{Tree, Ends, Does, Branch, among, reply_of}
+use Rattle.call_laws.specs.Pieces.{branch, among}
+use Rattle.definitions.specs.Run.{Tree, Ends, Does, Branch, reply_of}
 use Rattle.rollback_plan.specs.Following.{follow}
 use Rattle.plan_steps.specs.declared.step.Step.{Step}
 use Rattle.plan_steps.specs.declared.step.PlanEdge.{PlanEdge}
@@ -18,14 +19,17 @@ use Rattle.plan_steps.specs.Steps.{step_tree, trees_from, all_lead_on, is_past, 
 use Rattle.plan_steps.proofs.StepTrees.{all_weaker}
 
 -- an edge that leads past n finds its tree one place further on
-past_tree : (n more : ℕ) (t : Tree) (trees : List Tree) (next : Next) → is_past n more next ≡ true → tree_among (suc n) trees next ≡ tree_among n (t ∷ trees) next
+past_tree : (n more : ℕ) (t : Tree) (trees : List Tree) (next : Next) → is_past n more next ≡ true →
+    tree_among (suc n) trees next ≡ tree_among n (t ∷ trees) next
 past_tree n more t trees (Over end) h = refl
 past_tree n more t trees (Both new old) h = refl
 past_tree n more t trees (To place) h =
     let past : n < place.0 = ltb-true n place.0 (and_parts (nat_lt n place.0) _ h).0 in
     ap (λ k. unwrap_or (slice_get (t ∷ trees) k) (Ends Done)) (let e : suc (place.0 - suc n) ≡ place.0 - n = omega arith in e)
 
-past_branches : (n more : ℕ) (t : Tree) (trees : List Tree) (edges : List PlanEdge) → list_all (λ e. is_past n more e.next) edges ≡ true → branches_among (suc n) trees edges ≡ branches_among n (t ∷ trees) edges
+past_branches : (n more : ℕ) (t : Tree) (trees : List Tree) (edges : List PlanEdge) →
+    list_all (λ e. is_past n more e.next) edges ≡ true →
+    branches_among (suc n) trees edges ≡ branches_among n (t ∷ trees) edges
 past_branches n more t trees [] h = refl
 past_branches n more t trees (e ∷ edges) h =
     let parts = and_parts (is_past n more e.next) _ h in
@@ -50,7 +54,8 @@ past_more n more (To place) h =
     parts.0 (lt-ltb place.0 (suc (n + suc more)) (omega (arith, ltb-true place.0 (suc (n + more)) parts.1)))
 
 -- each step's edges lead past the places before it
-leads_on_at : (n : ℕ) (steps : List Step) (k : ℕ) (s : Step) → all_lead_on n steps ≡ true → slice_get steps k ≡ Some s → list_all (λ e. is_past n (length steps) e.next) s.edges.items ≡ true
+leads_on_at : (n : ℕ) (steps : List Step) (k : ℕ) (s : Step) → all_lead_on n steps ≡ true → slice_get steps k ≡ Some s →
+    list_all (λ e. is_past n (length steps) e.next) s.edges.items ≡ true
 leads_on_at n [] k s h at = cc
 leads_on_at n (x ∷ steps) zero s h at =
     let is : x ≡ s = cc in
@@ -61,7 +66,8 @@ leads_on_at n (x ∷ steps) (suc k) s h at =
     (leads_on_at (suc n) steps k s (and_parts _ (all_lead_on (suc n) steps) h).1 at)
 
 -- the tree at a place is that of its step
-tree_at : (n : ℕ) (steps : List Step) (k : ℕ) (s : Step) → all_lead_on n steps ≡ true → slice_get steps k ≡ Some s → slice_get (trees_from n steps) k ≡ Some (step_tree n (trees_from n steps) s)
+tree_at : (n : ℕ) (steps : List Step) (k : ℕ) (s : Step) → all_lead_on n steps ≡ true → slice_get steps k ≡ Some s →
+    slice_get (trees_from n steps) k ≡ Some (step_tree n (trees_from n steps) s)
 unfolding trees_from
 tree_at n [] k s h at = cc
 tree_at n (x ∷ steps) zero s h at =
@@ -73,11 +79,13 @@ tree_at n (x ∷ steps) (suc k) s h at =
     ∙ ap (λ bs. Some (Does s.by s.order s.set bs)) (past_branches n (suc (length steps)) (step_tree (suc n) (trees_from (suc n) steps) x) (trees_from (suc n) steps) s.edges.items (leads_on_at n (x ∷ steps) (suc k) s h at))
 
 -- the tree behind an edge is that of the step there
-pub tree_at_place : (steps : List Step) (place : ℕ) (s : Step) → all_lead_on 1 steps ≡ true → slice_get steps (place - 1) ≡ Some s → tree_behind steps (To (record { 0 = place })) ≡ tree_here steps s
+pub tree_at_place : (steps : List Step) (place : ℕ) (s : Step) → all_lead_on 1 steps ≡ true →
+    slice_get steps (place - 1) ≡ Some s → tree_behind steps (To (record { 0 = place })) ≡ tree_here steps s
 tree_at_place steps place s h at = ap (λ o. unwrap_or o (Ends Done)) (tree_at 1 steps (place - 1) s h at)
 
 -- each step's edges lead to places of these steps
-pub leads_within_at : (m : ℕ) (steps : List Step) (k : ℕ) (s : Step) → all_lead_on (suc m) steps ≡ true → slice_get steps k ≡ Some s → list_all (λ e. is_past m (length steps) e.next) s.edges.items ≡ true
+pub leads_within_at : (m : ℕ) (steps : List Step) (k : ℕ) (s : Step) → all_lead_on (suc m) steps ≡ true →
+    slice_get steps k ≡ Some s → list_all (λ e. is_past m (length steps) e.next) s.edges.items ≡ true
 leads_within_at m [] k s h at = cc
 leads_within_at m (x ∷ steps) zero s h at =
     let is : x ≡ s = cc in
@@ -94,7 +102,8 @@ found_has p q (x ∷ xs) h =
     elim (p x) as (λ b. IfSome (cond b (Some x) (find p xs)) (λ y. q y ≡ true)) [ true ↦ (and_parts (q x) (list_all q xs) h).0 | false ↦ found_has p q xs (and_parts (q x) (list_all q xs) h).1 ]
 
 -- what is behind an edge for a reply
-branch-edge_for : (n : ℕ) (trees : List Tree) (edges : List PlanEdge) (r : Reply) → branch (branches_among n trees edges) r ≡ option_map (λ e. (e.note, tree_among n trees e.next)) (edge_for edges r)
+branch-edge_for : (n : ℕ) (trees : List Tree) (edges : List PlanEdge) (r : Reply) →
+    branch (branches_among n trees edges) r ≡ option_map (λ e. (e.note, tree_among n trees e.next)) (edge_for edges r)
 branch-edge_for n trees [] r = refl
 branch-edge_for n trees (e ∷ edges) r =
     elim (among e.replies.now r) as (λ b. elim b as (λ c. Option (Option PidNote × Tree)) [ true ↦ Some (e.note, tree_among n trees e.next) | false ↦ branch (branches_among n trees edges) r ] ≡ option_map (λ x. (x.note, tree_among n trees x.next)) (cond b (Some e) (edge_for edges r))) [
@@ -103,7 +112,9 @@ branch-edge_for n trees (e ∷ edges) r =
     ]
 
 -- what follows an answer, by the edges of a step
-pub follow_here : (steps : List Step) (s : Step) (answer : Answer) → follow (Some (tree_here steps s)) answer ≡ option_map (λ e. (e.note, tree_behind steps e.next)) (edge_for s.edges.items (reply_of s.set answer))
+pub follow_here : (steps : List Step) (s : Step) (answer : Answer) →
+    follow (Some (tree_here steps s)) answer
+    ≡ option_map (λ e. (e.note, tree_behind steps e.next)) (edge_for s.edges.items (reply_of s.set answer))
 follow_here steps s answer = branch-edge_for 1 (trees_from 1 steps) s.edges.items (reply_of s.set answer)
 
 pub within_at : (steps : List Step) (next : Next) (place : Place) → next ≡ To place → is_within steps next ≡ true → place.0 - 1 < length steps

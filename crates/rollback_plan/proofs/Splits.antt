@@ -13,7 +13,8 @@ use Rattle.rollback_plan.specs.Drafts.{is_plain, are_plain}
 use Rattle.rollback_plan.proofs.DraftTrees.{plain_below}
 
 -- one step more, which may not have been added
-pub splits_push : (ok : Bool) (a b : ℕ) (old new : List Step) (s : Step) → new ≡ cond ok (old ++ s ∷ []) old → all_split_to a b s.edges.items ≡ true → steps_split_to a b old ≡ true → steps_split_to a b new ≡ true
+pub splits_push : (ok : Bool) (a b : ℕ) (old new : List Step) (s : Step) → new ≡ cond ok (old ++ s ∷ []) old →
+    all_split_to a b s.edges.items ≡ true → steps_split_to a b old ≡ true → steps_split_to a b new ≡ true
 splits_push true a b old new s e h k =
     ap (steps_split_to a b) e ∙ (list_all-append (λ x. all_split_to a b x.edges.items) old (s ∷ []) ∙ and_from (steps_split_to a b old) (steps_split_to a b (s ∷ [])) k (and_from (all_split_to a b s.edges.items) true h refl))
 splits_push false a b old new s e h k = ap (steps_split_to a b) e ∙ k

@@ -3,7 +3,7 @@ use Rattle.std.specs.Prelude.{◌≡◌, true, List, [], Some}
 use Rattle.std.specs.Option.{option_map}
 use Rattle.std.specs.List.{list_all}
 use Rattle.vocabulary.specs.declared.calls.Answer.{Answer}
-use Rattle.definitions.specs.Tree.{Tree, reply_of}
+use Rattle.definitions.specs.Run.{Tree, reply_of}
 use Rattle.rollback_plan.specs.Following.{follow}
 use Rattle.definitions.specs.Plans.{Turn}
 use Rattle.plan_steps.specs.declared.step.Step.{Step}
@@ -34,6 +34,9 @@ IsTurn c turn turns = is_both c.at ≡ true → turn_of turns ≡ turn
 -- A step is next at a turn: the rest begins with it, and its edges lead on.
 pub record IsNextStep (c : Cursor) (turn : Turn) (s : Step) : Type 0 where
   pub first : (turns : List Turn) → IsTurn c turn turns → begins (rest_under c turns) s
-  pub leads : (turns : List Turn) (answer : Answer) → IsTurn c turn turns → follow (Some (rest_under c turns)) answer ≡ option_map (λ e. (e.note, led_to c turn e.next (left_after c turns))) (edge_for s.edges.items (reply_of s.set answer))
+  pub leads : (turns : List Turn) (answer : Answer) → IsTurn c turn turns →
+      follow (Some (rest_under c turns)) answer
+      ≡ option_map (λ e. (e.note, led_to c turn e.next (left_after c turns)))
+      (edge_for s.edges.items (reply_of s.set answer))
   pub within : list_all (λ e. is_within c.plan.now.steps.items e.next) s.edges.items ≡ true
   pub apart : list_all (λ e. leads_apart c.plan.now.steps.items c.at turn e.next) s.edges.items ≡ true

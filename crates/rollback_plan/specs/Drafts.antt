@@ -1,7 +1,7 @@
 -- What a contract sees of a draft.
 use Rattle.std.specs.Prelude.{◌≡◌, ℕ, ◌+◌, ◌<◌, ◌≤◌, Bool, true, false, List, [], ◌++◌, length, nat_lt, Result, OnOk, IsErrOf}
 use Rattle.std.specs.List.{list_all}
-use Rattle.definitions.specs.Tree.{Tree, Branches}
+use Rattle.definitions.specs.Run.{Tree, Branches}
 use Rattle.plan_steps.specs.Fit.{is_fit}
 use Rattle.plan_steps.specs.declared.parts.Parts.{Parts}
 use Rattle.plan_steps.specs.declared.step.PlanEdge.{PlanEdge}

@@ -3,7 +3,7 @@ use Rattle.std.specs.Prelude.{List, Option, Some, None}
 use Rattle.vocabulary.specs.declared.calls.Answer.{Answer}
 use Rattle.vocabulary.specs.declared.plans.PidNote.{PidNote}
 use Rattle.call_laws.specs.Pieces.{branch}
-use Rattle.definitions.specs.Tree.{Tree, Ends, Does, reply_of}
+use Rattle.definitions.specs.Run.{Tree, Ends, Does, reply_of}
 
 -- what follows an answer: the note that is set, and the rest
 abbrev pub follow : Option Tree → Answer → Option (Option PidNote × Tree)

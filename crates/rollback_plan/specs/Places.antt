@@ -2,7 +2,7 @@
 use Rattle.std.specs.Prelude.{◌≡◌, Bool, true, false, ◌&&◌, ◌||◌, not, List, [], ◌∷◌, Option, None, Some, if◌then◌else◌}
 use Rattle.vocabulary.specs.declared.plans.End.{End}
 use Rattle.vocabulary.specs.declared.plans.End.TheVariants.{Done, Split}
-use Rattle.definitions.specs.Tree.{Tree, Ends, Does}
+use Rattle.definitions.specs.Run.{Tree, Ends, Does}
 use Rattle.definitions.specs.Plans.{Turn, New, Old, weave, joined}
 use Rattle.plan_steps.specs.declared.parts.Parts.{Parts}
 use Rattle.plan_steps.specs.declared.step.Step.{Step}
@@ -104,7 +104,8 @@ chosen_at (Behind next) turn = next
 abbrev pub led_at : List Step → Option Parts → At → Turn → Next → List Turn → Tree
 led_at steps parts (Before from) turn next turns = woven_behind steps parts next turns
 led_at steps parts (Beside new old) turn next turns =
-    if goes_new new old turn then weave (joined_in steps parts) (tree_behind steps next) turns (tree_behind steps old) else weave (joined_in steps parts) (tree_behind steps new) turns (tree_behind steps next)
+    if goes_new new old turn then weave (joined_in steps parts) (tree_behind steps next) turns (tree_behind steps old)
+    else weave (joined_in steps parts) (tree_behind steps new) turns (tree_behind steps next)
 led_at steps parts (Behind from) turn next turns = tree_behind steps next
 
 -- a tree begins with a step

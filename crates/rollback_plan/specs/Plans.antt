@@ -1,6 +1,6 @@
 -- What a contract sees of a plan.
 use Rattle.std.specs.Prelude.{ℕ, List, [], Option}
-use Rattle.definitions.specs.Tree.{Tree}
+use Rattle.definitions.specs.Run.{Tree}
 use Rattle.definitions.specs.Plans.{Turn}
 use Rattle.vocabulary.specs.declared.plans.PidNote.{PidNote}
 use Rattle.vocabulary.specs.declared.plans.Sides.{Sides}

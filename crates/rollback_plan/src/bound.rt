@@ -1,8 +1,9 @@
 //! The last census of each master, which names the workers of a settle.
 ghost use Rattle.std.specs.Prelude.{◌≡◌, []};
-ghost use Rattle.definitions.specs.Tree.{call_of};
+ghost use Rattle.definitions.specs.Run.{call_of};
 ghost use Rattle.call_laws.specs.Pieces as pieces;
-ghost use Rattle.definitions.specs.Run.{ready_after, lacked_by, lacked_last, lacked_after};
+ghost use Rattle.definitions.specs.Run.{ready_after, lacked_by, lacked_after};
+ghost use Rattle.call_laws.specs.Pieces.{lacked_last};
 ghost use Rattle.definitions.specs.Run as run;
 ghost use Rattle.rollback_plan.specs.Bounds.{newest_of, lacked_in};
 

@@ -1,6 +1,6 @@
 //! A plan that is built from its ends up.
 ghost use Rattle.std.specs.Prelude.{◌≡◌, ◌++◌, ◌∷◌, [], ◌+◌, ◌<◌, ◌≤◌, ◌↔◌, length, IsTrue, IfOk, IsErrOf, OnOk, OnErr, vec_len, vec_capacity, take};
-ghost use Rattle.definitions.specs.Tree.{Does};
+ghost use Rattle.definitions.specs.Run.{Does};
 ghost use Rattle.plan_steps.specs.Steps.{step_tree, leads_back, all_lead_back, all_below};
 ghost use Rattle.plan_steps.specs.Stretches.{all_split_to};
 

@@ -1,7 +1,7 @@
 //! How plans end: a settle, and the ways back to one.
 ghost use Rattle.std.specs.Prelude.{◌≡◌, ◌+◌, ◌*◌, ◌<◌, length, take, IfOk, IsErrOf, IsTrue, OnOk, OnErr};
 ghost use Rattle.vocabulary.specs.declared.plans.Side.TheVariants.{Old};
-ghost use Rattle.definitions.specs.Tree.{Ends};
+ghost use Rattle.definitions.specs.Run.{Ends};
 ghost use Rattle.definitions.specs.Plans as plans;
 ghost use Rattle.call_laws.specs.Pieces as pieces;
 ghost use Rattle.rollback_plan.specs.declared.draft.TheConstants.{MOST_STEPS};

@@ -13,15 +13,14 @@ use Rattle.vocabulary.specs.declared.calls.Answer.{Answer}
 use Rattle.vocabulary.specs.declared.calls.Answer.TheVariants as answer
 use Rattle.vocabulary.specs.declared.calls.Fate.{Fate}
 use Rattle.definitions.specs.Table.{Hold, Process, Master, Worker, Foreign, Table, Caller, owner_at, live_master}
-use Rattle.definitions.specs.Table.{is_live_master, is_held, is_worker, is_active, is_starting, is_exited, is_any}
-use Rattle.definitions.specs.Table.{is_draining, is_named}
-use Rattle.definitions.specs.Exits.{change, made_exited, first_changed, caller_exits, without_exited, exited, all_exited, after_exits}
-use Rattle.definitions.specs.Calls.{Stepped, gives, each_row, drop_where, suits, moved_if, asked_alive, is_image}
-use Rattle.definitions.specs.Calls.{is_of_image, with_holds, put_hold, lacks_address, lowest_free}
-use Rattle.call_laws.specs.Pieces.{without_master, fault_at}
-use Rattle.definitions.specs.Calls.{with_new_socket, with_new_row, shared, is_row, is_of, is_exited_of, made_ready}
-use Rattle.definitions.specs.Calls.{made_draining, has_process_room, own_step, fault_or_own, step_by}
-use Rattle.definitions.specs.Calls.{step_with, Handed}
+use Rattle.definitions.specs.Table.{is_held, is_worker, is_active}
+use Rattle.call_laws.specs.Pieces.{is_live_master, is_starting, is_exited, is_any, is_named, is_draining, made_exited}
+use Rattle.call_laws.specs.Pieces.{caller_exits, moved_if, asked_alive, lacks_address, without_master, fault_at}
+use Rattle.call_laws.specs.Pieces.{with_new_socket, is_row, made_ready, made_draining, fault_or_own}
+use Rattle.definitions.specs.Calls.{change, first_changed, without_exited, exited, all_exited, after_exits, Stepped}
+use Rattle.definitions.specs.Calls.{gives, each_row, drop_where, is_image, suits, is_of_image, with_holds, put_hold}
+use Rattle.definitions.specs.Calls.{lowest_free, with_new_row, shared, is_of, is_exited_of, has_process_room, own_step}
+use Rattle.definitions.specs.Calls.{step_by, step_with, Handed}
 use Rattle.table_laws.proofs.Rows.{FitsIn, every-filter_map, every-append}
 use Rattle.call_laws.proofs.Choices.{pick}
 use Rattle.run_laws.proofs.Taken.{IsOther, gone-lasts}

@@ -8,12 +8,11 @@ use Rattle.vocabulary.specs.declared.calls.Call.TheVariants.{OpenAt, CloseAt, Qu
 use Rattle.vocabulary.specs.declared.calls.Reply.{Reply}
 use Rattle.vocabulary.specs.declared.plans.End.{End}
 use Rattle.vocabulary.specs.declared.plans.Side.{Side}
-use Rattle.definitions.specs.Tree.{Tree, Branches, Ends, Does, Nothing, Branch, among}
-use Rattle.definitions.specs.Plans.{settle, forks, awaits, starts, forks_any, awaits_any, starts_any}
-use Rattle.call_laws.specs.Pieces.{quits, kills, usr1s, closes, census, census_edges}
-use Rattle.definitions.specs.Plans.{opens, full_end, short_end}
-use Rattle.definitions.specs.Crew.{Crew, fds_of}
-use Rattle.definitions.specs.Run.{Progress, Ending, At, Lost, noted}
+use Rattle.definitions.specs.Run.{Tree, Branches, Ends, Does, Nothing, Branch, Progress, Ending, At, Lost}
+use Rattle.call_laws.specs.Pieces.{among, quits, kills, usr1s, closes, census, census_edges, noted}
+use Rattle.definitions.specs.Plans.{settle, forks, awaits, starts, forks_any, awaits_any, starts_any, opens, full_end}
+use Rattle.definitions.specs.Plans.{short_end}
+use Rattle.definitions.specs.Master.{Crew, fds_of}
 use Rattle.table_laws.proofs.Sets.{in-here, in-there, in-cases}
 use Rattle.run_laws.proofs.Logic.{Exiting, Asked, Unasked, Course, course_after, Along, Behind}
 use Rattle.run_laws.proofs.Lights.{Light, no_claim, Calm, ByItself, settle-along}

@@ -5,11 +5,11 @@ use Rattle.std.specs.List.{AllByRecursion, list_any}
 use Rattle.listener_set.specs.Numbers.{is_in}
 use Rattle.listener_set.specs.declared.generation.Generation.{Generation}
 use Rattle.vocabulary.specs.declared.table.Stance.TheVariants.{Starting, Ready, Draining, Exited}
-use Rattle.definitions.specs.Table.{Hold, Process, Master, Worker, Foreign, Table, number_of, bears, same_generation, is_ready}
+use Rattle.definitions.specs.Table.{Hold, Process, Master, Worker, Foreign, Table, number_of, bears, same_generation}
 use Rattle.definitions.specs.Table.{IsAscending}
-use Rattle.definitions.specs.Record.{Record}
-use Rattle.definitions.specs.Manner.{is_ready_as, has_ready, is_active_process}
-use Rattle.definitions.specs.Claims.{IsStart}
+use Rattle.call_laws.specs.Pieces.{is_ready, is_ready_as, is_active_process}
+use Rattle.definitions.specs.Master.{Record}
+use Rattle.definitions.specs.Claims.{has_ready, IsStart}
 use Rattle.table_laws.proofs.Rows.{every-more, every-both, both-true, or-right}
 use Rattle.call_laws.proofs.Choices.{and-left, and-right}
 use Rattle.table_laws.proofs.Views.{View, Fine, eqb-is, eqb-refl}

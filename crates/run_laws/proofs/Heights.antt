@@ -1,10 +1,11 @@
 -- A run makes no more calls than the longest path of its plan has steps.
 use Rattle.std.proofs.Common.{◌+◌, ◌≤◌, true, false, length, arith}
 use Rattle.std.specs.Prelude.{max}
-use Rattle.definitions.specs.Tree.{Tree, Branches, Ends, Does, Nothing, Branch, among, reply_of}
+use Rattle.definitions.specs.Run.{Tree, Branches, Ends, Does, Nothing, Branch, reply_of, Pattern, Progress, Ran}
+use Rattle.definitions.specs.Run.{run_with, goes_with, after_moment, after_call}
+use Rattle.call_laws.specs.Pieces.{among, answered, noted}
 use Rattle.call_laws.specs.Lengths.{height, highest}
 use Rattle.vocabulary.specs.declared.calls.Reply.{Reply}
-use Rattle.definitions.specs.Run.{Pattern, Progress, Ran, run_with, goes_with, after_moment, after_call, answered, noted}
 use Rattle.definitions.specs.Calls.{Handed}
 
 mutual

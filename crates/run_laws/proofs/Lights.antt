@@ -14,17 +14,16 @@ use Rattle.vocabulary.specs.declared.plans.Side.{Side}
 use Rattle.vocabulary.specs.declared.plans.Order.{Order}
 use Rattle.vocabulary.specs.declared.plans.Order.TheVariants.{Make, ForkLacking, AwaitLacking, KillLacking}
 use Rattle.definitions.specs.Table.{Table, Caller, live_master}
-use Rattle.definitions.specs.Exits.{after_exits}
-use Rattle.definitions.specs.Calls.{gives, each_row, drop_where, is_exited_of, census_of, step_by, step_with, Handed}
+use Rattle.definitions.specs.Calls.{after_exits, gives, each_row, drop_where, is_exited_of, census_of, step_by}
+use Rattle.definitions.specs.Calls.{step_with, Handed}
 use Rattle.table_laws.proofs.Views.{eqb-refl}
-use Rattle.definitions.specs.Run.{Lack, lacked_by, lacked_after, went_wrong}
-use Rattle.definitions.specs.Tree.{Tree, Branches, Ends, Does, Nothing, Branch, among, reply_of, full_or_short, call_of}
+use Rattle.definitions.specs.Run.{Lack, lacked_by, lacked_after, Tree, Branches, Ends, Does, Nothing, Branch, reply_of}
+use Rattle.definitions.specs.Run.{call_of, Progress, Ending, At, Lost, after_call, after_moment}
+use Rattle.call_laws.specs.Pieces.{went_wrong, among, full_or_short, fork_edges, census_edges, census, first_cause}
+use Rattle.call_laws.specs.Pieces.{lowest, noted, answered}
 use Rattle.definitions.specs.Plans.{settle, round, full_end, short_end, await_any_edges, then_edge}
-use Rattle.call_laws.specs.Pieces.{fork_edges, census_edges, census, first_cause, lowest}
-use Rattle.definitions.specs.Manner.{is_leave_call}
-use Rattle.definitions.specs.Crew.{Crew, fds_of, fork_of}
-use Rattle.definitions.specs.Run.{Progress, Ending, At, Lost, noted, after_call, after_moment, answered}
-use Rattle.definitions.specs.Claims.{names_any}
+use Rattle.definitions.specs.Claims.{is_leave_call, names_any}
+use Rattle.definitions.specs.Master.{Crew, fds_of, fork_of}
 use Rattle.run_laws.proofs.Refusals.{is_leave}
 use Rattle.table_laws.proofs.Exits.{Spares, spares-each}
 use Rattle.run_laws.proofs.Logic.{Exiting, Asked, Course, course_after, Along, Behind}

@@ -4,15 +4,15 @@ use Rattle.std.specs.Prelude.{⊤}
 use Rattle.std.specs.List.{AllByRecursion}
 use Rattle.definitions.specs.Table.{Process, Table}
 use Rattle.vocabulary.specs.declared.calls.Call.{Call}
-use Rattle.definitions.specs.Tree.{call_of, Tree, Branches, Ends, Does, Nothing, Branch, among, reply_of}
+use Rattle.definitions.specs.Run.{call_of, Tree, Branches, Ends, Does, Nothing, Branch, reply_of, Pattern, Progress}
+use Rattle.definitions.specs.Run.{Ran, after_moment, after_call, Ending, At, Lost, run_with, goes_with, lacked_by}
+use Rattle.call_laws.specs.Pieces.{among, noted, answered}
 use Rattle.vocabulary.specs.declared.plans.Order.{Order}
 use Rattle.vocabulary.specs.declared.reports.Entry.{Entry}
 use Rattle.vocabulary.specs.declared.calls.Reply.{Reply}
 use Rattle.definitions.specs.Claims.{names_any, refused_among}
 use Rattle.run_laws.proofs.Refusals.{acting_at, acting_after, refused_from, refused_behind, refused-is}
 use Rattle.vocabulary.specs.declared.names.Name.{Name}
-use Rattle.definitions.specs.Run.{Pattern, Progress, Ran, after_moment, after_call, noted, answered, Ending, At, Lost, run_with, goes_with}
-use Rattle.definitions.specs.Run.{lacked_by}
 use Rattle.definitions.specs.Calls.{Handed}
 
 ---- What holds along a run

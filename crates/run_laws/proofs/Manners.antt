@@ -7,11 +7,11 @@ use Rattle.vocabulary.specs.declared.calls.Call.TheVariants.{Kill}
 use Rattle.vocabulary.specs.declared.calls.Reply.{Reply}
 use Rattle.vocabulary.specs.declared.reports.Entry.{Entry}
 use Rattle.definitions.specs.Table.{Table}
-use Rattle.definitions.specs.Record.{Record}
-use Rattle.definitions.specs.Tree.{Tree, Branches, Ends, Does, Nothing, Branch, among, reply_of}
-use Rattle.definitions.specs.Run.{Pattern, Progress, Ending, Ran, run_with, goes_with, noted, after_call, after_moment, answered, start_at}
-use Rattle.definitions.specs.Manner.{has_ready, is_active_process, is_lost, IsKillDue, KillsAreDue}
-use Rattle.definitions.specs.Claims.{IsStart}
+use Rattle.definitions.specs.Master.{Record}
+use Rattle.definitions.specs.Run.{Tree, Branches, Ends, Does, Nothing, Branch, reply_of, Pattern, Progress, Ending, Ran}
+use Rattle.definitions.specs.Run.{run_with, goes_with, after_call, after_moment, start_at}
+use Rattle.call_laws.specs.Pieces.{among, noted, answered, is_active_process}
+use Rattle.definitions.specs.Claims.{has_ready, is_lost, IsKillDue, KillsAreDue, IsStart}
 use Rattle.run_laws.proofs.Logic.{Course, course_after, Along, AreMild, AreMildBehind, AllDue, Unasked, Anyhow, refused_in, run_in, from-along, are-mild-anyhow}
 use Rattle.run_laws.proofs.Lights.{no_claim}
 use Rattle.run_laws.proofs.Staying.{Unlost, Stands}

@@ -8,17 +8,16 @@ use Rattle.vocabulary.specs.declared.plans.Side.TheVariants.{Old}
 use Rattle.vocabulary.specs.declared.plans.Turn.{Turn}
 use Rattle.vocabulary.specs.declared.plans.Turn.TheVariants as turn
 use Rattle.definitions.specs.Table.{Address, FilePath}
-use Rattle.definitions.specs.Crew.{Crew}
-use Rattle.definitions.specs.Tree.{Tree, Branches, Ends, Does, Nothing, Branch, End, Done, RolledBack, ShortOld}
-use Rattle.definitions.specs.Tree.{ShortTarget, Split, JoinReady, JoinBack, Join}
+use Rattle.definitions.specs.Master.{Crew, addresses_of, crew_of}
+use Rattle.definitions.specs.Run.{Tree, Branches, Ends, Does, Nothing, Branch, End, Done, RolledBack, ShortOld}
+use Rattle.definitions.specs.Run.{ShortTarget, Split, JoinReady, JoinBack, Join}
 use Rattle.call_laws.specs.Lengths.{height, highest}
-use Rattle.definitions.specs.Plans.{graft, graft_all, joined, beside, beside_all, weave, weave_all}
+use Rattle.definitions.specs.Plans.{graft, graft_all, joined, beside, beside_all, weave, weave_all, does, taken_over}
+use Rattle.definitions.specs.Plans.{new_part, old_part, move_aside, move_back, back_alone, back_from, settle}
+use Rattle.definitions.specs.Plans.{upgrade_tree}
 use Rattle.definitions.specs.Calls.{SpawnMaster}
-use Rattle.definitions.specs.Record.{addresses_of, crew_of}
 use Rattle.definitions.specs.After.{crew_wanted}
-use Rattle.definitions.specs.Plans.{does, taken_over, new_part, old_part, move_aside, move_back}
 use Rattle.call_laws.specs.Pieces.{spawn_edges}
-use Rattle.definitions.specs.Plans.{back_alone, back_from, settle, upgrade_tree}
 use Rattle.call_laws.specs.Lengths.{upgrade_length}
 use Rattle.run_laws.specs.Lengths.{PlansFit}
 

@@ -15,16 +15,15 @@ use Rattle.vocabulary.specs.declared.calls.Answer.{Answer}
 use Rattle.vocabulary.specs.declared.calls.Answer.TheVariants as answer
 use Rattle.vocabulary.specs.declared.calls.Fate.{Fate}
 use Rattle.definitions.specs.Table.{Hold, Process, Master, Worker, Foreign, Table, Caller, owner_at, live_master}
-use Rattle.definitions.specs.Table.{caller_if, is_live_master, is_worker, is_named, is_active, is_starting, is_draining}
-use Rattle.definitions.specs.Table.{is_exited, is_any, is_held}
-use Rattle.definitions.specs.Exits.{without_exited, change, made_exited, first_changed, caller_exits, exited, all_exited, after_exits}
+use Rattle.definitions.specs.Table.{is_worker, is_active, is_held}
+use Rattle.call_laws.specs.Pieces.{is_live_master, is_named, caller_if, is_starting, is_draining, is_exited, is_any}
+use Rattle.call_laws.specs.Pieces.{made_exited, caller_exits, moved_if, is_image_row, lacks_address, is_row}
+use Rattle.call_laws.specs.Pieces.{with_new_socket, made_ready, made_draining, fault_or_own, fault_at}
+use Rattle.definitions.specs.Calls.{without_exited, change, first_changed, exited, all_exited, after_exits, is_image}
+use Rattle.definitions.specs.Calls.{is_of_image, census_of, Stepped, gives, suits, each_row, drop_where, with_holds}
+use Rattle.definitions.specs.Calls.{put_hold, is_of, is_exited_of, with_new_row, shared, lowest_free, has_process_room}
+use Rattle.definitions.specs.Calls.{own_step, step_by, step_with, Handed}
 use Rattle.std.specs.Bool.{then_some}
-use Rattle.definitions.specs.Calls.{suits, moved_if, is_image, is_image_row, is_of_image, census_of, Stepped, gives}
-use Rattle.definitions.specs.Calls.{each_row, drop_where, with_holds, put_hold, lacks_address, is_row, is_of}
-use Rattle.definitions.specs.Calls.{is_exited_of, made_ready, made_draining, with_new_row, shared, with_new_socket}
-use Rattle.definitions.specs.Calls.{lowest_free, has_process_room, own_step, fault_or_own, step_by, step_with}
-use Rattle.call_laws.specs.Pieces.{fault_at}
-use Rattle.definitions.specs.Calls.{Handed}
 use Rattle.table_laws.proofs.Rows.{weigh-append, one, weigh, worth, FitsIn, change-same, every-filter_map, every-append, every-any}
 use Rattle.call_laws.proofs.Choices.{pick}
 use Rattle.table_laws.proofs.Views.{master_of, eqb-refl, eqb-off, eqb-is}
@@ -469,7 +468,8 @@ module _ (m image n : ℕ) (P : Process → Type 0) (Quits : Generation → ℕ 
   any-keeps handed by c _ t any fact = absurd any
 
   -- A fact lasts through the calls that any master may make.
-  pub fact-any : (handed : Handed) (by : ℕ) (call : Call) (fate : Option Fate) (t : Table) → AnyCall image call → F t → F (step_with handed by call fate t).table
+  pub fact-any : (handed : Handed) (by : ℕ) (call : Call) (fate : Option Fate) (t : Table) → AnyCall image call → F t →
+      F (step_with handed by call fate t).table
   fact-any handed by call fate t any fact = go (live_master by t.rows)
     where
       or : (o : Option Answer) (c : Caller) → F (fault_or_own o handed by c call t).table

@@ -6,11 +6,10 @@ use Rattle.vocabulary.specs.declared.plans.PidNote.{PidNote}
 use Rattle.vocabulary.specs.declared.plans.Order.{Order}
 use Rattle.vocabulary.specs.declared.plans.Order.TheVariants.{Make, ForkLacking, AwaitLacking, KillLacking}
 use Rattle.vocabulary.specs.declared.reports.Entry.{Entry}
-use Rattle.definitions.specs.Tree.{Tree, Ends, Does, Branches, Nothing, Branch, among, reply_of, call_of}
-use Rattle.definitions.specs.Manner.{is_leave_call}
-use Rattle.definitions.specs.Run.{Pattern, Progress, Ran, run_with, goes_with, noted, after_moment, after_call, answered}
-use Rattle.definitions.specs.Run.{lacked_by}
-use Rattle.definitions.specs.Claims.{names_any, refused_among}
+use Rattle.definitions.specs.Run.{Tree, Ends, Does, Branches, Nothing, Branch, reply_of, call_of, Pattern, Progress}
+use Rattle.definitions.specs.Run.{Ran, run_with, goes_with, after_moment, after_call, lacked_by}
+use Rattle.call_laws.specs.Pieces.{among, noted, answered}
+use Rattle.definitions.specs.Claims.{is_leave_call, names_any, refused_among}
 use Rattle.definitions.specs.Calls.{Handed}
 
 abbrev pub is_leave : Order → Bool

@@ -6,38 +6,36 @@ use Rattle.std.specs.List.{filter_map, list_any}
 use Rattle.std.specs.Prelude.{if◌then◌else◌, count_by, filter, ◌&&◌, ◌||◌, ◌==◌, ⊤, is_some}
 use Rattle.vocabulary.specs.declared.table.Limits.{Limits}
 use Rattle.definitions.specs.Table.{same_generation, has_address, Hold, Process, Master, Worker, Foreign, File, Table}
-use Rattle.definitions.specs.Table.{bears, Caller, with_rows, is_worker, is_active, is_ready, is_starting, is_exited}
-use Rattle.definitions.specs.Table.{is_any, Address, is_at}
+use Rattle.definitions.specs.Table.{bears, Caller, is_worker, is_active, Address}
+use Rattle.call_laws.specs.Pieces.{with_rows, is_ready, is_starting, is_exited, is_any, is_at, made_ready}
+use Rattle.call_laws.specs.Pieces.{made_draining, lacks_address, with_new_socket, is_row, full_or_short, gone_edges}
+use Rattle.call_laws.specs.Pieces.{usr1s, kills, fork_edges, await_edges, census_edges, census, quits, first_cause}
+use Rattle.call_laws.specs.Pieces.{lowest, is_ready_with, answered, lacked_last, went_wrong}
 use Rattle.vocabulary.specs.declared.table.Stance.TheVariants.{Starting}
 use Rattle.listener_set.specs.declared.generation.Generation.{Generation}
 use Rattle.definitions.specs.Calls.{Stepped, gives, step_by, own_step, with_new_row, shared, each_row, is_exited_of}
-use Rattle.definitions.specs.Calls.{drop_where, made_ready, made_draining, census_of, is_of, with_holds, lacks_address}
-use Rattle.definitions.specs.Calls.{lowest_free, with_new_socket, is_row, put_hold}
+use Rattle.definitions.specs.Calls.{drop_where, census_of, is_of, with_holds, lowest_free, put_hold, is_active_worker}
+use Rattle.definitions.specs.Calls.{change, losses_of, all_exited, after_exits}
 use Rattle.vocabulary.specs.declared.calls.Fate.{Fate}
 use Rattle.vocabulary.specs.declared.names.Name.{Name}
-use Rattle.definitions.specs.Exits.{is_active_worker, change, losses_of, all_exited, after_exits}
 use Rattle.vocabulary.specs.declared.calls.Call.{Call}
 use Rattle.vocabulary.specs.declared.calls.Call.TheVariants.{AwaitGone, Fork, AwaitReady, Quit, Kill, Census, CloseAt, OpenAt, Usr1}
 use Rattle.vocabulary.specs.declared.calls.Answer.TheVariants.{IsReady, Gone, Opened, Counted as Told}
-use Rattle.definitions.specs.Tree.{Tree, Branches, Ends, Does, Nothing, full_or_short, call_of, reply_of}
+use Rattle.definitions.specs.Run.{Tree, Branches, Ends, Does, Nothing, call_of, reply_of, Progress, Return}
+use Rattle.definitions.specs.Run.{after_moment, after_call, Ending, At, Lack, lacked_by, newest_of_others, lacked_after}
 use Rattle.listener_set.specs.Numbers.{is_in, lacks}
-use Rattle.definitions.specs.Plans.{awaits_gone, on, forks_any}
-use Rattle.call_laws.specs.Pieces.{gone_edges, usr1s, kills, fork_edges, await_edges, census_edges, census, quits}
-use Rattle.call_laws.specs.Pieces.{first_cause, lowest}
-use Rattle.definitions.specs.Plans.{awaits_any, then_edge, does, forks}
-use Rattle.definitions.specs.Plans.{awaits, starts, settle, round, full_end, short_end, await_any_edges}
+use Rattle.definitions.specs.Plans.{awaits_gone, on, forks_any, awaits_any, then_edge, does, forks, awaits, starts}
+use Rattle.definitions.specs.Plans.{settle, round, full_end, short_end, await_any_edges}
 use Rattle.vocabulary.specs.declared.plans.Side.{Side}
 use Rattle.vocabulary.specs.declared.plans.Order.{Order}
 use Rattle.vocabulary.specs.declared.plans.Order.TheVariants.{Make, ForkLacking, AwaitLacking, KillLacking}
 use Rattle.vocabulary.specs.declared.calls.Reply.{Reply}
 use Rattle.vocabulary.specs.declared.calls.Reply.TheVariants as reply
 use Rattle.vocabulary.specs.declared.plans.PidNote.{PidNote}
-use Rattle.definitions.specs.Claims.{names_any, is_ready_with}
-use Rattle.definitions.specs.Crew.{Crew, fds_of, fork_of}
+use Rattle.definitions.specs.Claims.{names_any}
+use Rattle.definitions.specs.Master.{Crew, fds_of, fork_of}
 use Rattle.run_laws.proofs.Refusals.{is_leave}
 use Rattle.vocabulary.specs.declared.calls.Reply.TheVariants as reply
-use Rattle.definitions.specs.Run.{Progress, Return, after_moment, after_call, Ending, At, answered, lacked_last}
-use Rattle.definitions.specs.Run.{went_wrong, Lack, lacked_by, newest_of_others, lacked_after}
 use Rattle.table_laws.proofs.Rows.{one, weigh, weigh-le-all, count-weigh, both-true, or-left, or-right}
 use Rattle.call_laws.proofs.Choices.{and-left, and-right}
 use Rattle.table_laws.proofs.Views.{HoldsShare, Names, named, View, Once, Looks, live_any, ready_in, finds, eqb-is, eqb-refl, eqb-off}

@@ -14,16 +14,15 @@ use Rattle.vocabulary.specs.declared.calls.Answer.{Answer}
 use Rattle.vocabulary.specs.declared.calls.Answer.TheVariants as answer
 use Rattle.vocabulary.specs.declared.calls.Fate.{Fate}
 use Rattle.definitions.specs.Table.{Hold, Process, Master, Worker, Foreign, Table, Caller, owner_at, live_master}
-use Rattle.definitions.specs.Table.{number_of, bears, is_worker, is_ready, is_active, is_starting, is_exited, is_any}
-use Rattle.definitions.specs.Table.{is_held}
-use Rattle.definitions.specs.Exits.{without_exited, change, made_exited, all_exited, after_exits}
+use Rattle.definitions.specs.Table.{number_of, bears, is_worker, is_active, is_held}
+use Rattle.call_laws.specs.Pieces.{is_ready, is_starting, is_exited, is_any, made_exited, moved_if, is_image_row}
+use Rattle.call_laws.specs.Pieces.{lacks_address, is_row, made_ready, made_draining, with_new_socket, fault_or_own}
+use Rattle.call_laws.specs.Pieces.{fault_at, is_active_process}
+use Rattle.definitions.specs.Calls.{without_exited, change, all_exited, after_exits, is_image, is_of_image, Stepped}
+use Rattle.definitions.specs.Calls.{gives, with_holds, suits, put_hold, is_of, is_exited_of, drop_where, census_of}
+use Rattle.definitions.specs.Calls.{with_new_row, shared, lowest_free, has_process_room, own_step, step_by, step_with}
+use Rattle.definitions.specs.Calls.{Handed}
 use Rattle.std.specs.Bool.{then_some}
-use Rattle.definitions.specs.Calls.{suits, moved_if, is_image, is_image_row, is_of_image, Stepped, gives, with_holds}
-use Rattle.definitions.specs.Calls.{put_hold, lacks_address, is_row, is_of, made_ready, made_draining, is_exited_of}
-use Rattle.definitions.specs.Calls.{drop_where, census_of, with_new_row, shared, with_new_socket, lowest_free}
-use Rattle.definitions.specs.Calls.{has_process_room, own_step, fault_or_own, step_by, step_with, Handed}
-use Rattle.call_laws.specs.Pieces.{fault_at}
-use Rattle.definitions.specs.Manner.{is_active_process}
 use Rattle.table_laws.proofs.Rows.{FitsIn, or-right}
 use Rattle.call_laws.proofs.Choices.{pick, and-left, and-right}
 use Rattle.table_laws.proofs.Views.{eqb-is}

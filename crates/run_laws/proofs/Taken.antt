@@ -11,12 +11,11 @@ use Rattle.vocabulary.specs.declared.table.Stance.{Stance}
 use Rattle.vocabulary.specs.declared.table.Stance.TheVariants.{Starting, Ready, Draining, Exited}
 use Rattle.vocabulary.specs.declared.calls.Call.{Call}
 use Rattle.vocabulary.specs.declared.calls.Call.TheVariants.{OpenAt, CloseAt, Fork, AwaitReady, Quit, Kill, Census, Usr1}
-use Rattle.definitions.specs.Table.{Hold, Process, Master, Worker, Foreign, Table, number_of, bears, is_worker, is_ready, is_active, is_any}
-use Rattle.definitions.specs.Exits.{without_exited, made_exited, after_exits}
+use Rattle.definitions.specs.Table.{Hold, Process, Master, Worker, Foreign, Table, number_of, bears, is_worker, is_active}
+use Rattle.call_laws.specs.Pieces.{is_ready, is_any, made_exited, made_ready, made_draining, is_process_of}
+use Rattle.definitions.specs.Calls.{without_exited, after_exits, with_holds, is_exited_of, drop_where, each_row}
+use Rattle.definitions.specs.Calls.{census_of, Stepped, step_with, Handed}
 use Rattle.std.specs.Bool.{then_some}
-use Rattle.definitions.specs.Calls.{with_holds, made_ready, made_draining, is_exited_of, drop_where, each_row, census_of, Stepped, step_with}
-use Rattle.definitions.specs.Calls.{Handed}
-use Rattle.definitions.specs.Manner.{is_process_of}
 use Rattle.table_laws.proofs.Rows.{FitsIn, every-filter_map, every-both, every-more, both-true}
 use Rattle.call_laws.proofs.Choices.{pick, and-right}
 use Rattle.table_laws.proofs.Views.{eqb-is, eqb-refl, eqb-off}

@@ -12,13 +12,11 @@ use Rattle.vocabulary.specs.declared.plans.Order.TheVariants.{Make}
 use Rattle.vocabulary.specs.declared.reports.Entry.{Entry}
 use Rattle.vocabulary.specs.declared.names.Name.{Name}
 use Rattle.definitions.specs.Table.{Table}
-use Rattle.definitions.specs.Exits.{after_exits}
-use Rattle.definitions.specs.Calls.{step_with, Handed}
-use Rattle.definitions.specs.Manner.{is_leave_call, one_then}
-use Rattle.definitions.specs.Tree.{Tree, Branches, Ends, Does, Nothing, Branch, among, reply_of, call_of}
-use Rattle.definitions.specs.Run.{Progress, Ran, Ending, At, Lost, noted, after_call, after_moment, answered, goes_with}
-use Rattle.definitions.specs.Run.{lacked_by}
-use Rattle.definitions.specs.Claims.{names_any}
+use Rattle.definitions.specs.Calls.{after_exits, step_with, Handed}
+use Rattle.definitions.specs.Claims.{is_leave_call, one_then, names_any}
+use Rattle.definitions.specs.Run.{Tree, Branches, Ends, Does, Nothing, Branch, reply_of, call_of, Progress, Ran, Ending}
+use Rattle.definitions.specs.Run.{At, Lost, after_call, after_moment, goes_with, lacked_by}
+use Rattle.call_laws.specs.Pieces.{among, noted, answered}
 use Rattle.run_laws.proofs.Refusals.{acting_at, acting_after, refused_behind, refused-is, is_leave}
 use Rattle.run_laws.proofs.Logic.{Exiting, Asked, Course, course_after, Along, Behind, AreMild, AreMildBehind, refused_in, refused_by, run_in}
 use Rattle.run_laws.proofs.Lights.{no_claim}
@@ -171,8 +169,14 @@ module _ (due : Asking) (post : Finally) (mild : Exiting) (F : Table → Type 0)
         let moment = co.pattern (p.calls + 1) in
         let middle = after_moment moment.exits p in
         let s = answered co.handed by order moment.fate middle in
-        let h' = exits moment.exits p.table h in
-        (asks past (call_of order (lacked_by by middle.lacked)) middle.table k h', robust-behind (course_after order co) bs (past ++ entry_of by (call_of order (lacked_by by middle.lacked)) s.answer ∷ []) (reply_of set s.answer) (after_call by order set s middle) (grows past (entry_of by (call_of order (lacked_by by middle.lacked)) s.answer) k) (steps co.handed by (call_of order (lacked_by by middle.lacked)) moment.fate middle.table h'))
+        let h' = exits moment.exits p.table h in (
+          asks past (call_of order (lacked_by by middle.lacked)) middle.table k h',
+          robust-behind
+              (course_after order co) bs (past ++ entry_of by (call_of order (lacked_by by middle.lacked)) s.answer ∷ [])
+              (reply_of set s.answer) (after_call by order set s middle)
+              (grows past (entry_of by (call_of order (lacked_by by middle.lacked)) s.answer) k)
+              (steps co.handed by (call_of order (lacked_by by middle.lacked)) moment.fate middle.table h'),
+        )
 
     pub robust-behind :
         (co : Course) (bs : Branches) (past : List Entry) (r : Reply) (p : Progress) → K past → F p.table →

@@ -14,16 +14,13 @@ use Rattle.vocabulary.specs.declared.calls.Reply.TheVariants as reply
 use Rattle.vocabulary.specs.declared.plans.Order.TheVariants.{Make}
 use Rattle.vocabulary.specs.declared.reports.Entry.{Entry}
 use Rattle.definitions.specs.Table.{Table, bears}
-use Rattle.definitions.specs.Exits.{after_exits}
-use Rattle.definitions.specs.Calls.{step_with, Handed}
-use Rattle.definitions.specs.Record.{Record}
-use Rattle.definitions.specs.Tree.{Tree, Nothing, among, reply_of, full_or_short}
+use Rattle.definitions.specs.Calls.{after_exits, step_with, Handed}
+use Rattle.definitions.specs.Master.{Record}
+use Rattle.definitions.specs.Run.{Tree, Nothing, reply_of, Progress, Lost, after_call}
+use Rattle.call_laws.specs.Pieces.{among, full_or_short, gone_edges, quits, was_waited_for}
 use Rattle.definitions.specs.Plans.{on, does, then_edge, awaits_gone}
-use Rattle.call_laws.specs.Pieces.{gone_edges, quits}
-use Rattle.definitions.specs.Run.{Progress, Lost, after_call}
-use Rattle.definitions.specs.Manner.{is_quit, is_wait, is_late, is_leave_call, was_late, was_waited_for}
-use Rattle.definitions.specs.Manner.{IsKillDue, KillsAreDue, before_leave}
-use Rattle.definitions.specs.Claims.{names_any}
+use Rattle.definitions.specs.Claims.{is_quit, is_wait, is_late, is_leave_call, was_late, IsKillDue, KillsAreDue}
+use Rattle.definitions.specs.Claims.{before_leave, names_any}
 use Rattle.table_laws.proofs.Rows.{both-true}
 use Rattle.table_laws.proofs.Effects.{bears-refl}
 use Rattle.table_laws.proofs.Sets.{in-here, in-there, in-cases, every-in}
@@ -103,7 +100,9 @@ module _ (by : ℕ) (g : Generation) (due : Asking) (post : Finally) (mild : Exi
         let e = entry_of by (Quit g x) st.answer in
         all-good due post mild co lost F K' (then_edge more) (
           (quits-told asks keeps ks rest K' (λ past e h. (grows past e h.0, told-on g x past e h.1))
-              (λ past' p' k' told h'. next past' p' k'.0 (λ j on. ⊎_elim (λ same. subst (λ z. Told g z past') same k'.1) (λ more. told j more) (in-cases x j ks on)) h')),
+              (λ past' p' k' told h'. next past' p' k'.0
+              (λ j on. ⊎_elim (λ same. subst (λ z. Told g z past') same k'.1) (λ more. told j more)
+              (in-cases x j ks on)) h')),
           tt,
         )
         (past ++ e ∷ []) (reply_of [] st.answer) (after_call by (Make (Quit g x)) [] st q)
@@ -123,7 +122,10 @@ module _ (by : ℕ) (g : Generation) (due : Asking) (post : Finally) (mild : Exi
           | false ↦ λ e. lost past q
         ] refl in
         elim (among (reply.Gone ∷ []) (reply_of [] a)) as
-        (λ b. elim b as (λ z. Type 0) [ true ↦ T past more q | false ↦ TracedBehind due post mild co past (on (reply.Late ∷ []) killing Nothing) (reply_of [] a) q ]) [
+        (λ b. elim b as (λ z. Type 0) [
+          | true ↦ T past more q
+          | false ↦ TracedBehind due post mild co past (on (reply.Late ∷ []) killing Nothing) (reply_of [] a) q
+        ]) [
           | true ↦ gone
           | false ↦ after_late
         ]
@@ -147,14 +149,17 @@ module _ (by : ℕ) (g : Generation) (due : Asking) (post : Finally) (mild : Exi
         let goes_on : Good due post mild co lost F K' more =
         waits-told asks keeps asks_kill keeps_kill ks rest K' grows'
         (λ past'' h k e. told past'' h.0 k (in-there x k ks e))
-        (λ past'' q'' h waited f. next past'' q'' h.0 (λ k e. ⊎_elim (λ same. subst (λ z. Waited g z past'') same h.1) (λ later. waited k later) (in-cases x k ks e)) f)
+        (λ past'' q'' h waited f. next past'' q'' h.0
+        (λ k e. ⊎_elim (λ same. subst (λ z. Waited g z past'') same h.1) (λ later. waited k later)
+        (in-cases x k ks e)) f)
         in
         good-step due post mild co lost F K by (AwaitGone g x) [] (gone_edges more killing) refl exits (λ past t k h. asks past x t h)
         (λ past1 q1 fate1 k1 h1.
         let st = step_with co.handed by (AwaitGone g x) fate1 q1.table in
         let e = entry_of by (AwaitGone g x) st.answer in
         let told_x = told past1 k1 x (in-here x x ks refl) in
-        let waited : Waited g x (past1 ++ e ∷ []) = then-last (λ e. is_quit (bears g x) e.call) (λ e. is_wait (bears g x) e.call) past1 e told_x (bears-refl g x) in
+        let waited : Waited g x (past1 ++ e ∷ []) = then-last (λ e. is_quit (bears g x) e.call)
+        (λ e. is_wait (bears g x) e.call) past1 e told_x (bears-refl g x) in
         let known' : K' (past1 ++ e ∷ []) = (grows past1 e k1, waited) in
         let q' = after_call by (Make (AwaitGone g x)) [] st q1 in
         let h' = keeps co.handed x fate1 q1.table h1 in
@@ -202,7 +207,8 @@ leaves-after r due all past (e ∷ entries) (p ∷ []) h = absurd h
 leaves-after r due all past (e ∷ entries) (p ∷ middle ∷ rest) h =
     go (is_leave_call e.call) refl (before_leave entries) (leaves-after r due all (past ++ e ∷ []) entries rest h.1)
   where
-    go : (b : Bool) → is_leave_call e.call ≡ b → (o : Option (List Entry)) → Before r (past ++ e ∷ []) o → Before r past (if b then Some [] else option_map (λ before. e ∷ before) o)
+    go : (b : Bool) → is_leave_call e.call ≡ b → (o : Option (List Entry)) → Before r (past ++ e ∷ []) o →
+        Before r past (if b then Some [] else option_map (λ before. e ∷ before) o)
     go true is o ih =
         every-in (λ k. was_waited_for r.generation k (past ++ []) ≡ true) r.ready
         (λ k on. subst (λ l. was_waited_for r.generation k l ≡ true) (sym (append-nil past)) (all past e.call middle.table is h.0 k on))

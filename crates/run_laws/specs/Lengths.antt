@@ -1,13 +1,11 @@
 -- How long a run is.
 use Rattle.std.specs.Prelude.{ℕ, ◌+◌, ◌*◌, ◌≤◌, List, length}
 use Rattle.vocabulary.specs.Settings.{Settings}
-use Rattle.definitions.specs.Record.{Record}
-use Rattle.definitions.specs.Target.{Target, Upgrade, Attended, numbers_wanted, addresses_wanted}
-use Rattle.definitions.specs.Tree.{Tree}
+use Rattle.definitions.specs.Master.{Record, Target, Upgrade, Attended, numbers_wanted, addresses_wanted}
+use Rattle.definitions.specs.Run.{Tree, run_with, Pattern, Progress}
 use Rattle.call_laws.specs.Lengths.{height}
 use Rattle.definitions.specs.Plans.{Turn, plan_tree}
 use Rattle.call_laws.specs.Lengths.{plan_length}
-use Rattle.definitions.specs.Run.{run_with, Pattern, Progress}
 use Rattle.definitions.specs.Calls.{Handed}
 
 -- A run makes no more calls than the longest path of its plan has steps; and under any turns a plan has no longer one

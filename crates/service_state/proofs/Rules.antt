@@ -14,7 +14,7 @@ use Rattle.vocabulary.specs.declared.reports.Outcome.{Outcome}
 use Rattle.vocabulary.specs.declared.reports.Outcome.TheVariants as outcome
 use Rattle.vocabulary.specs.declared.plans.Side.TheVariants as side
 use Rattle.definitions.specs.Table.{Generation, Listener}
-use Rattle.definitions.specs.Record.{Record, IsRecord}
+use Rattle.definitions.specs.Master.{Record, IsRecord}
 use Rattle.vocabulary.specs.declared.reports.Report.{Report}
 use Rattle.definitions.specs.After.{named_record, renewed, target_record, old_record, record_from, reported, keeps_rules}
 use Rattle.service_state.specs.Setups.{Basis, basis_of, on_basis, IsSetup}
@@ -28,7 +28,9 @@ are_below bound (k ∷ ks) h =
       | inr below ↦ (below.1, are_below bound ks (rw below.0 at h))
     ]
 
-pub IsRecord-from_rules : (old : Record) (b : Basis) (report : Report) (pid : ℕ) → keeps_rules (reported (on_basis old b) report pid) ≡ true → IsSetup b → AreGroups b.posts.groups → HasSuffixRoom old.pid_path → IsRecord (reported (on_basis old b) report pid)
+pub IsRecord-from_rules : (old : Record) (b : Basis) (report : Report) (pid : ℕ) →
+    keeps_rules (reported (on_basis old b) report pid) ≡ true → IsSetup b → AreGroups b.posts.groups →
+    HasSuffixRoom old.pid_path → IsRecord (reported (on_basis old b) report pid)
 IsRecord-from_rules old b report pid h ranges groups room =
     let listens = and_parts (nat_le 1 (length b.listeners)) (nat_le b.wanted 1024 && (is_none (first_from b.wanted report.ready) && nat_le 1 pid)) h in
     let wanted = and_parts (nat_le b.wanted 1024) (is_none (first_from b.wanted report.ready) && nat_le 1 pid) listens.1 in
@@ -46,7 +48,8 @@ IsRecord-from_rules old b report pid h ranges groups room =
     }
 
 -- A target leaves all else of a record as it was.
-renewed_rest : (r : Record) (s : Settings) (posts : Posts) (ls : Option (List Listener)) (g : Option Generation) → option_map (λ x. on_basis r (basis_of x)) (renewed r s posts ls g) ≡ renewed r s posts ls g
+renewed_rest : (r : Record) (s : Settings) (posts : Posts) (ls : Option (List Listener)) (g : Option Generation) →
+    option_map (λ x. on_basis r (basis_of x)) (renewed r s posts ls g) ≡ renewed r s posts ls g
 renewed_rest r s posts None g = refl
 renewed_rest r s posts (Some ls) None = refl
 renewed_rest r s posts (Some ls) (Some g) = refl
@@ -81,5 +84,6 @@ onto_rest r None = refl
 onto_rest r (Some x) = refl
 
 -- What a record stands on after an outcome tells the whole record.
-pub told_by : (r : Record) (t : Target) (o : Outcome) (b : Option Basis) → b ≡ option_map basis_of (named_record o r t) → option_map (on_basis r) b ≡ named_record o r t
+pub told_by : (r : Record) (t : Target) (o : Outcome) (b : Option Basis) →
+    b ≡ option_map basis_of (named_record o r t) → option_map (on_basis r) b ≡ named_record o r t
 told_by r t o b e = ap (option_map (on_basis r)) e ∙ (onto_rest r (named_record o r t) ∙ named_rest r t o)

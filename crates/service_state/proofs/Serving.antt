@@ -1,5 +1,6 @@
 -- The service that is made address by address is the one that is wanted.
-use Rattle.std.proofs.Common.{◌≡◌, ℕ, ◌+◌, ◌<◌, ◌≤◌, zero, suc, ◌||◌, Bool, true, false, cond, Option, Some, None, unwrap_or, List, [], length, get_or, take, bytes_eq, refl, sym, ap, ◌∙◌, arith}
+use Rattle.std.proofs.Common.{◌≡◌, ℕ, ◌+◌, ◌<◌, ◌≤◌, zero, suc, ◌||◌, Bool, true, false, cond, Option, Some, None}
+use Rattle.std.proofs.Common.{unwrap_or, List, [], length, get_or, take, bytes_eq, refl, sym, ap, ◌∙◌, arith}
 use Rattle.std.specs.Prelude.{if◌then◌else◌}
 use Rattle.std.specs.Ordering.{is_eq}
 use Rattle.std.specs.Option.{option_map}
@@ -12,8 +13,7 @@ use Rattle.std.proofs.lemmas.List.Folds.{list_any_more}
 use Rattle.std.proofs.lemmas.List.Sums.{sum_by_push}
 use Rattle.std.proofs.lemmas.Slice.Eq.{bytes_eq-Decides}
 use Rattle.listener_set.specs.Numbers.{numbers_below}
-use Rattle.definitions.specs.Table.{Address, Generation, same_generation}
-use Rattle.definitions.specs.Service.{serving}
+use Rattle.definitions.specs.Table.{Address, Generation, same_generation, serving}
 use Rattle.kernel_service.specs.Services.{Counts, Services, address_cmp, generation_cmp, count_at, at, with_count, with_key}
 use Rattle.kernel_service.proofs.Services.{count-put, at-put}
 use Rattle.service_state.specs.Wanted.{kept_count}
@@ -23,7 +23,9 @@ pub counted-below : (test : ℕ → Bool) (n : ℕ) → count_by test (numbers_b
 counted-below test zero = omega arith
 counted-below test (suc n) = more (test n) (counted-below test n) (sum_by_push (λ k. cond (test k) 1 0) (numbers_below n) n)
   where
-    more : (b : Bool) → count_by test (numbers_below n) ≤ n → count_by test (numbers_below (suc n)) ≡ count_by test (numbers_below n) + cond b 1 0 → count_by test (numbers_below (suc n)) ≤ suc n
+    more : (b : Bool) → count_by test (numbers_below n) ≤ n →
+        count_by test (numbers_below (suc n)) ≡ count_by test (numbers_below n) + cond b 1 0 →
+        count_by test (numbers_below (suc n)) ≤ suc n
     more true most is = omega (arith, is, most)
     more false most is = omega (arith, is, most)
 
@@ -39,12 +41,14 @@ module _ (g : Generation) where
   At n b = if b then Some (λ h. if same_generation h g then n else 0) else None
 
   -- other generations have nobody
-  nobody-else : (n : ℕ) (o : Option Counts) (b : Bool) (h : Generation) → option_map count_at o ≡ At n b → amount n (same_generation h g) ≡ 0 → count_at (unwrap_or o []) h ≡ 0
+  nobody-else : (n : ℕ) (o : Option Counts) (b : Bool) (h : Generation) → option_map count_at o ≡ At n b →
+      amount n (same_generation h g) ≡ 0 → count_at (unwrap_or o []) h ≡ 0
   nobody-else n None b h is none = refl
   nobody-else n (Some counts) false h is none = absurd (none-some (count_at counts) (sym is))
   nobody-else n (Some counts) true h is none = ap (λ (f : Generation → ℕ). f h) (same_Some (count_at counts) (λ k. if same_generation k g then n else 0) is) ∙ none
 
-  one-count : (n : ℕ) (o : Option Counts) (b : Bool) (h : Generation) → option_map count_at o ≡ At n b → count_at (with_count (kept_count g n) (unwrap_or o [])) h ≡ (if same_generation h g then n else 0)
+  one-count : (n : ℕ) (o : Option Counts) (b : Bool) (h : Generation) → option_map count_at o ≡ At n b →
+      count_at (with_count (kept_count g n) (unwrap_or o [])) h ≡ (if same_generation h g then n else 0)
   one-count zero o b h is = nobody-else zero o b h is (both (same_generation h g)) ∙ sym (both (same_generation h g))
     where
       both : (c : Bool) → amount zero c ≡ zero
@@ -61,7 +65,8 @@ module _ (g : Generation) where
   abbrev pub IsServingTo : (Address → ℕ) → List Address → ℕ → Services → Type 0
   IsServingTo count addresses i s = (a : Address) → at s a ≡ serving (take i addresses) g count a
 
-  pub serving-more : (count : Address → ℕ) (addresses : List Address) (i : ℕ) (x : Address) → i < length addresses → x ≡ get_or addresses i x → (s : Services) → IsServingTo count addresses i s
+  pub serving-more : (count : Address → ℕ) (addresses : List Address) (i : ℕ) (x : Address) → i < length addresses →
+      x ≡ get_or addresses i x → (s : Services) → IsServingTo count addresses i s
       → IsServingTo count addresses (i + 1) (with_key x (kept_count g (count x)) s)
   serving-more count addresses i x lt there s before a =
       at-put x a counts s ∙ (split (bytes_eq x a) refl ∙ ap (At (count a)) (sym any-more))

@@ -2,7 +2,7 @@
 use Rattle.std.specs.Prelude.{ℕ, ◌≤◌, List}
 use Rattle.worker_groups.specs.Crews.{Posts}
 use Rattle.definitions.specs.Table.{Generation, Listener}
-use Rattle.definitions.specs.Record.{Record}
+use Rattle.definitions.specs.Master.{Record}
 
 pub record Basis : Type 0 where
   pub listeners : List Listener

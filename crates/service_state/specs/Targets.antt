@@ -3,8 +3,8 @@ use Rattle.std.specs.Prelude.{Bool, false, ◌≤◌, ⊤}
 use Rattle.std.specs.Option.{is_none}
 use Rattle.vocabulary.specs.declared.targets.Target.{Target}
 use Rattle.vocabulary.specs.declared.targets.Target.TheVariants as target
-use Rattle.definitions.specs.Record.{Record}
-use Rattle.definitions.specs.Target.{next_config, next_image}
+use Rattle.definitions.specs.Master.{Record}
+use Rattle.definitions.specs.After.{next_config, next_image}
 
 -- A number of workers that is wanted is at most 1024. What settings say is in range by itself.
 abbrev pub IsTarget : Target → Type 0

@@ -2,7 +2,7 @@
 use Rattle.std.specs.Prelude.{ℕ, zero, suc, Bool, Option, Some, None}
 use Rattle.worker_groups.specs.Groups.{group_of}
 use Rattle.definitions.specs.Table.{Address, Generation}
-use Rattle.definitions.specs.Crew.{Layout}
+use Rattle.definitions.specs.Master.{Layout}
 
 -- The count that a service keeps of so many workers: none where there is nobody.
 abbrev pub kept_count : Generation → ℕ → Option (Generation × ℕ)

@@ -1,8 +1,8 @@
 //! Who works for a master, and where the workers of a target listen.
 ghost use Rattle.std.specs.Prelude.{◌≡◌, false, unwrap_or};
-ghost use Rattle.definitions.specs.Crew.{addresses_of_group};
-ghost use Rattle.definitions.specs.Record.{crew_of};
-ghost use Rattle.definitions.specs.Target.{generation_wanted, sides_of};
+ghost use Rattle.definitions.specs.Master.{addresses_of_group};
+ghost use Rattle.definitions.specs.Master.{crew_of};
+ghost use Rattle.definitions.specs.Master.{generation_wanted, sides_of};
 ghost use Rattle.definitions.specs.After.{upgraded, listeners_then, posts_wanted, crew_wanted, posts_of};
 ghost use Rattle.service_state.specs.Targets.{lacks_generation};
 

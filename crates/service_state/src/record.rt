@@ -2,8 +2,8 @@
 ghost use Rattle.std.specs.Prelude.{◌≡◌, ◌<◌, ◌≤◌, Option, Some, option_map};
 ghost use Rattle.std.specs.List.{AllByRecursion};
 ghost use Rattle.call_laws.specs.Start.{started};
-ghost use Rattle.definitions.specs.Record.{Record as Known};
-ghost use Rattle.definitions.specs.Target.{next_image};
+ghost use Rattle.definitions.specs.Master.{Record as Known};
+ghost use Rattle.definitions.specs.After.{next_image};
 ghost use Rattle.definitions.specs.After.{renewed, upgraded, target_record, old_record, named_record, reported};
 ghost use Rattle.definitions.specs.After.{keeps_rules, record_from, record_after};
 ghost use Rattle.service_state.specs.Setups.{basis_of, on_basis};
@@ -42,7 +42,7 @@ pub struct Record {
 }
 
 impl Model for Record {
-    ghost use Rattle.definitions.specs.Record.{Record as Known, IsRecord};
+    ghost use Rattle.definitions.specs.Master.{Record as Known, IsRecord};
 
     ghost Value = { Known };
 

@@ -1,7 +1,8 @@
 //! What a service stands on.
 ghost use Rattle.std.specs.Prelude.{◌≡◌};
-ghost use Rattle.definitions.specs.Record.{Record as Known};
-ghost use Rattle.definitions.specs.Target.{has_next, next_config, next_image};
+ghost use Rattle.definitions.specs.Master.{Record as Known};
+ghost use Rattle.definitions.specs.After.{next_config, next_image};
+ghost use Rattle.definitions.specs.Master.{has_next};
 ghost use Rattle.definitions.specs.After.{renewed};
 ghost use Rattle.service_state.specs.Setups.{basis_of};
 ghost use Rattle.std.specs.Prelude.{option_map};

@@ -1,10 +1,10 @@
 //! The service that a target wants.
 ghost use Rattle.std.specs.Prelude.{◌≡◌, false, IfOk, count_by};
 ghost use Rattle.listener_set.specs.Numbers.{numbers_below};
-ghost use Rattle.definitions.specs.Service.{IsSame};
-ghost use Rattle.definitions.specs.Crew.{served};
-ghost use Rattle.definitions.specs.Record.{layout_of};
-ghost use Rattle.definitions.specs.Target.{want, addresses_wanted, wanted_at, layout_wanted};
+ghost use Rattle.definitions.specs.Table.{IsSame};
+ghost use Rattle.definitions.specs.Master.{served};
+ghost use Rattle.definitions.specs.Master.{layout_of};
+ghost use Rattle.definitions.specs.Master.{want, addresses_wanted, wanted_at, layout_wanted};
 ghost use Rattle.service_state.specs.Targets.{lacks_generation};
 ghost use Rattle.kernel_service.specs.Services.{at};
 ghost use Rattle.service_state.specs.Wanted.{kept_count, is_counted};

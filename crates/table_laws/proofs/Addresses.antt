@@ -2,11 +2,11 @@
 use Rattle.std.proofs.Common.{◌≡◌, ℕ, Bool, true, false, cond, not, List, [], ◌∷◌, refl, sym, ap, ◌∙◌, subst}
 use Rattle.std.specs.Prelude.{◌||◌, filter, ◌&&◌, ◌||◌, ◌==◌, nat_lt, bytes_eq}
 use Rattle.std.proofs.lemmas.Slice.Eq.{bytes_eq-Decides}
-use Rattle.definitions.specs.Table.{Address, Hold, is_at, has_address}
+use Rattle.definitions.specs.Table.{Address, Hold, has_address}
+use Rattle.call_laws.specs.Pieces.{is_at, lacks_address, has_socket}
 use Rattle.std.specs.List.{list_any}
-use Rattle.definitions.specs.Calls.{lacks_address, put_hold}
+use Rattle.definitions.specs.Calls.{put_hold}
 use Rattle.listener_set.specs.AddressList.{has}
-use Rattle.definitions.specs.Claims.{has_socket}
 use Rattle.table_laws.proofs.Rows.{both-true, or-right}
 use Rattle.call_laws.proofs.Choices.{pick}
 

@@ -3,13 +3,13 @@ use Rattle.std.proofs.Common.{◌≡◌, ℕ, ◌<◌, ◌≤◌, Bool, true, fa
 use Rattle.std.specs.List.{filter_map, AllByRecursion, list_any}
 use Rattle.std.specs.Prelude.{◌||◌, map, nat_lt, ◌&&◌, if◌then◌else◌}
 use Rattle.std.proofs.lemmas.Bool.Decides.{nat_tests}
-use Rattle.definitions.specs.Table.{Process, Master, Worker, Foreign, Table, is_worker, is_ready, is_master}
+use Rattle.definitions.specs.Table.{Process, Master, Worker, Foreign, Table, is_worker, is_master}
+use Rattle.call_laws.specs.Pieces.{is_ready, listener_of}
 use Rattle.vocabulary.specs.declared.table.Stance.TheVariants.{Starting, Ready, Draining, Exited}
 use Rattle.listener_set.specs.declared.generation.Generation.{Generation}
 use Rattle.definitions.specs.Calls.{is_exited_of, drop_where, census_of}
 use Rattle.listener_set.specs.Numbers.{is_in}
-use Rattle.definitions.specs.Crew.{Crew}
-use Rattle.definitions.specs.Record.{Record, Agrees, FilesAre, IsRunning, crew_of, listener_of}
+use Rattle.definitions.specs.Master.{Crew, Record, Agrees, FilesAre, IsRunning, crew_of}
 use Rattle.table_laws.proofs.Rows.{one, weigh-same, every-more, count-weigh}
 use Rattle.table_laws.proofs.Views.{HoldsShare, View, Fine, Row, Looks, masters, master_of, finds, eqb-refl}
 use Rattle.table_laws.proofs.Effects.{idle}

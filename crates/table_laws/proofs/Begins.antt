@@ -3,13 +3,12 @@ use Rattle.std.proofs.Common.{inl, ◌+◌, ◌≡◌, ℕ, ◌<◌, ◌≤◌, 
 use Rattle.std.specs.Prelude.{◌||◌, ◌&&◌, ◌==◌, ⊤}
 use Rattle.std.specs.List.{AllByRecursion, list_any}
 use Rattle.definitions.specs.Table.{same_generation, Hold, Process, Master, Worker, Foreign, Table, Caller, live_master}
-use Rattle.definitions.specs.Table.{caller_if, is_ready, is_active, is_worker, is_live_master, is_master}
+use Rattle.definitions.specs.Table.{is_active, is_worker, is_master, IsQuiet, HasParent}
+use Rattle.call_laws.specs.Pieces.{is_live_master, caller_if, is_ready, share}
 use Rattle.vocabulary.specs.declared.table.Stance.TheVariants.{Starting, Ready, Draining, Exited}
 use Rattle.listener_set.specs.Numbers.{is_in, lacks, IsRising, RisesFrom}
-use Rattle.definitions.specs.Crew.{share}
-use Rattle.definitions.specs.Record.{Record, IsRunning, crew_of}
+use Rattle.definitions.specs.Master.{Record, IsRunning, crew_of}
 use Rattle.definitions.specs.Claims.{IsStart}
-use Rattle.definitions.specs.Table.{IsQuiet, HasParent}
 use Rattle.table_laws.proofs.Rows.{one, weigh, every-more, every-both, count-weigh, both-true}
 use Rattle.call_laws.proofs.Choices.{and-right}
 use Rattle.table_laws.proofs.Views.{Row, master_of, named, View, Fine, Looks, ready_in, masters, eqb-refl, eqb-is}

@@ -4,7 +4,8 @@ use Rattle.std.proofs.Common.{◌++◌, length, refl, sym, cond, ap, ◌∙◌, 
 use Rattle.std.specs.List.{filter_map, filter, AllByRecursion, list_any}
 use Rattle.std.specs.Prelude.{◌&&◌, ◌||◌, ◌==◌, nat_lt, ⊤}
 use Rattle.std.proofs.lemmas.Bool.Decides.{nat_tests}
-use Rattle.definitions.specs.Table.{same_generation, Process, Master, Worker, Foreign, is_worker, is_ready}
+use Rattle.definitions.specs.Table.{same_generation, Process, Master, Worker, Foreign, is_worker}
+use Rattle.call_laws.specs.Pieces.{is_ready}
 use Rattle.vocabulary.specs.declared.table.Stance.TheVariants.{Starting, Ready, Draining, Exited}
 use Rattle.listener_set.specs.declared.generation.Generation.{Generation}
 use Rattle.definitions.specs.Calls.{is_exited_of, drop_where, census_of}

@@ -8,12 +8,13 @@ use Rattle.vocabulary.specs.declared.table.Stance.TheVariants.{Starting, Ready, 
 use Rattle.vocabulary.specs.declared.names.Name.{Name}
 use Rattle.vocabulary.specs.declared.names.Name.TheVariants as name
 use Rattle.definitions.specs.Table.{Hold, Process, Master, Worker, Foreign, Caller, number_of, bears, live_master}
-use Rattle.definitions.specs.Table.{caller_if, is_live_master, is_active, is_ready, is_named, is_draining, IsAscending}
-use Rattle.definitions.specs.Crew.{Posts, share}
-use Rattle.definitions.specs.Exits.{change, made_exited, first_changed, caller_exits, without_exited, exited, all_exited}
+use Rattle.definitions.specs.Table.{is_active, IsAscending}
+use Rattle.call_laws.specs.Pieces.{is_live_master, is_named, caller_if, is_ready, is_draining, share, made_exited}
+use Rattle.call_laws.specs.Pieces.{caller_exits, is_image_row, without_master}
+use Rattle.definitions.specs.Master.{Posts}
+use Rattle.definitions.specs.Calls.{change, first_changed, without_exited, exited, all_exited, drop_where, is_image}
+use Rattle.definitions.specs.Calls.{is_of_image}
 use Rattle.std.specs.Bool.{then_some}
-use Rattle.definitions.specs.Calls.{drop_where, is_image, is_image_row, is_of_image}
-use Rattle.call_laws.specs.Pieces.{without_master}
 use Rattle.table_laws.proofs.Rows.{one, weigh, worth, FitsIn, change-same, every-filter_map, every-both, every-more, every-append, weigh-append}
 use Rattle.call_laws.proofs.Choices.{pick}
 use Rattle.table_laws.proofs.Views.{Names, View, Fine, Other, Row, Looks, live_named, ready_in, master_of, finds, eqb-refl, eqb-off, eqb-is}

@@ -4,12 +4,13 @@ use Rattle.std.proofs.Common.{Some, None, refl, sym, ap, ◌∙◌, subst, arith
 use Rattle.std.specs.List.{filter_map, AllByRecursion, list_any}
 use Rattle.std.specs.Prelude.{◌&&◌, ◌||◌, ◌==◌, ⊤, if◌then◌else◌}
 use Rattle.definitions.specs.Table.{same_generation, Hold, Process, Master, Worker, Foreign, bears, is_worker}
-use Rattle.definitions.specs.Table.{is_active, is_starting, is_exited, is_any, Address, is_ready, is_at, holds_of}
+use Rattle.definitions.specs.Table.{is_active, Address, holds_of}
+use Rattle.call_laws.specs.Pieces.{is_starting, is_exited, is_any, is_ready, is_at, made_ready, made_draining, is_row}
+use Rattle.call_laws.specs.Pieces.{lacks_address}
 use Rattle.vocabulary.specs.declared.table.Stance.{Stance}
 use Rattle.vocabulary.specs.declared.table.Stance.TheVariants.{Starting, Ready, Draining, Exited}
 use Rattle.listener_set.specs.declared.generation.Generation.{Generation}
-use Rattle.definitions.specs.Calls.{is_exited_of, drop_where, made_ready, made_draining, is_of, is_row, put_hold, with_holds, lacks_address}
-use Rattle.definitions.specs.Exits.{change}
+use Rattle.definitions.specs.Calls.{is_exited_of, drop_where, is_of, put_hold, with_holds, change}
 use Rattle.table_laws.proofs.Rows.{one, weigh, worth, FitsIn, change-le, change-same, weigh-append, weigh-same}
 use Rattle.table_laws.proofs.Rows.{weigh-filter_map, every-filter_map, every-any, every-append, every-more, every-both}
 use Rattle.table_laws.proofs.Rows.{any-none, any-some, weigh-add, both-true, or-left, or-right}

@@ -6,9 +6,10 @@ use Rattle.definitions.specs.Claims.{names_any}
 use Rattle.std.specs.Prelude.{◌&&◌, ◌||◌, ◌==◌, ⊤, if◌then◌else◌}
 use Rattle.std.specs.List.{AllByRecursion, list_any}
 use Rattle.vocabulary.specs.declared.table.Stance.TheVariants.{Starting, Ready, Draining, Exited}
-use Rattle.definitions.specs.Table.{Process, Master, Worker, Foreign, Caller, live_master, is_active, is_draining, is_named, is_live_master}
+use Rattle.definitions.specs.Table.{Process, Master, Worker, Foreign, Caller, live_master, is_active}
+use Rattle.call_laws.specs.Pieces.{is_named, is_live_master, is_draining, made_exited, caller_exits}
 use Rattle.listener_set.specs.declared.generation.Generation.{Generation}
-use Rattle.definitions.specs.Exits.{change, made_exited, first_changed, without_exited, exited, all_exited, caller_exits}
+use Rattle.definitions.specs.Calls.{change, first_changed, without_exited, exited, all_exited}
 use Rattle.std.specs.Bool.{then_some}
 use Rattle.vocabulary.specs.declared.names.Name.{Name}
 use Rattle.table_laws.proofs.Rows.{one, FitsIn, worth, one-le, weigh, change-le, change-same, change-falls, every-filter_map, every-any}
@@ -79,7 +80,8 @@ IsNot image (name.Master i) = i ≢ image
 IsNot image (name.Worker g k) = ⊤
 IsNot image (name.Draining g k) = ⊤
 
-looks-worker : (v : View) (g : Generation) (k : ℕ) (rows : List Process) → Looks v rows → Looks v (filter_map (change (is_named is_active g k) made_exited) rows)
+looks-worker : (v : View) (g : Generation) (k : ℕ) (rows : List Process) → Looks v rows →
+    Looks v (filter_map (change (is_named is_active g k) made_exited) rows)
 looks-worker v g k rows looks = record {
   fine =
       every-filter_map (Row v) (Row v) (change (is_named is_active g k) made_exited)
@@ -113,7 +115,8 @@ ready-live m t (Worker n q g k Draining hs) = omega arith
 ready-live m t (Worker n q g k Exited hs) = omega arith
 ready-live m t (Foreign n hs) = omega arith
 
-left-falls : (u : Process → ℕ) (b : Bool) (p : Process) → u p ≤ live_any p → u p + worth live_any (if b then None else Some p) ≤ worth u (if b then None else Some p) + live_any p
+left-falls : (u : Process → ℕ) (b : Bool) (p : Process) → u p ≤ live_any p →
+    u p + worth live_any (if b then None else Some p) ≤ worth u (if b then None else Some p) + live_any p
 left-falls u true p h = omega arith
 left-falls u false p h = omega arith
 

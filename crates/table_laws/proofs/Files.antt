@@ -1,11 +1,12 @@
 -- Who owns a file after another was written, moved or removed.
 use Rattle.std.proofs.Common.{◌≡◌, ℕ, ◌+◌, Bool, true, false, not, List, [], ◌∷◌, ◌++◌, Some, None, length, refl, sym, ap, subst, arith}
 use Rattle.std.specs.Prelude.{bytes_eq, codes, if◌then◌else◌}
-use Rattle.definitions.specs.Table.{FilePath, File, owner_at, owner_if}
+use Rattle.definitions.specs.Table.{FilePath, File, owner_at}
+use Rattle.call_laws.specs.Pieces.{owner_if}
 use Rattle.definitions.specs.Calls.{with_file, without_file}
 use Rattle.vocabulary.specs.declared.plans.PidNote.{PidNote}
 use Rattle.vocabulary.specs.declared.plans.PidNote.TheVariants.{InPlace, AtOldbin, OldbinLeft, Left, NoFile}
-use Rattle.definitions.specs.Record.{FilesAre, oldbin}
+use Rattle.definitions.specs.Master.{FilesAre, oldbin}
 use Rattle.table_laws.proofs.Addresses.{same-address, address-refl}
 
 -- what is written is there

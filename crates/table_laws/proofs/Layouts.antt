@@ -10,10 +10,10 @@ use Rattle.worker_groups.specs.Groups.{addresses_in}
 use Rattle.listener_set.specs.Numbers.{RisesFrom, is_in}
 use Rattle.vocabulary.specs.declared.table.Listener.{Listener}
 use Rattle.definitions.specs.Table.{Address, Hold, has_address}
-use Rattle.definitions.specs.Calls.{lacks_address, shared}
+use Rattle.definitions.specs.Calls.{shared}
+use Rattle.call_laws.specs.Pieces.{lacks_address, share, listener_of}
 use Rattle.definitions.specs.After.{descriptors_at, descriptors_by, posts_of}
-use Rattle.definitions.specs.Crew.{Posts, Group, group_of, fds_in, share, layout_in, addresses_of_group}
-use Rattle.definitions.specs.Record.{listener_of}
+use Rattle.definitions.specs.Master.{Posts, Group, group_of, fds_in, layout_in, addresses_of_group}
 use Rattle.table_laws.proofs.Rows.{every-both, every-more}
 use Rattle.table_laws.proofs.Views.{eqb-refl, eqb-off}
 use Rattle.table_laws.proofs.Shares.{share-lacks}
@@ -68,7 +68,9 @@ below-out b fd (x ∷ hs) l lt rises =
 
     go : (c : Bool) → is_in (descriptors_at (map listener_of hs) l) fd ≡ false → (x.fd == fd) ≡ false
         → is_in
-        (map (λ (l : Listener). l.descriptor) (cond c (listener_of x ∷ filter (λ (y : Listener). has l y.address) (map listener_of hs)) (filter (λ (y : Listener). has l y.address) (map listener_of hs))))
+        (map (λ (l : Listener). l.descriptor)
+        (cond c (listener_of x ∷ filter (λ (y : Listener). has l y.address) (map listener_of hs))
+        (filter (λ (y : Listener). has l y.address) (map listener_of hs))))
         fd ≡ false
     go true ih off = rw off ih
     go false ih off = ih

@@ -9,8 +9,8 @@ use Rattle.listener_set.specs.AddressList.{has}
 use Rattle.listener_set.specs.Numbers.{RisesFrom}
 use Rattle.vocabulary.specs.declared.table.Listener.{Listener}
 use Rattle.definitions.specs.Table.{Address, Hold, has_address}
-use Rattle.definitions.specs.Calls.{free_from, lowest_free, put_hold, lacks_address}
-use Rattle.definitions.specs.Record.{listener_of}
+use Rattle.definitions.specs.Calls.{free_from, lowest_free, put_hold}
+use Rattle.call_laws.specs.Pieces.{lacks_address, listener_of}
 use Rattle.definitions.specs.Plans.{only_in}
 use Rattle.definitions.specs.After.{listens_on, listener_at, opened_from, all_opened, added, still_wanted}
 use Rattle.table_laws.proofs.Rows.{or-right, every-more}

@@ -1,5 +1,7 @@
 -- What a view says of the service of a table.
-use Rattle.definitions.specs.Table.{is_ready, Address, same_generation, Hold, Process, Master, Worker, Foreign, Table, has_address}
+use Rattle.definitions.specs.Table.{Address, same_generation, Hold, Process, Master, Worker, Foreign, Table}
+use Rattle.definitions.specs.Table.{has_address, Service, service, serving, IsSame}
+use Rattle.call_laws.specs.Pieces.{is_ready, is_live_with, is_serving_as, is_ready_with}
 use Rattle.std.proofs.Common.{⊎_elim, ◌≡◌, ℕ, ◌+◌, ◌≤◌, Bool, true, false, List, [], ◌∷◌, Some, None, refl, sym, ap, ◌∙◌, subst, arith}
 use Rattle.std.specs.Prelude.{◌||◌, count_by, filter, Option, ◌&&◌, ◌==◌, if◌then◌else◌}
 use Rattle.std.specs.List.{AllByRecursion, list_any}
@@ -7,9 +9,8 @@ use Rattle.vocabulary.specs.declared.table.Stance.TheVariants.{Starting, Ready, 
 use Rattle.listener_set.specs.declared.generation.Generation.{Generation}
 use Rattle.listener_set.specs.AddressList.{has}
 use Rattle.listener_set.specs.Numbers.{is_in}
-use Rattle.definitions.specs.Service.{Service, is_live_with, is_serving, service, serving, IsSame}
-use Rattle.definitions.specs.Claims.{IsFewerAt, FallsShort, is_ready_with}
-use Rattle.definitions.specs.Crew.{Layout, short_at}
+use Rattle.definitions.specs.Claims.{IsFewerAt, FallsShort}
+use Rattle.definitions.specs.Master.{Layout, short_at}
 use Rattle.table_laws.proofs.Rows.{every-more, one, one-le, weigh, weigh-same, weigh-le, count-weigh}
 use Rattle.table_laws.proofs.Views.{eqb-off, Row, Other, master_of, Names, named, View, Fine, Looks, ready_in, eqb-refl}
 use Rattle.table_laws.proofs.Effects.{same-is, same-refl}
@@ -77,7 +78,7 @@ holders v g S a = filter (λ k. has_address a (v.held g k)) S
 serving-on :
     (v : View) (g : Generation) (S : List ℕ) (a : Address) →
     ((h : Generation) (k : ℕ) → v.ready h k ≡ true → (h ≡ g) × (is_in S k ≡ true)) → (p : Process) → Fine v p →
-    one (is_serving a g p) ≡ ready_in v.number (named g (is_in (holders v g S a))) p
+    one (is_serving_as a g p) ≡ ready_in v.number (named g (is_in (holders v g S a))) p
 serving-on v g S a only (Master n q i live hs) h = refl
 serving-on v g S a only (Worker n q g' k Starting hs) h = refl
 serving-on v g S a only (Worker n q g' k Ready hs) h =
@@ -94,7 +95,7 @@ serving-on v g S a only (Foreign n hs) h = refl
 serving-other :
     (v : View) (g h : Generation) (S : List ℕ) (a : Address) → same_generation h g ≡ false →
     ((h : Generation) (k : ℕ) → v.ready h k ≡ true → (h ≡ g) × (is_in S k ≡ true)) → (p : Process) → Fine v p →
-    one (is_serving a h p) ≡ 0
+    one (is_serving_as a h p) ≡ 0
 serving-other v g h S a off only (Master n q i live hs) f = refl
 serving-other v g h S a off only (Worker n q g' k Starting hs) f = refl
 serving-other v g h S a off only (Worker n q g' k Ready hs) f =
@@ -123,14 +124,16 @@ pub service-by :
     IsSame (service t) (serving addresses g (held_at v g S t))
 service-by v sole g S addresses keys t only looks a = go (has addresses a) refl
   where
-    counts : (h : Generation) → count_by (is_serving a h) t.rows ≡ (if same_generation h g then held_at v g S t a else 0)
-    counts h = count-weigh (is_serving a h) t.rows ∙ at (same_generation h g) refl
+    counts : (h : Generation) → count_by (is_serving_as a h) t.rows ≡ (if same_generation h g then held_at v g S t a else 0)
+    counts h = count-weigh (is_serving_as a h) t.rows ∙ at (same_generation h g) refl
       where
-        at : (b : Bool) → same_generation h g ≡ b → weigh (λ p. one (is_serving a h p)) t.rows ≡ (if b then held_at v g S t a else 0)
+        at : (b : Bool) → same_generation h g ≡ b → weigh (λ p. one (is_serving_as a h p)) t.rows ≡ (if b then held_at v g S t a else 0)
         at true e =
-            subst (λ f. weigh (λ p. one (is_serving a f p)) t.rows ≡ held_at v g S t a) (sym (same-is h g e))
-            (weigh-same (Fine v) (λ p. one (is_serving a g p)) (ready_in v.number (named g (is_in (holders v g S a)))) (serving-on v g S a only) t.rows (sole-fine v sole t.rows looks.fine))
-        at false e = weigh-zero (λ p. one (is_serving a h p)) (Fine v) (serving-other v g h S a e only) t.rows (sole-fine v sole t.rows looks.fine)
+            subst (λ f. weigh (λ p. one (is_serving_as a f p)) t.rows ≡ held_at v g S t a) (sym (same-is h g e))
+            (weigh-same (Fine v) (λ p. one (is_serving_as a g p))
+            (ready_in v.number (named g (is_in (holders v g S a)))) (serving-on v g S a only) t.rows
+            (sole-fine v sole t.rows looks.fine))
+        at false e = weigh-zero (λ p. one (is_serving_as a h p)) (Fine v) (serving-other v g h S a e only) t.rows (sole-fine v sole t.rows looks.fine)
 
     go : (b : Bool) → has addresses a ≡ b → service t a ≡ serving addresses g (held_at v g S t) a
     go true e =

@@ -5,7 +5,8 @@ use Rattle.std.specs.List.{AllByRecursion}
 use Rattle.std.specs.Prelude.{filter, ◌&&◌, ◌||◌, ◌==◌, nat_lt}
 use Rattle.std.proofs.lemmas.Bool.Decides.{nat_tests}
 use Rattle.vocabulary.specs.declared.table.Stance.TheVariants.{Starting, Ready, Draining, Exited}
-use Rattle.definitions.specs.Table.{Process, Master, Worker, Foreign, same_generation, is_ready}
+use Rattle.definitions.specs.Table.{Process, Master, Worker, Foreign, same_generation}
+use Rattle.call_laws.specs.Pieces.{is_ready}
 use Rattle.listener_set.specs.declared.generation.Generation.{Generation}
 use Rattle.listener_set.specs.Numbers.{numbers_below, is_in}
 use Rattle.table_laws.proofs.Rows.{one, weigh, weigh-add, weigh-le-all}

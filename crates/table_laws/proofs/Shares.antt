@@ -12,10 +12,10 @@ use Rattle.worker_groups.specs.declared.groups.Group.{Group}
 use Rattle.worker_groups.specs.Groups.{part_of, group_of}
 use Rattle.vocabulary.specs.declared.table.Listener.{Listener}
 use Rattle.worker_groups.specs.Crews.{Posts, fds_of, shortfalls_of}
-use Rattle.definitions.specs.Table.{Address, Hold, is_at, has_address}
-use Rattle.definitions.specs.Calls.{shared, lacks_address}
-use Rattle.definitions.specs.Record.{listener_of}
-use Rattle.definitions.specs.Crew.{share, Layout, listeners_under, fds_in, short_at}
+use Rattle.definitions.specs.Table.{Address, Hold, has_address}
+use Rattle.call_laws.specs.Pieces.{is_at, lacks_address, listener_of, share}
+use Rattle.definitions.specs.Calls.{shared}
+use Rattle.definitions.specs.Master.{Layout, listeners_under, fds_in, short_at}
 use Rattle.table_laws.proofs.Rows.{one, count-weigh}
 use Rattle.table_laws.proofs.Counts.{filter-all, filter-swap}
 use Rattle.table_laws.proofs.Sets.{below-length}

@@ -5,7 +5,7 @@ use Rattle.std.specs.List.{AllByRecursion}
 use Rattle.std.proofs.lemmas.List.{reverse-append}
 use Rattle.definitions.specs.Table.{Hold}
 use Rattle.listener_set.specs.Numbers.{is_in}
-use Rattle.definitions.specs.Record.{listener_of}
+use Rattle.call_laws.specs.Pieces.{listener_of}
 use Rattle.vocabulary.specs.declared.table.Listener.{Listener}
 use Rattle.table_laws.proofs.Counts.{is_in-append}
 use Rattle.table_laws.proofs.Sets.{in-cases}

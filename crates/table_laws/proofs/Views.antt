@@ -4,12 +4,13 @@ use Rattle.std.specs.Prelude.{◌&&◌, ◌==◌, ⊤}
 use Rattle.std.specs.List.{AllByRecursion}
 use Rattle.std.proofs.lemmas.Bool.Decides.{nat_tests}
 use Rattle.definitions.specs.Table.{same_generation, Hold, Process, Master, Worker, Foreign, Caller, live_master}
-use Rattle.definitions.specs.Table.{caller_if, is_worker, is_active, is_ready, is_master}
+use Rattle.definitions.specs.Table.{is_worker, is_active, is_master}
+use Rattle.call_laws.specs.Pieces.{caller_if, is_ready, share}
 use Rattle.vocabulary.specs.declared.table.Stance.{Stance}
 use Rattle.vocabulary.specs.declared.table.Stance.TheVariants.{Starting, Ready, Draining, Exited}
 use Rattle.listener_set.specs.declared.generation.Generation.{Generation}
-use Rattle.definitions.specs.Exits.{is_active_worker}
-use Rattle.definitions.specs.Crew.{Crew, share}
+use Rattle.definitions.specs.Calls.{is_active_worker}
+use Rattle.definitions.specs.Master.{Crew}
 use Rattle.table_laws.proofs.Rows.{one, weigh}
 
 -- names of workers of a master

@@ -8,22 +8,23 @@ use Rattle.worker_groups.specs.Groups.{AreGroups, group_of}
 use Rattle.listener_set.specs.Numbers.{is_in, lacks, first_from}
 use Rattle.listener_set.specs.declared.generation.Generation.{Generation}
 use Rattle.vocabulary.specs.declared.table.Limits.{Limits}
-use Rattle.definitions.specs.Table.{Address, Caller, same_generation, Process, Master, Worker, Foreign, Table, File, FilePath, is_worker, is_ready, has_address}
-use Rattle.definitions.specs.Service.{is_live_with, is_serving, service, serving, IsSame}
+use Rattle.definitions.specs.Table.{Address, Caller, same_generation, Process, Master, Worker, Foreign, Table, File}
+use Rattle.definitions.specs.Table.{FilePath, is_worker, has_address, service, serving, IsSame}
+use Rattle.call_laws.specs.Pieces.{is_ready, is_live_with, is_serving_as, share, lacked_last, is_ready_with}
 use Rattle.vocabulary.specs.declared.table.Stance.TheVariants.{Starting, Ready, Draining, Exited}
 use Rattle.vocabulary.specs.declared.plans.PidNote.{PidNote}
 use Rattle.vocabulary.specs.declared.table.Listener.{Listener}
-use Rattle.definitions.specs.Crew.{share, Layout, served, short_at, shortfalls_of}
-use Rattle.definitions.specs.Record.{Record, IsRecord, Agrees, FilesAre, addresses_of, layout_of}
+use Rattle.definitions.specs.Master.{Layout, served, short_at, shortfalls_of, Record, IsRecord, Agrees, FilesAre}
+use Rattle.definitions.specs.Master.{addresses_of, layout_of, reload_generation, upgrade_generation, has_next, Sides}
 use Rattle.vocabulary.specs.declared.targets.Target.{Target}
 use Rattle.listener_set.specs.AddressList.{has}
-use Rattle.definitions.specs.Target.{reload_generation, upgrade_generation, next_config, next_image, has_next}
-use Rattle.definitions.specs.After.{named_record, reported, record_from, record_after, keeps_rules, master_of}
+use Rattle.definitions.specs.After.{next_config, next_image, named_record, reported, record_from, record_after}
+use Rattle.definitions.specs.After.{keeps_rules, master_of}
 use Rattle.std.specs.Bool.{then_some}
 use Rattle.vocabulary.specs.Settings.{HasSuffixRoom}
-use Rattle.definitions.specs.Run.{Ending, Progress, outcome_of, Sides, lacked_last}
+use Rattle.definitions.specs.Run.{Ending, Progress, outcome_of}
 use Rattle.vocabulary.specs.declared.reports.Report.{Report}
-use Rattle.definitions.specs.Claims.{IsStart, FallsShort, AgreesAfter, is_ready_with, ready_with}
+use Rattle.definitions.specs.Claims.{IsStart, FallsShort, AgreesAfter, ready_with}
 use Rattle.table_laws.proofs.Rows.{one, weigh-le, count-weigh, both-true}
 use Rattle.call_laws.proofs.Choices.{and-left, and-right}
 use Rattle.table_laws.proofs.Views.{Names, named, View, Fine, Looks, ready_in, eqb-refl}
@@ -120,7 +121,7 @@ first-held t r s a e =
     sym (live-with (first_view r s.agrees.holds) (λ n. refl) (has_address a) t.rows (begin t r s)) ∙ go
     (list_any (is_live_with (has_address a)) t.rows) e
   where
-    go : (b : Bool) → is_some {T = Generation → ℕ} (if b then Some (λ h. count_by (is_serving a h) t.rows) else None) ≡ true → b ≡ true
+    go : (b : Bool) → is_some {T = Generation → ℕ} (if b then Some (λ h. count_by (is_serving_as a h) t.rows) else None) ≡ true → b ≡ true
     go true e = refl
     go false e = e
 
@@ -263,6 +264,13 @@ next-is g e = is-given (has_next g.config) (reload_generation g) e
 -- The next image, where there is one.
 pub next-image-is : (g : Generation) → is_some (next_image g) ≡ true → next_image g ≡ Some (upgrade_generation g)
 next-image-is g e = is-given (has_next g.image && has_next g.config) (upgrade_generation g) e
+
+-- There is a next configuration, or image, where the numbers are not the last ones.
+pub numbered-config : (g : Generation) → has_next g.config ≡ true → is_some (next_config g) ≡ true
+numbered-config g e = ap (λ b. is_some (then_some b (reload_generation g))) e
+
+pub numbered-image : (g : Generation) → (has_next g.image && has_next g.config) ≡ true → is_some (next_image g) ≡ true
+numbered-image g e = ap (λ b. is_some (then_some b (upgrade_generation g))) e
 
 -- What is reported where a run ends so.
 abbrev pub report_at : Sides → Ending → Progress → Report

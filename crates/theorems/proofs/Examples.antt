@@ -3,12 +3,13 @@ use Rattle.std.proofs.Common.{◌≡◌, ℕ, ◌+◌, ◌≤◌, Bool, true, fa
 use Rattle.std.specs.Prelude.{◌&&◌, ◌==◌, count_by, Some, List, [], ◌∷◌}
 use Rattle.std.proofs.lemmas.Bool.Decides.{nat_tests}
 use Rattle.listener_set.specs.declared.generation.Generation.{Generation}
-use Rattle.definitions.specs.Table.{File, same_generation, is_worker, is_active, is_ready, IsFormed}
+use Rattle.definitions.specs.Table.{File, same_generation, is_worker, is_active, IsFormed}
+use Rattle.call_laws.specs.Pieces.{is_ready}
 use Rattle.std.specs.List.{list_any}
 use Rattle.vocabulary.specs.declared.plans.PidNote.{PidNote}
 use Rattle.vocabulary.specs.declared.plans.PidNote.TheVariants.{InPlace, AtOldbin}
 use Rattle.listener_set.specs.Numbers.{is_in}
-use Rattle.definitions.specs.Record.{FilesAre, crew_of}
+use Rattle.definitions.specs.Master.{FilesAre, crew_of}
 use Rattle.theorems.specs.Settling.{HasSide}
 use Rattle.definitions.specs.Claims.{IsStart}
 use Rattle.theorems.specs.Examples.{table_with, own_rows, pid_files, two_ready, two_workers, two_with_stale_file}

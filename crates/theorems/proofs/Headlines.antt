@@ -1,13 +1,22 @@
 -- What is shown of each target; together they are the headline.
 use Rattle.std.specs.Prelude.{ℕ, Bool, List}
 use Rattle.vocabulary.specs.Settings.{Settings}
-use Rattle.definitions.specs.Table.{Table}
-use Rattle.definitions.specs.Record.{Record}
-use Rattle.definitions.specs.Target.{Target, Workers, Mend, Reopen, Reload, Upgrade, Attended, Stop, sides_of}
+use Rattle.std.specs.List.{AllByRecursion}
+use Rattle.definitions.specs.Table.{Table, service}
+use Rattle.definitions.specs.Master.{Record, Target, Workers, Mend, Reopen, Reload, Upgrade, Attended, Stop, want}
+use Rattle.definitions.specs.Master.{sides_of}
 use Rattle.definitions.specs.Plans.{Turn}
-use Rattle.definitions.specs.Run.{Pattern, report_of}
-use Rattle.definitions.specs.Manner.{Manner}
-use Rattle.definitions.specs.Claims.{IsAccepted, EndsAsReported, HasFloor, run_of}
+use Rattle.definitions.specs.Run.{Pattern, Ran, report_of}
+use Rattle.definitions.specs.Claims.{IsAccepted, Says, IsSucceeded, Kept, IsBlamed, HasCause, IsPaid, HasFloor, Manner, run_of}
+
+-- What is promised of a run, but for the floor and the manner.
+pub record EndsAsReported (t : Table) (r : Record) (target : Target) (ran : Ran) : Type 0 where
+  pub says : Says r target (report_of (sides_of r target) ran).outcome t ran.last.table
+  pub after : IsSucceeded r target t ran
+  pub kept : AllByRecursion (λ p. Kept (service t) (want r target) t p.table) ran.passed
+  pub blamed : AllByRecursion IsBlamed ran.passed
+  pub cause : HasCause (report_of (sides_of r target) ran).outcome ran.last.cause
+  pub paid : IsPaid r.retries (report_of (sides_of r target) ran).outcome ran.last
 
 -- Each headline: whatever fails and whoever exits but an executing master, the target's plan ends as it reports.
 abbrev pub WorkersHeadline : Type 0

@@ -14,16 +14,16 @@ use Rattle.vocabulary.specs.declared.table.Listener.{Listener}
 use Rattle.vocabulary.specs.declared.plans.Side.TheVariants as side
 use Rattle.vocabulary.specs.declared.reports.Outcome.TheVariants as outcome
 use Rattle.worker_groups.specs.Crews.{descriptors_first}
-use Rattle.definitions.specs.Table.{Address, Hold, is_at, has_address}
+use Rattle.definitions.specs.Table.{Address, Hold, has_address}
+use Rattle.call_laws.specs.Pieces.{is_at, listener_of}
 use Rattle.definitions.specs.Calls.{lowest_free, put_hold}
-use Rattle.definitions.specs.Crew.{Group, Layout, fds_in, layout_in, listeners_under, addresses_of_group}
-use Rattle.definitions.specs.Record.{Record, layout_of, listener_of}
+use Rattle.definitions.specs.Master.{Group, Layout, fds_in, layout_in, listeners_under, addresses_of_group, Record}
+use Rattle.definitions.specs.Master.{layout_of, Target, Workers, Mend, Reopen, Reload, Upgrade, Attended, Stop}
+use Rattle.definitions.specs.Master.{layout_wanted}
 use Rattle.definitions.specs.Run.{Report, Outcome}
-use Rattle.definitions.specs.Target.{Target, Workers, Mend, Reopen, Reload, Upgrade, Attended, Stop, layout_wanted}
-use Rattle.definitions.specs.Target.{next_config, next_image}
-use Rattle.definitions.specs.After.{listens_on, opened_from, all_opened, added, still_wanted, with_added, upgraded}
-use Rattle.definitions.specs.After.{renewed, target_record, old_record, named_record, keeps_rules, reported}
-use Rattle.definitions.specs.After.{record_from, posts_of}
+use Rattle.definitions.specs.After.{next_config, next_image, listens_on, opened_from, all_opened, added, still_wanted}
+use Rattle.definitions.specs.After.{with_added, upgraded, renewed, target_record, old_record, named_record, keeps_rules}
+use Rattle.definitions.specs.After.{reported, record_from, posts_of}
 use Rattle.std.specs.Bool.{then_some}
 use Rattle.theorems.specs.Layouts.{IsSameLayout, StartsLaidOut, CanBeLaidOut, RecordsLaidOut, layout_told}
 use Rattle.table_laws.proofs.Rows.{or-right}

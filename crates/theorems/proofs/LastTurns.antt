@@ -1,6 +1,6 @@
 -- A turn of New at the end changes nothing.
 use Rattle.std.proofs.Common.{◌≡◌, List, [], ◌∷◌, ◌++◌, refl, ap, ◌∙◌}
-use Rattle.definitions.specs.Tree.{Tree, Branches, Ends, Does, Nothing, Branch, End}
+use Rattle.definitions.specs.Run.{Tree, Branches, Ends, Does, Nothing, Branch, End}
 use Rattle.definitions.specs.Plans.{Turn, New, Old, beside, beside_all, weave, weave_all}
 use Rattle.theorems.specs.Apart.{LastNewIsNone}
 

@@ -11,13 +11,11 @@ use Rattle.std.specs.Prelude.{◌&&◌, filter, ◌||◌}
 use Rattle.listener_set.specs.Numbers.{numbers_below, is_in}
 use Rattle.listener_set.specs.declared.generation.Generation.{Generation}
 use Rattle.definitions.specs.Table.{same_generation, Table, bears}
-use Rattle.definitions.specs.Crew.{Crew}
-use Rattle.definitions.specs.Record.{Record, crew_of}
+use Rattle.definitions.specs.Master.{Crew, Record, crew_of}
 use Rattle.vocabulary.specs.declared.targets.Target.TheVariants.{Mend}
 use Rattle.vocabulary.specs.declared.plans.Side.TheVariants.{Target}
-use Rattle.definitions.specs.Tree.{Tree}
+use Rattle.definitions.specs.Run.{Tree, Pattern, Progress, start_at}
 use Rattle.definitions.specs.Plans.{plan_tree, mend_tree, forks_any, awaits_any, settle}
-use Rattle.definitions.specs.Run.{Pattern, Progress, start_at}
 use Rattle.definitions.specs.Claims.{IsStart}
 use Rattle.theorems.proofs.Headlines.{MendHeadline}
 use Rattle.theorems.proofs.Same.{Like, first, scene, Goes, new-full, new-short, start-band, whole, ground}

@@ -11,16 +11,13 @@ use Rattle.vocabulary.specs.declared.calls.Call.TheVariants.{Kill}
 use Rattle.vocabulary.specs.declared.calls.Fate.{Fate}
 use Rattle.vocabulary.specs.declared.calls.Reply.TheVariants as reply
 use Rattle.vocabulary.specs.declared.calls.Answer.TheVariants as answer
-use Rattle.definitions.specs.Table.{Process, Table, Caller, number_of, bears, is_worker, is_any}
+use Rattle.definitions.specs.Table.{Process, Table, Caller, number_of, bears, is_worker}
+use Rattle.call_laws.specs.Pieces.{is_any, among, kills, noted}
 use Rattle.definitions.specs.Calls.{gives, each_row, drop_where, step_by, step_with, Handed}
-use Rattle.definitions.specs.Crew.{Crew}
-use Rattle.definitions.specs.Record.{Record, crew_of}
-use Rattle.definitions.specs.Tree.{Tree, reply_of, among, Nothing}
+use Rattle.definitions.specs.Master.{Crew, Record, crew_of}
+use Rattle.definitions.specs.Run.{Tree, reply_of, Nothing, Pattern, Progress, Ending, At, Lost, after_call, start_at}
 use Rattle.definitions.specs.Plans.{plan_tree, mend_tree, starts_any, settle, then_edge}
-use Rattle.call_laws.specs.Pieces.{kills}
-use Rattle.definitions.specs.Run.{Pattern, Progress, Ending, At, Lost, noted, after_call, start_at}
-use Rattle.definitions.specs.Manner.{has_ready}
-use Rattle.definitions.specs.Claims.{IsStart, run_of}
+use Rattle.definitions.specs.Claims.{has_ready, IsStart, run_of}
 use Rattle.theorems.proofs.Headlines.{InManner}
 use Rattle.table_laws.proofs.Rows.{FitsIn, every-filter_map}
 use Rattle.call_laws.proofs.Choices.{pick}

@@ -15,9 +15,9 @@ use Rattle.vocabulary.specs.declared.calls.Answer.TheVariants as answer
 use Rattle.vocabulary.specs.declared.calls.Reply.{Reply}
 use Rattle.vocabulary.specs.declared.calls.Reply.TheVariants as reply
 use Rattle.vocabulary.specs.declared.reports.Entry.{Entry}
-use Rattle.definitions.specs.Tree.{Tree, Branches, Ends, Does, Nothing, Branch, among, reply_of, full_or_short, call_of}
-use Rattle.definitions.specs.Run.{Pattern, Progress, Ran, run_with, goes_with, noted, after_call, after_moment, answered}
-use Rattle.definitions.specs.Run.{lacked_by}
+use Rattle.definitions.specs.Run.{Tree, Branches, Ends, Does, Nothing, Branch, reply_of, call_of, Pattern, Progress}
+use Rattle.definitions.specs.Run.{Ran, run_with, goes_with, after_call, after_moment, lacked_by}
+use Rattle.call_laws.specs.Pieces.{among, full_or_short, noted, answered}
 use Rattle.definitions.specs.Table.{FilePath}
 use Rattle.definitions.specs.Claims.{is_failed_removal}
 use Rattle.definitions.specs.Calls.{Handed}

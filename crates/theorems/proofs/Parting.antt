@@ -4,10 +4,10 @@ use Rattle.std.proofs.Common.{arith, ◌∙◌, ◌⊎◌, subst, inl, inr, ⊎_
 use Rattle.std.proofs.lemmas.Bool.Decides.{nat_tests}
 use Rattle.vocabulary.specs.declared.calls.Answer.{Answer}
 use Rattle.vocabulary.specs.declared.calls.Answer.TheVariants as answer
-use Rattle.definitions.specs.Tree.{Tree, Branches, Ends, Does, Nothing, Branch, End, PidNote, Order, Reply, among}
-use Rattle.definitions.specs.Tree.{reply_of, call_of}
+use Rattle.definitions.specs.Run.{Tree, Branches, Ends, Does, Nothing, Branch, End, Order, Reply, reply_of, call_of}
 use Rattle.definitions.specs.Run.{Entry, Lack, lacked_by, lacked_after}
-use Rattle.call_laws.specs.Pieces.{lacking_after, branch}
+use Rattle.definitions.specs.Master.{PidNote}
+use Rattle.call_laws.specs.Pieces.{among, lacking_after, branch}
 use Rattle.definitions.specs.Run as run
 use Rattle.definitions.specs.Plans.{Turn, New, Old, graft, graft_all, beside, beside_all, weave, weave_all}
 use Rattle.theorems.specs.Apart.{turns_used, rest_of, IsOf, AreOf, Walks, WalksAll, AreCountsOf, of_master, Plays}
@@ -176,7 +176,12 @@ used-new :
     (Does b order' set' bs') es
 used-new a order set bs b order' set' bs' e es edge is own =
     ap
-    (λ x. elim x as (λ c. List Turn) [ true ↦ New ∷ turns_used (rest_of (branch bs (reply_of set e.answer))) (Does b order' set' bs') es | false ↦ Old ∷ turns_used (Does a order set bs) (rest_of (branch bs' (reply_of set' e.answer))) es ])
+    (λ x. elim x as (λ c. List Turn) [
+      | true ↦ New
+          ∷ turns_used (rest_of (branch bs (reply_of set e.answer))) (Does b order' set' bs') es
+      | false ↦ Old
+          ∷ turns_used (Does a order set bs) (rest_of (branch bs' (reply_of set' e.answer))) es
+    ])
     (eq-refl e.by a own)
     ∙ ap (λ o. New ∷ turns_used (rest_of o) (Does b order' set' bs') es) is
 
@@ -187,7 +192,12 @@ used-old :
     (Does a order set bs) edge.1 es
 used-old a order set bs b order' set' bs' e es edge is own =
     ap
-    (λ x. elim x as (λ c. List Turn) [ true ↦ New ∷ turns_used (rest_of (branch bs (reply_of set e.answer))) (Does b order' set' bs') es | false ↦ Old ∷ turns_used (Does a order set bs) (rest_of (branch bs' (reply_of set' e.answer))) es ])
+    (λ x. elim x as (λ c. List Turn) [
+      | true ↦ New
+          ∷ turns_used (rest_of (branch bs (reply_of set e.answer))) (Does b order' set' bs') es
+      | false ↦ Old
+          ∷ turns_used (Does a order set bs) (rest_of (branch bs' (reply_of set' e.answer))) es
+    ])
     (eq-off e.by a own)
     ∙ ap (λ o. Old ∷ turns_used (Does a order set bs) (rest_of o) es) is
 
@@ -282,7 +292,8 @@ module _ (join : End → Tree) (a b : ℕ) (ne : a ≢ b) (later : Tree) where
   }
   apart (e ∷ es) (Ends end) turns (Does i order set bs) lacked th of_a of_b walk =
       subst
-      (λ j. WalksAll (weave join (Ends end) turns (Does j order set bs)) lacked (e ∷ es) later → IsWalkedApart join (Ends end) turns (Does j order set bs) a b lacked (e ∷ es) later)
+      (λ j. WalksAll (weave join (Ends end) turns (Does j order set bs)) lacked (e ∷ es) later →
+      IsWalkedApart join (Ends end) turns (Does j order set bs) a b lacked (e ∷ es) later)
       (sym of_b.0)
       (λ w.
       let t =
@@ -290,11 +301,14 @@ module _ (join : End → Tree) (a b : ℕ) (ne : a ≢ b) (later : Tree) where
       (lacked_after b set e.answer lacked) es w.2 (graft-branch (λ x. join end) bs (reply_of set e.answer)) w.3 w.4
       in
       old-cons order set bs turns turns (Ends end) lacked th e es t.0 t.1 w.0 w.1
-      (apart es (Ends end) turns t.0.1 (lacked_after b set e.answer lacked) (theirs-after a b b (inr refl) set e.answer lacked th) tt (branch-of b bs (reply_of set e.answer) of_b.1 t.0 t.1) t.2)
+      (apart es (Ends end) turns t.0.1 (lacked_after b set e.answer lacked)
+      (theirs-after a b b (inr refl) set e.answer lacked th) tt
+      (branch-of b bs (reply_of set e.answer) of_b.1 t.0 t.1) t.2)
       tt) walk
   apart (e ∷ es) (Does i order set bs) turns (Ends other) lacked th of_a of_b walk =
       subst
-      (λ j. WalksAll (weave join (Does j order set bs) turns (Ends other)) lacked (e ∷ es) later → IsWalkedApart join (Does j order set bs) turns (Ends other) a b lacked (e ∷ es) later)
+      (λ j. WalksAll (weave join (Does j order set bs) turns (Ends other)) lacked (e ∷ es) later →
+      IsWalkedApart join (Does j order set bs) turns (Ends other) a b lacked (e ∷ es) later)
       (sym of_a.0)
       (λ w.
       let t =
@@ -302,11 +316,14 @@ module _ (join : End → Tree) (a b : ℕ) (ne : a ≢ b) (later : Tree) where
       (lacked_after a set e.answer lacked) es w.2 (weave-branch join bs turns (Ends other) (reply_of set e.answer))
       w.3 w.4 in
       new-cons order set bs turns turns (Ends other) lacked th e es t.0 t.1 w.0 w.1
-      (apart es t.0.1 turns (Ends other) (lacked_after a set e.answer lacked) (theirs-after a b a (inl refl) set e.answer lacked th) (branch-of a bs (reply_of set e.answer) of_a.1 t.0 t.1) tt t.2)
+      (apart es t.0.1 turns (Ends other) (lacked_after a set e.answer lacked)
+      (theirs-after a b a (inl refl) set e.answer lacked th)
+      (branch-of a bs (reply_of set e.answer) of_a.1 t.0 t.1) tt t.2)
       tt) walk
   apart (e ∷ es) (Does i order set bs) [] (Does j order' set' bs') lacked th of_a of_b walk =
       subst
-      (λ x. WalksAll (weave join (Does x order set bs) [] (Does j order' set' bs')) lacked (e ∷ es) later → IsWalkedApart join (Does x order set bs) [] (Does j order' set' bs') a b lacked (e ∷ es) later)
+      (λ x. WalksAll (weave join (Does x order set bs) [] (Does j order' set' bs')) lacked (e ∷ es) later →
+      IsWalkedApart join (Does x order set bs) [] (Does j order' set' bs') a b lacked (e ∷ es) later)
       (sym of_a.0)
       (λ w.
       let old = Does j order' set' bs' in
@@ -321,7 +338,8 @@ module _ (join : End → Tree) (a b : ℕ) (ne : a ≢ b) (later : Tree) where
       (subst (λ u. Plays [] u) (sym (used-new a order set bs j order' set' bs' e P.front t.0 t.1 w.0)) (refl, P.used))) walk
   apart (e ∷ es) (Does i order set bs) (New ∷ turns) (Does j order' set' bs') lacked th of_a of_b walk =
       subst
-      (λ x. WalksAll (weave join (Does x order set bs) (New ∷ turns) (Does j order' set' bs')) lacked (e ∷ es) later → IsWalkedApart join (Does x order set bs) (New ∷ turns) (Does j order' set' bs') a b lacked (e ∷ es) later)
+      (λ x. WalksAll (weave join (Does x order set bs) (New ∷ turns) (Does j order' set' bs')) lacked (e ∷ es) later →
+      IsWalkedApart join (Does x order set bs) (New ∷ turns) (Does j order' set' bs') a b lacked (e ∷ es) later)
       (sym of_a.0)
       (λ w.
       let old = Does j order' set' bs' in
@@ -337,11 +355,14 @@ module _ (join : End → Tree) (a b : ℕ) (ne : a ≢ b) (later : Tree) where
       (subst (λ u. Plays (New ∷ turns) u) (sym (used-new a order set bs j order' set' bs' e P.front t.0 t.1 w.0)) (refl, P.used))) walk
   apart (e ∷ es) (Does i order set bs) (Old ∷ turns) (Does j order' set' bs') lacked th of_a of_b walk =
       subst
-      (λ x. IsOf a (Does x order set bs) → WalksAll (weave join (Does x order set bs) (Old ∷ turns) (Does j order' set' bs')) lacked (e ∷ es) later → IsWalkedApart join (Does x order set bs) (Old ∷ turns) (Does j order' set' bs') a b lacked (e ∷ es) later)
+      (λ x. IsOf a (Does x order set bs) →
+      WalksAll (weave join (Does x order set bs) (Old ∷ turns) (Does j order' set' bs')) lacked (e ∷ es) later →
+      IsWalkedApart join (Does x order set bs) (Old ∷ turns) (Does j order' set' bs') a b lacked (e ∷ es) later)
       (sym of_a.0)
       (λ own_a.
       subst
-      (λ x. WalksAll (weave join (Does a order set bs) (Old ∷ turns) (Does x order' set' bs')) lacked (e ∷ es) later → IsWalkedApart join (Does a order set bs) (Old ∷ turns) (Does x order' set' bs') a b lacked (e ∷ es) later)
+      (λ x. WalksAll (weave join (Does a order set bs) (Old ∷ turns) (Does x order' set' bs')) lacked (e ∷ es) later →
+      IsWalkedApart join (Does a order set bs) (Old ∷ turns) (Does x order' set' bs') a b lacked (e ∷ es) later)
       (sym of_b.0)
       (λ w.
       let new = Does a order set bs in
@@ -355,7 +376,9 @@ module _ (join : End → Tree) (a b : ℕ) (ne : a ≢ b) (later : Tree) where
       (theirs-after a b b (inr refl) set' e.answer lacked th) own_a
       (branch-of b bs' (reply_of set' e.answer) of_b.1 t.0 t.1) t.2 in
       old-cons order' set' bs' (Old ∷ turns) turns new lacked th e es t.0 t.1 w.0 w.1 P
-      (subst (λ u. Plays (Old ∷ turns) u) (sym (used-old a order set bs b order' set' bs' e P.front t.0 t.1 (λ x. ne (sym x ∙ w.0)))) (refl, P.used)))) of_a walk
+      (subst (λ u. Plays (Old ∷ turns) u)
+      (sym (used-old a order set bs b order' set' bs' e P.front t.0 t.1 (λ x. ne (sym x ∙ w.0))))
+      (refl, P.used)))) of_a walk
 
 pub walks-apart : WalksApart
 walks-apart join new turns old a b lacked entries later ne of_a of_b th walk = apart join a b ne later entries new turns old lacked th of_a of_b walk
@@ -393,8 +416,14 @@ module _ (join : End → Tree) (a b : ℕ) (ne : a ≢ b) (nl ol : Tree) where
       let lacked' = lacked_after i set e.answer lacked in
       let of_edge = branch-of a bs r of_a.1 edge at in
       let ih = behind edge.1 (Ends other) lacked' (theirs-after a b i (inl own_is) set e.answer lacked th) of_edge tt both
-      (subst (λ l. Walks edge.1 l (of_master a es) nl) (sym (subst (λ j. lacked_by a (lacked_after j set e.answer lacked) ≡ lacking_after set e.answer (lacked_by a lacked)) (sym own_is) (own-after a set e.answer lacked))) (subst (λ j. Walks edge.1 (lacking_after set e.answer (lacked_by j lacked)) (of_master a es) nl) refl rest))
-      (subst (λ l. Walks (Ends other) l (of_master b es) ol) (sym (subst (λ j. lacked_by b (lacked_after j set e.answer lacked) ≡ lacked_by b lacked) (sym own_is) (other-after a b ne set e.answer lacked th))) wo)
+      (subst (λ l. Walks edge.1 l (of_master a es) nl)
+      (sym
+      (subst (λ j. lacked_by a (lacked_after j set e.answer lacked)
+      ≡ lacking_after set e.answer (lacked_by a lacked)) (sym own_is) (own-after a set e.answer lacked)))
+      (subst (λ j. Walks edge.1 (lacking_after set e.answer (lacked_by j lacked)) (of_master a es) nl) refl rest))
+      (subst (λ l. Walks (Ends other) l (of_master b es) ol)
+      (sym (subst (λ j. lacked_by b (lacked_after j set e.answer lacked) ≡ lacked_by b lacked) (sym own_is)
+      (other-after a b ne set e.answer lacked th))) wo)
       in (
         own,
         (call ∙ ap (λ j. call_of order (lacked_by j lacked)) (sym own_is)),
@@ -410,12 +439,22 @@ module _ (join : End → Tree) (a b : ℕ) (ne : a ≢ b) (nl ol : Tree) where
       let of_edge = branch-of a bs r of_a.1 edge at in
       let ts = turns_used edge.1 old es in
       let ih = behind edge.1 old lacked' (theirs-after a b i (inl own_is) set e.answer lacked th) of_edge of_b both
-      (subst (λ l. Walks edge.1 l (of_master a es) nl) (sym (subst (λ j. lacked_by a (lacked_after j set e.answer lacked) ≡ lacking_after set e.answer (lacked_by a lacked)) (sym own_is) (own-after a set e.answer lacked))) rest)
-      (subst (λ l. Walks old l (of_master b es) ol) (sym (subst (λ j. lacked_by b (lacked_after j set e.answer lacked) ≡ lacked_by b lacked) (sym own_is) (other-after a b ne set e.answer lacked th))) wo)
+      (subst (λ l. Walks edge.1 l (of_master a es) nl)
+      (sym
+      (subst (λ j. lacked_by a (lacked_after j set e.answer lacked)
+      ≡ lacking_after set e.answer (lacked_by a lacked)) (sym own_is) (own-after a set e.answer lacked))) rest)
+      (subst (λ l. Walks old l (of_master b es) ol)
+      (sym (subst (λ j. lacked_by b (lacked_after j set e.answer lacked) ≡ lacked_by b lacked) (sym own_is)
+      (other-after a b ne set e.answer lacked th))) wo)
       in
       subst (λ us. WalksAll (weave join (Does i order set bs) us old) lacked (e ∷ es) (weave join nl [] ol))
-      (sym (used-new i order set bs j order' set' bs' e es edge at own))
-      (own, (call ∙ ap (λ j. call_of order (lacked_by j lacked)) (sym own_is)), (edge.0, weave join edge.1 ts old), edge-of bs (weave_all join bs ts old) (λ x. weave join x ts old) r edge (weave-branch join bs ts old r) at, ih)
+      (sym (used-new i order set bs j order' set' bs' e es edge at own)) (
+        own,
+        (call ∙ ap (λ j. call_of order (lacked_by j lacked)) (sym own_is)),
+        (edge.0, weave join edge.1 ts old),
+        edge-of bs (weave_all join bs ts old) (λ x. weave join x ts old) r edge (weave-branch join bs ts old r) at,
+        ih,
+      )
 
   by-old :
       (e : Entry) (es : List Entry) → Behind es → (new old : Tree) (lacked : List Lack) → AreCountsOf a b lacked →
@@ -429,10 +468,21 @@ module _ (join : End → Tree) (a b : ℕ) (ne : a ≢ b) (nl ol : Tree) where
       let lacked' = lacked_after j set e.answer lacked in
       let of_edge = branch-of b bs r of_b.1 edge at in
       let ih = behind (Ends end) edge.1 lacked' (theirs-after a b j (inr own_is) set e.answer lacked th) tt of_edge both
-      (subst (λ l. Walks (Ends end) l (of_master a es) nl) (sym (subst (λ i. lacked_by a (lacked_after i set e.answer lacked) ≡ lacked_by a lacked) (sym own_is) (other-after b a (λ x. ne (sym x)) set e.answer lacked (swapped a b lacked th)))) wn)
-      (subst (λ l. Walks edge.1 l (of_master b es) ol) (sym (subst (λ i. lacked_by b (lacked_after i set e.answer lacked) ≡ lacking_after set e.answer (lacked_by b lacked)) (sym own_is) (own-after b set e.answer lacked))) rest)
-      in
-      (own, (call ∙ ap (λ i. call_of order (lacked_by i lacked)) (sym own_is)), (edge.0, graft (λ x. join end) edge.1), edge-of bs (graft_all (λ x. join end) bs) (graft (λ x. join end)) r edge (graft-branch (λ x. join end) bs r) at, ih)
+      (subst (λ l. Walks (Ends end) l (of_master a es) nl)
+      (sym (subst (λ i. lacked_by a (lacked_after i set e.answer lacked) ≡ lacked_by a lacked) (sym own_is)
+      (other-after b a (λ x. ne (sym x)) set e.answer lacked (swapped a b lacked th)))) wn)
+      (subst (λ l. Walks edge.1 l (of_master b es) ol)
+      (sym
+      (subst (λ i. lacked_by b (lacked_after i set e.answer lacked)
+      ≡ lacking_after set e.answer (lacked_by b lacked)) (sym own_is) (own-after b set e.answer lacked))) rest)
+      in (
+        own,
+        (call ∙ ap (λ i. call_of order (lacked_by i lacked)) (sym own_is)),
+        (edge.0, graft (λ x. join end) edge.1),
+        edge-of bs (graft_all (λ x. join end) bs) (graft (λ x. join end)) r edge
+            (graft-branch (λ x. join end) bs r) at,
+        ih,
+      )
   by-old e es behind (Does i order set bs) (Does j order' set' bs') lacked th of_a of_b is both wn (own, call, edge, at, rest) =
       let r = reply_of set' e.answer in
       let own_is : j ≡ b = of_b.0 in
@@ -442,12 +492,22 @@ module _ (join : End → Tree) (a b : ℕ) (ne : a ≢ b) (nl ol : Tree) where
       let ts = turns_used new edge.1 es in
       let goes : List Turn → Tree → Tree = λ later still. Does i order set (weave_all join bs later still) in
       let ih = behind new edge.1 lacked' (theirs-after a b j (inr own_is) set' e.answer lacked th) of_a of_edge both
-      (subst (λ l. Walks new l (of_master a es) nl) (sym (subst (λ i. lacked_by a (lacked_after i set' e.answer lacked) ≡ lacked_by a lacked) (sym own_is) (other-after b a (λ x. ne (sym x)) set' e.answer lacked (swapped a b lacked th)))) wn)
-      (subst (λ l. Walks edge.1 l (of_master b es) ol) (sym (subst (λ i. lacked_by b (lacked_after i set' e.answer lacked) ≡ lacking_after set' e.answer (lacked_by b lacked)) (sym own_is) (own-after b set' e.answer lacked))) rest)
+      (subst (λ l. Walks new l (of_master a es) nl)
+      (sym (subst (λ i. lacked_by a (lacked_after i set' e.answer lacked) ≡ lacked_by a lacked) (sym own_is)
+      (other-after b a (λ x. ne (sym x)) set' e.answer lacked (swapped a b lacked th)))) wn)
+      (subst (λ l. Walks edge.1 l (of_master b es) ol)
+      (sym
+      (subst (λ i. lacked_by b (lacked_after i set' e.answer lacked)
+      ≡ lacking_after set' e.answer (lacked_by b lacked)) (sym own_is) (own-after b set' e.answer lacked))) rest)
       in
       subst (λ us. WalksAll (weave join new us (Does j order' set' bs')) lacked (e ∷ es) (weave join nl [] ol))
-      (sym (used-old i order set bs j order' set' bs' e es edge at (λ x. ne (sym of_a.0 ∙ sym x ∙ is))))
-      (own, (call ∙ ap (λ i. call_of order' (lacked_by i lacked)) (sym own_is)), (edge.0, beside goes ts edge.1), edge-of bs' (beside_all goes ts bs') (λ x. beside goes ts x) r edge (beside-branch goes ts bs' r) at, ih)
+      (sym (used-old i order set bs j order' set' bs' e es edge at (λ x. ne (sym of_a.0 ∙ sym x ∙ is)))) (
+        own,
+        (call ∙ ap (λ i. call_of order' (lacked_by i lacked)) (sym own_is)),
+        (edge.0, beside goes ts edge.1),
+        edge-of bs' (beside_all goes ts bs') (λ x. beside goes ts x) r edge (beside-branch goes ts bs' r) at,
+        ih,
+      )
 
   woven :
       (entries : List Entry) (new old : Tree) (lacked : List Lack) → AreCountsOf a b lacked → IsOf a new → IsOf b old →
@@ -457,8 +517,12 @@ module _ (join : End → Tree) (a b : ℕ) (ne : a ≢ b) (nl ol : Tree) where
   woven [] new old lacked th of_a of_b both wn wo = ap (λ t. weave join t [] old) wn ∙ ap (λ t. weave join nl [] t) wo
   woven (e ∷ es) new old lacked th of_a of_b both wn wo =
       ⊎_elim
-      (λ is. by-new e es (woven es) new old lacked th of_a of_b is both.1 (subst (λ l. Walks new (lacked_by a lacked) l nl) (mine a e es is) wn) (subst (λ l. Walks old (lacked_by b lacked) l ol) (others b e es (λ x. ne (sym is ∙ x))) wo))
-      (λ is. by-old e es (woven es) new old lacked th of_a of_b is both.1 (subst (λ l. Walks new (lacked_by a lacked) l nl) (others a e es (λ x. ne (sym x ∙ is))) wn) (subst (λ l. Walks old (lacked_by b lacked) l ol) (mine b e es is) wo))
+      (λ is. by-new e es (woven es) new old lacked th of_a of_b is both.1
+      (subst (λ l. Walks new (lacked_by a lacked) l nl) (mine a e es is) wn)
+      (subst (λ l. Walks old (lacked_by b lacked) l ol) (others b e es (λ x. ne (sym is ∙ x))) wo))
+      (λ is. by-old e es (woven es) new old lacked th of_a of_b is both.1
+      (subst (λ l. Walks new (lacked_by a lacked) l nl) (others a e es (λ x. ne (sym x ∙ is))) wn)
+      (subst (λ l. Walks old (lacked_by b lacked) l ol) (mine b e es is) wo))
       both.0
 
 pub merges-woven : MergesAreWoven

@@ -3,35 +3,36 @@ use Rattle.std.proofs.Common.{◌≡◌, ℕ, ◌+◌, ◌<◌, ◌≤◌, Bool,
 use Rattle.std.proofs.Common.{refl, sym, ap, ◌∙◌, subst, arith, ◌⊎◌, inl, inr, ⊎_elim}
 use Rattle.std.specs.Prelude.{⊤, option_map, unwrap_or, filter, map, reverse, min, ◌&&◌, ◌||◌, ◌==◌, if◌then◌else◌, bytes_eq, is_some}
 use Rattle.std.specs.List.{AllByRecursion, list_any}
-use Rattle.definitions.specs.Table.{Address, same_generation, Hold, is_at, Process, Table, bears, is_ready, is_worker, has_address}
+use Rattle.definitions.specs.Table.{Address, same_generation, Hold, Process, Table, bears, is_worker, has_address}
+use Rattle.definitions.specs.Table.{Service, service}
+use Rattle.call_laws.specs.Pieces.{is_at, is_ready, lacks_address, closes, census, census_edges, share, lacked_last}
+use Rattle.call_laws.specs.Pieces.{has_socket, listener_of}
 use Rattle.listener_set.specs.declared.generation.Generation.{Generation}
-use Rattle.definitions.specs.Calls.{lacks_address, put_hold}
-use Rattle.definitions.specs.Tree.{Tree}
+use Rattle.definitions.specs.Calls.{put_hold}
+use Rattle.definitions.specs.Run.{Tree, Pattern, Progress, Ending, At, start_at, outcome_of}
 use Rattle.listener_set.specs.Numbers.{RisesFrom, is_in, numbers_below}
 use Rattle.definitions.specs.Plans.{plan_tree, reload_on, reload_tree, starts, settle, opens, reload_back, only_in}
-use Rattle.call_laws.specs.Pieces.{closes, census, census_edges}
 use Rattle.listener_set.specs.AddressList.{has}
-use Rattle.definitions.specs.Crew.{Posts, Crew, Layout, share, group_of, layout_in, short_at, shortfalls_of}
-use Rattle.definitions.specs.Target.{Sides, reload_generation, want, wanted_at, sides_of, next_config}
+use Rattle.definitions.specs.Master.{Posts, Crew, Layout, group_of, layout_in, short_at, shortfalls_of, Sides}
+use Rattle.definitions.specs.Master.{reload_generation, want, wanted_at, sides_of, Record, Agrees, addresses_of}
+use Rattle.definitions.specs.Master.{crew_of, layout_of}
+use Rattle.definitions.specs.After.{next_config, crew_wanted, posts_wanted, named_record, reported, renewed, reloaded}
+use Rattle.definitions.specs.After.{with_added, all_opened, still_wanted, posts_of}
 use Rattle.vocabulary.specs.declared.targets.Target.TheVariants.{Reload}
 use Rattle.vocabulary.specs.Settings.{Settings, IsInRange}
-use Rattle.definitions.specs.After.{crew_wanted, posts_wanted, named_record, reported, renewed, reloaded, with_added}
-use Rattle.definitions.specs.After.{all_opened, still_wanted, posts_of}
 use Rattle.table_laws.proofs.Listeners.{fds, opens-on, all_closed, closed-kept, added-is, fds-listed, some-held}
 use Rattle.table_laws.proofs.Layouts.{told, share-lacks-none, share-listens}
 use Rattle.table_laws.proofs.Shares.{share-lacks, shortfalls-sum}
 use Rattle.std.proofs.lemmas.List.Sums.{length-filter}
+use Rattle.theorems.proofs.Ends.{numbered-config}
 use Rattle.theorems.proofs.Ends.{ListensBy, first-listens, next-is, moved-after, resized, report_at, service-of}
 use Rattle.theorems.proofs.Ends.{service-short, first-keys, first-service, first-held, first-few, census-within}
 use Rattle.theorems.proofs.Ends.{files-still, kept-after}
 use Rattle.vocabulary.specs.declared.plans.Side.TheVariants.{Old, Target}
 use Rattle.vocabulary.specs.declared.plans.End.TheVariants.{Done, RolledBack, ShortOld, ShortTarget}
-use Rattle.definitions.specs.Run.{Pattern, Progress, Ending, At, start_at, outcome_of, lacked_last}
-use Rattle.definitions.specs.Claims.{AgreesAfter, IsStart, has_socket, Says, IsPaid, Kept, Floor, IsCommon, IsBlamed}
-use Rattle.definitions.specs.Claims.{HasCause, HasDescriptors, ready_with, run_of}
+use Rattle.definitions.specs.Claims.{AgreesAfter, IsStart, Says, IsPaid, Kept, Floor, IsCommon, IsBlamed, HasCause}
+use Rattle.definitions.specs.Claims.{HasDescriptors, ready_with, run_of}
 use Rattle.theorems.proofs.Headlines.{ReloadHeadline}
-use Rattle.definitions.specs.Record.{Record, Agrees, addresses_of, crew_of, layout_of, listener_of}
-use Rattle.definitions.specs.Service.{Service, service}
 use Rattle.vocabulary.specs.declared.table.Listener.{Listener}
 use Rattle.table_laws.proofs.Rows.{weigh, every-more, both-true}
 use Rattle.call_laws.proofs.Choices.{and-left, and-right}
@@ -864,7 +865,8 @@ module _ (t : Table) (rec : Record) (st : Settings) (pattern : Pattern) (s : IsS
 
 pub reload_headline : ReloadHeadline
 reload_headline t rec st turns pattern a =
-    let (range, ds, numbered) = a.accepts in
+    let (range, ds, later) = a.accepts in
+    let numbered = numbered-config rec.generation later in
     let at = start_at t rec.note in
     let tree = plan_tree rec (Reload st) [] in
     let i = inv t rec st pattern a.start range ds numbered in
@@ -882,5 +884,5 @@ reload_headline t rec st turns pattern a =
         cause = all.last.2;
         paid = all.last.1;
       },
-      every-more i (Floor (service t) target t (wanted_at rec (Reload st))) (λ q h address common. h.1 address common) ran.passed all.always,
+      every-more i (Floor (λ q. 0) t rec (Reload st)) (λ q h address common. omega (arith, h.1 address common)) ran.passed all.always,
     )

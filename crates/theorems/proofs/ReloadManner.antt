@@ -7,16 +7,12 @@ use Rattle.vocabulary.specs.declared.targets.Target.TheVariants.{Reload}
 use Rattle.vocabulary.specs.declared.plans.Side.TheVariants.{Old, Target}
 use Rattle.vocabulary.specs.Settings.{Settings}
 use Rattle.definitions.specs.Table.{Address, Table, bears, same_generation}
-use Rattle.definitions.specs.Crew.{Crew}
-use Rattle.definitions.specs.Record.{Record, addresses_of, crew_of}
-use Rattle.definitions.specs.Target.{reload_generation, sides_of}
+use Rattle.definitions.specs.Master.{Crew, Record, addresses_of, crew_of, reload_generation, sides_of}
 use Rattle.definitions.specs.After.{crew_wanted}
-use Rattle.definitions.specs.Tree.{Tree}
+use Rattle.definitions.specs.Run.{Tree, Pattern, Progress, Ending, At, start_at, outcome_of}
 use Rattle.definitions.specs.Plans.{plan_tree, reload_tree, reload_on, reload_back, settle, only_in}
-use Rattle.call_laws.specs.Pieces.{closes}
-use Rattle.definitions.specs.Run.{Pattern, Progress, Ending, At, start_at, outcome_of, lacked_last}
-use Rattle.definitions.specs.Manner.{has_ready, is_old_side}
-use Rattle.definitions.specs.Claims.{IsStart}
+use Rattle.call_laws.specs.Pieces.{closes, lacked_last}
+use Rattle.definitions.specs.Claims.{has_ready, is_old_side, IsStart}
 use Rattle.theorems.proofs.Headlines.{InManner}
 use Rattle.theorems.proofs.Reload.{other-next}
 use Rattle.run_laws.proofs.Logic.{Course, Along, Anyhow, Unasked}

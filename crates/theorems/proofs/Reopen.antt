@@ -9,16 +9,13 @@ use Rattle.std.proofs.Common.{ℕ, ◌<◌, false, List, [], length, refl, arith
 use Rattle.listener_set.specs.Numbers.{is_in}
 use Rattle.listener_set.specs.declared.generation.Generation.{Generation}
 use Rattle.definitions.specs.Table.{same_generation, Table}
-use Rattle.definitions.specs.Record.{Record, crew_of, layout_of}
+use Rattle.definitions.specs.Master.{Record, crew_of, layout_of, Crew, served}
 use Rattle.vocabulary.specs.declared.targets.Target.TheVariants.{Reopen}
 use Rattle.vocabulary.specs.declared.plans.Side.TheVariants.{Target}
 use Rattle.definitions.specs.Plans.{plan_tree, reopen_tree, settle}
 use Rattle.definitions.specs.Run.{Pattern, start_at}
 use Rattle.definitions.specs.Claims.{IsStart, Floor, run_of}
 use Rattle.theorems.proofs.Headlines.{ReopenHeadline, ReopenFloor}
-use Rattle.definitions.specs.Service.{service}
-use Rattle.definitions.specs.Target.{want, wanted_at}
-use Rattle.definitions.specs.Crew.{Crew, served}
 use Rattle.theorems.proofs.Same.{Like, first, scene, Goes, Level, new-full, new-short, start-band, whole, ground}
 use Rattle.run_laws.proofs.Rules.{rule-usr1s, rule-settle}
 
@@ -70,5 +67,5 @@ pub reopen_floor : ReopenFloor
 reopen_floor t rec turns pattern a =
     let like = like_reopen t rec a.start in
     let all = whole t rec Reopen pattern a.start like (plan_tree rec Reopen []) (goes t rec pattern a.start) a.spared in
-    every-more (Level t rec Reopen pattern a.start like) (Floor (service t) (want rec Reopen) t (wanted_at rec Reopen))
+    every-more (Level t rec Reopen pattern a.start like) (Floor (λ q. 0) t rec Reopen)
     (λ q h address common. omega (arith, h address common)) (run_of rec Reopen [] pattern t).passed all.1

@@ -10,16 +10,12 @@ use Rattle.vocabulary.specs.declared.plans.Order.TheVariants.{Make}
 use Rattle.vocabulary.specs.declared.calls.Call.TheVariants.{Usr1}
 use Rattle.vocabulary.specs.declared.calls.Reply.TheVariants as reply
 use Rattle.definitions.specs.Table.{Table}
-use Rattle.definitions.specs.Crew.{Crew}
-use Rattle.definitions.specs.Record.{Record, crew_of}
-use Rattle.definitions.specs.Target.{sides_of}
-use Rattle.definitions.specs.Tree.{Tree, Nothing, reply_of, among}
+use Rattle.definitions.specs.Master.{Crew, Record, crew_of, sides_of}
+use Rattle.definitions.specs.Run.{Tree, Nothing, reply_of, Pattern, Progress, Ending, At, Lost, Ran, run_with}
+use Rattle.definitions.specs.Run.{goes_with, after_call, after_moment, start_at, outcome_of}
+use Rattle.call_laws.specs.Pieces.{among, usr1s, noted, lacked_last, answered}
 use Rattle.definitions.specs.Plans.{plan_tree, reopen_tree, settle}
-use Rattle.call_laws.specs.Pieces.{usr1s}
-use Rattle.definitions.specs.Run.{Pattern, Progress, Ending, At, Lost, Ran, run_with, goes_with, noted, after_call, lacked_last}
-use Rattle.definitions.specs.Run.{after_moment, answered, start_at, outcome_of}
-use Rattle.definitions.specs.Manner.{has_ready, is_usr1_of}
-use Rattle.definitions.specs.Claims.{IsStart, Says, run_of}
+use Rattle.definitions.specs.Claims.{has_ready, is_usr1_of, IsStart, Says, run_of}
 use Rattle.theorems.proofs.Headlines.{InManner}
 use Rattle.table_laws.proofs.Effects.{bears-refl}
 use Rattle.table_laws.proofs.Rows.{every-more}

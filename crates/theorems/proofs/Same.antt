@@ -4,20 +4,19 @@ use Rattle.std.specs.Prelude.{sum}
 use Rattle.std.specs.List.{AllByRecursion, list_any}
 use Rattle.listener_set.specs.Numbers.{is_in}
 use Rattle.listener_set.specs.declared.generation.Generation.{Generation}
-use Rattle.definitions.specs.Table.{Address, Table, is_worker, is_ready, has_address}
-use Rattle.definitions.specs.Service.{Service, service, serving}
-use Rattle.definitions.specs.Crew.{share, Layout, served, shortfalls_of, Crew}
-use Rattle.definitions.specs.Record.{Record, Agrees, addresses_of, crew_of, layout_of}
+use Rattle.definitions.specs.Table.{Address, Table, is_worker, has_address, Service, service, serving}
+use Rattle.call_laws.specs.Pieces.{is_ready, share, lacked_last, has_socket}
+use Rattle.definitions.specs.Master.{Layout, served, shortfalls_of, Crew, Record, Agrees, addresses_of, crew_of}
+use Rattle.definitions.specs.Master.{layout_of, want, layout_wanted, sides_of, Sides}
 use Rattle.vocabulary.specs.declared.targets.Target.{Target}
-use Rattle.definitions.specs.Target.{want, layout_wanted, sides_of, Sides}
 use Rattle.vocabulary.specs.declared.reports.Outcome.TheVariants as outcome
 use Rattle.vocabulary.specs.declared.plans.Side.TheVariants.{Old, Target as New}
 use Rattle.vocabulary.specs.declared.plans.End.TheVariants.{Done, RolledBack, ShortOld, ShortTarget}
-use Rattle.definitions.specs.Tree.{Tree}
+use Rattle.definitions.specs.Run.{Tree, Pattern, Progress, Ending, At, Ran, start_at, outcome_of, report_of}
 use Rattle.definitions.specs.After.{named_record, reported}
-use Rattle.definitions.specs.Run.{Pattern, Progress, Ending, At, Ran, start_at, outcome_of, report_of, lacked_last}
-use Rattle.definitions.specs.Claims.{IsStart, FallsShort, Says, Kept, IsBlamed, HasCause, IsPaid, IsCommon, has_socket}
-use Rattle.definitions.specs.Claims.{ready_with, AgreesAfter, IsSucceeded, EndsAsReported}
+use Rattle.definitions.specs.Claims.{IsStart, FallsShort, Says, Kept, IsBlamed, HasCause, IsPaid, IsCommon, ready_with}
+use Rattle.definitions.specs.Claims.{AgreesAfter, IsSucceeded}
+use Rattle.theorems.proofs.Headlines.{EndsAsReported}
 use Rattle.table_laws.proofs.Rows.{every-more}
 use Rattle.table_laws.proofs.Views.{Names, named, View, Looks}
 use Rattle.table_laws.proofs.Effects.{none}

@@ -13,21 +13,20 @@ use Rattle.vocabulary.specs.declared.plans.Order.{Order}
 use Rattle.vocabulary.specs.declared.plans.PidNote.{PidNote}
 use Rattle.vocabulary.specs.declared.calls.Reply.{Reply}
 use Rattle.definitions.specs.Table.{Address, has_address, Hold, Process, Master, Worker, Foreign, Table, Caller}
-use Rattle.definitions.specs.Table.{live_master, caller_if, is_worker, is_active, is_ready, same_generation}
-use Rattle.definitions.specs.Table.{IsFormed, IsQuiet, IsAscending}
-use Rattle.definitions.specs.Crew.{Crew, share}
-use Rattle.definitions.specs.Record.{IsRunning}
+use Rattle.definitions.specs.Table.{live_master, is_worker, is_active, same_generation, IsFormed, IsQuiet, IsAscending}
+use Rattle.call_laws.specs.Pieces.{caller_if, is_ready, share, among, full_or_short, census, quits, closes}
+use Rattle.call_laws.specs.Pieces.{census_edges, fork_edges, first_cause, noted, lacked_last, answered, went_wrong}
+use Rattle.call_laws.specs.Pieces.{lacks_address}
+use Rattle.definitions.specs.Master.{Crew, IsRunning}
 use Rattle.vocabulary.specs.declared.reports.Entry.{Entry}
-use Rattle.definitions.specs.Tree.{Tree, Branches, Ends, Does, Nothing, Branch, among, reply_of, full_or_short, call_of}
+use Rattle.definitions.specs.Run.{Tree, Branches, Ends, Does, Nothing, Branch, reply_of, call_of, Pattern, Progress}
+use Rattle.definitions.specs.Run.{Ending, At, Ran, run_with, goes_with, after_call, after_moment, Return, is_fault}
+use Rattle.definitions.specs.Run.{returns_after, lacked_by}
 use Rattle.vocabulary.specs.declared.plans.Order.TheVariants.{Make, ForkLacking, AwaitLacking, KillLacking}
 use Rattle.vocabulary.specs.declared.calls.Call.TheVariants.{Census, CloseAt, Quit}
 use Rattle.vocabulary.specs.declared.calls.Answer.{Answer}
 use Rattle.vocabulary.specs.declared.calls.Answer.TheVariants as answer
 use Rattle.definitions.specs.Plans.{settle, round, await_any_edges, then_edge, full_end, short_end}
-use Rattle.call_laws.specs.Pieces.{census, quits, closes, census_edges, fork_edges, first_cause}
-use Rattle.definitions.specs.Run.{Pattern, Progress, Ending, At, Ran, run_with, goes_with, noted, after_call, lacked_last}
-use Rattle.definitions.specs.Run.{after_moment, answered, Return, is_fault, returns_after}
-use Rattle.definitions.specs.Run.{went_wrong, lacked_by}
 use Rattle.definitions.specs.Claims.{refused_among}
 use Rattle.theorems.specs.Settling.{PlansGoBack, IsOnly, HasSide, missing, Settles, SettlesAlways, IsReturning, back, without, ReturnsAlways}
 use Rattle.table_laws.proofs.Rows.{one, weigh, every-more, every-both, count-weigh, both-true, or-left, or-right}
@@ -43,7 +42,7 @@ use Rattle.run_laws.proofs.Rules.{Scene, plain_scene, Band, band-holds, seen_as,
 use Rattle.table_laws.proofs.Layouts.{share-lacks-none}
 use Rattle.table_laws.proofs.Addresses.{same-address, address-refl}
 use Rattle.table_laws.proofs.Listeners.{all_closed, all-closed-is}
-use Rattle.definitions.specs.Calls.{gives, lacks_address, Handed}
+use Rattle.definitions.specs.Calls.{gives, Handed}
 use Rattle.listener_set.specs.AddressList.{has}
 use Rattle.vocabulary.specs.declared.plans.Side.TheVariants.{Old}
 

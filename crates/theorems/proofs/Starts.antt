@@ -4,10 +4,10 @@ use Rattle.std.specs.List.{AllByRecursion, list_any}
 use Rattle.std.proofs.lemmas.List.Sums.{sum_by-cons}
 use Rattle.listener_set.specs.Numbers.{numbers_below, is_in}
 use Rattle.vocabulary.specs.declared.table.Listener.{Listener}
-use Rattle.definitions.specs.Table.{Address, FilePath, Hold, Process, Master, is_master, is_ready, is_worker}
+use Rattle.definitions.specs.Table.{Address, FilePath, Hold, Process, Master, is_master, is_worker}
+use Rattle.call_laws.specs.Pieces.{is_ready, listener_of}
 use Rattle.worker_groups.specs.Crews.{first_posts}
-use Rattle.definitions.specs.Crew.{Group, Posts}
-use Rattle.definitions.specs.Record.{FilesAre, IsRunning, listener_of}
+use Rattle.definitions.specs.Master.{Group, Posts, FilesAre, IsRunning}
 use Rattle.call_laws.specs.Start.{first_generation, first_note, StartsAgree, first_files, first_worker, holds_from}
 use Rattle.vocabulary.specs.Settings.{listeners_from}
 use Rattle.table_laws.proofs.Addresses.{address-refl}

@@ -11,16 +11,16 @@ use Rattle.vocabulary.specs.declared.plans.Order.TheVariants.{Make}
 use Rattle.vocabulary.specs.declared.calls.Call.TheVariants.{RemovePid, Leave}
 use Rattle.vocabulary.specs.declared.calls.Answer.TheVariants as answer
 use Rattle.vocabulary.specs.declared.targets.Target.TheVariants.{Stop}
-use Rattle.definitions.specs.Table.{is_own, FilePath, File, Process, Master, Worker, Foreign, Table, Hold, Caller, owner_at, owner_if, has_address}
-use Rattle.definitions.specs.Calls.{Stepped, gives, step_by, each_row, with_files, without_file}
-use Rattle.call_laws.specs.Pieces.{without_master, quits, kills}
-use Rattle.definitions.specs.Service.{is_live_with, service, IsSame}
-use Rattle.definitions.specs.Record.{Record, FilesAre, oldbin}
-use Rattle.definitions.specs.Target.{want, sides_of}
-use Rattle.definitions.specs.Tree.{Tree, Ends, reply_of}
+use Rattle.definitions.specs.Table.{is_own, FilePath, File, Process, Master, Worker, Foreign, Table, Hold, Caller}
+use Rattle.definitions.specs.Table.{owner_at, has_address, service, IsSame}
+use Rattle.call_laws.specs.Pieces.{owner_if, with_files, without_master, quits, kills, is_live_with, noted, answered}
+use Rattle.call_laws.specs.Pieces.{lacked_last}
+use Rattle.definitions.specs.Calls.{Stepped, gives, step_by, each_row, without_file}
+use Rattle.definitions.specs.Master.{Record, FilesAre, oldbin, want, sides_of}
+use Rattle.definitions.specs.Run.{Tree, Ends, reply_of, outcome_of, Pattern, Progress, Ending, At, Lost, Ran, start_at}
+use Rattle.definitions.specs.Run.{after_call, after_moment}
 use Rattle.definitions.specs.Plans.{plan_tree, stop_tree, awaits_gone, then_edge, note_edges, removes}
 use Rattle.definitions.specs.Plans.{remove_oldbin_too, has_oldbin, stopped, does}
-use Rattle.definitions.specs.Run.{outcome_of, Pattern, Progress, Ending, At, Lost, Ran, start_at, noted, after_call, after_moment, answered, lacked_last}
 use Rattle.definitions.specs.Claims.{was_failed, IsRemoved, Says, HasCause, IsPaid, IsStart, Kept, IsBlamed, StopNote, run_of}
 use Rattle.theorems.proofs.Headlines.{StopHeadline}
 use Rattle.table_laws.proofs.Rows.{every-more}

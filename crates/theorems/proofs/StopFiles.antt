@@ -16,17 +16,16 @@ use Rattle.vocabulary.specs.declared.calls.Answer.TheVariants as answer
 use Rattle.vocabulary.specs.declared.calls.Fate.{Fate}
 use Rattle.vocabulary.specs.declared.reports.Entry.{Entry}
 use Rattle.definitions.specs.Table.{FilePath, File, Table, Caller, owner_at, live_master}
-use Rattle.definitions.specs.Exits.{after_exits}
-use Rattle.definitions.specs.Calls.{Stepped, gives, own_step, step_by, step_with, with_files, without_file}
-use Rattle.definitions.specs.Record.{Record, FilesAre, oldbin}
-use Rattle.definitions.specs.Tree.{Tree, Branches, Ends, reply_of}
-use Rattle.definitions.specs.Plans.{does, then_edge, note_edges, awaits_gone, removes}
-use Rattle.call_laws.specs.Pieces.{gone_edges, quits, kills}
-use Rattle.definitions.specs.Plans.{remove_oldbin_too, has_oldbin, stopped, stop_tree, plan_tree}
+use Rattle.definitions.specs.Calls.{after_exits, Stepped, gives, own_step, step_by, step_with, without_file}
+use Rattle.call_laws.specs.Pieces.{with_files, gone_edges, quits, kills, answered}
+use Rattle.definitions.specs.Master.{Record, FilesAre, oldbin}
+use Rattle.definitions.specs.Run.{Tree, Branches, Ends, reply_of, Pattern, Progress, Ending, At, Lost, start_at}
+use Rattle.definitions.specs.Run.{after_call, after_moment}
+use Rattle.definitions.specs.Plans.{does, then_edge, note_edges, awaits_gone, removes, remove_oldbin_too, has_oldbin}
+use Rattle.definitions.specs.Plans.{stopped, stop_tree, plan_tree}
 use Rattle.vocabulary.specs.declared.targets.Target.TheVariants.{Stop}
-use Rattle.definitions.specs.Run.{Pattern, Progress, Ending, At, Lost, start_at, after_call, after_moment, answered}
 use Rattle.definitions.specs.Claims.{names_any, is_failed_removal, was_failed, IsRemoved, run_of, refusal_of}
-use Rattle.definitions.specs.Manner.{is_leave_call}
+use Rattle.definitions.specs.Claims.{is_leave_call}
 use Rattle.table_laws.proofs.Files.{gone-file, other-removed, oldbin-other, other-oldbin}
 use Rattle.table_laws.proofs.Addresses.{address-refl}
 use Rattle.run_laws.proofs.Logic.{Course, course_after, Anyhow, are-mild-anyhow}

@@ -12,24 +12,22 @@ use Rattle.vocabulary.specs.declared.calls.Call.TheVariants.{Kill, RemovePid, Le
 use Rattle.vocabulary.specs.declared.calls.Reply.{Reply}
 use Rattle.vocabulary.specs.declared.reports.Entry.{Entry}
 use Rattle.definitions.specs.Table.{FilePath, Table}
-use Rattle.definitions.specs.Record.{Record, oldbin}
-use Rattle.definitions.specs.Tree.{Tree, Branches, Ends, Does, Nothing, Branch, among, reply_of}
+use Rattle.definitions.specs.Master.{Record, oldbin}
+use Rattle.definitions.specs.Run.{Tree, Branches, Ends, Does, Nothing, Branch, reply_of, Lost, Pattern, Progress, Ran}
+use Rattle.definitions.specs.Run.{run_with, goes_with, after_call, after_moment, start_at}
+use Rattle.call_laws.specs.Pieces.{among, kills, noted, answered}
 use Rattle.definitions.specs.Plans.{then_edge, note_edges, plan_tree, stop_tree, awaits_gone, removes, remove_oldbin_too, has_oldbin, stopped}
-use Rattle.call_laws.specs.Pieces.{kills}
-use Rattle.definitions.specs.Run.{Lost, Pattern, Progress, Ran, run_with, goes_with, noted, after_call, after_moment, answered, start_at}
-use Rattle.definitions.specs.Manner.{is_quit, is_leave_call, was_late, IsKillDue}
-use Rattle.definitions.specs.Claims.{names_any}
+use Rattle.definitions.specs.Claims.{is_quit, is_leave_call, was_late, IsKillDue, names_any}
 use Rattle.theorems.proofs.Headlines.{InManner}
 use Rattle.table_laws.proofs.Small.{in-reverse}
 use Rattle.run_laws.proofs.Logic.{Course, course_after, Anyhow, are-mild-anyhow}
 use Rattle.vocabulary.specs.declared.names.Name.{Name}
 use Rattle.vocabulary.specs.declared.plans.PidNote.TheVariants.{NoFile, Left}
 use Rattle.vocabulary.specs.declared.plans.End.TheVariants.{Done}
-use Rattle.definitions.specs.Exits.{after_exits}
+use Rattle.definitions.specs.Calls.{after_exits, Handed}
 use Rattle.run_laws.proofs.Traces.{entry_of, Asking, Finally, Traced, Good, AllGood, all-good, good-call, from-traced}
 use Rattle.run_laws.proofs.Waits.{Told, AllWaited, told-on, all-waited-on, quits-told, waits-told, kills-traced, leaves-traced}
 use Rattle.theorems.proofs.WorkersManner.{own_course}
-use Rattle.definitions.specs.Calls.{Handed}
 
 ---- Calls that a plan never makes
 
@@ -70,12 +68,16 @@ mutual
       let here = never-called test handed rest pattern (noted said p) h.0 in
       let there = never-behind test handed more r pattern p h.1 in
       elim (among replies r) as
-      (λ b. let ran : Ran = elim b as (λ c. Ran) [ true ↦ run_with handed rest pattern (noted said p) | false ↦ goes_with handed more r pattern p ] in any_call test ran.entries ≡ false) [
+      (λ b. let ran : Ran = elim b as (λ c. Ran) [
+        | true ↦ run_with handed rest pattern (noted said p)
+        | false ↦ goes_with handed more r pattern p
+      ] in any_call test ran.entries ≡ false) [
         | true ↦ here
         | false ↦ there
       ]
 
-never-kills : (by : ℕ) (g : Generation) (ks : List ℕ) (rest : Tree) → NeverCalls (is_quit (λ g k. true)) rest → NeverCalls (is_quit (λ g k. true)) (kills by g ks rest)
+never-kills : (by : ℕ) (g : Generation) (ks : List ℕ) (rest : Tree) → NeverCalls (is_quit (λ g k. true)) rest →
+    NeverCalls (is_quit (λ g k. true)) (kills by g ks rest)
 never-kills by g [] rest h = h
 never-kills by g (x ∷ ks) rest h = (refl, (never-kills by g ks rest h, tt))
 
@@ -134,8 +136,12 @@ module _ (r : Record) (pattern : Pattern) where
       let moment = co.pattern (p.calls + 1) in
       let middle = after_moment moment.exits p in
       let st = answered co.handed by order moment.fate middle in
-      let e = entry_of by Leave st.answer in
-      (waited, all-good due anyway Anyhow (course_after order co) not-lost Any (AllWaited g r.ready) (then_edge (Ends Done)) ((λ past p k h. tt), tt) (past ++ e ∷ []) (reply_of [] st.answer) (after_call by order [] st middle) (all-waited-on g r.ready past e waited) tt)
+      let e = entry_of by Leave st.answer in (
+        waited,
+        all-good due anyway Anyhow (course_after order co) not-lost Any (AllWaited g r.ready)
+            (then_edge (Ends Done)) ((λ past p k h. tt), tt) (past ++ e ∷ []) (reply_of [] st.answer)
+            (after_call by order [] st middle) (all-waited-on g r.ready past e waited) tt,
+      )
 
   removal-good :
       (path : FilePath) (bs : Branches) → AllGood due anyway Anyhow co not-lost Any (AllWaited g r.ready) bs →
@@ -160,7 +166,9 @@ module _ (r : Record) (pattern : Pattern) where
       let L = reverse r.ready in
       quits-told by g due anyway Anyhow co not-lost Any exits-any (λ past x t h. tt) (λ handed x fate t h. tt) L
       (awaits_gone by g L rest) (λ past. ⊤) (λ past e h. tt)
-      (λ past1 q1 k1 told h1. waits-told by g due anyway Anyhow co not-lost Any exits-any (λ past x t h. tt) (λ handed x fate t h. tt) (λ past x t late h. late) (λ handed x fate t h. tt) L rest (λ l. (x : ℕ) → is_in L x ≡ true → Told g x l) (λ l e h x on. told-on g x l e (h x on)) (λ l h. h)
+      (λ past1 q1 k1 told h1. waits-told by g due anyway Anyhow co not-lost Any exits-any (λ past x t h. tt)
+      (λ handed x fate t h. tt) (λ past x t late h. late) (λ handed x fate t h. tt) L rest
+      (λ l. (x : ℕ) → is_in L x ≡ true → Told g x l) (λ l e h x on. told-on g x l e (h x on)) (λ l h. h)
       (λ past2 q2 k2 waited h2. removes-good r.pid_path r.note past2 q2 (λ x on. waited x (in-reverse r.ready x ∙ on)) tt) past1 q1 told tt) [] q tt tt
 
 ---- The manner
@@ -180,12 +188,17 @@ leave-due g ready past _ t e h = absurd (cc e)
 pub stop_manner : (quick : Bool) → InManner (Stop quick)
 stop_manner true t r turns pattern a =
     never-called (is_quit (λ g k. true)) None (plan_tree r (Stop true) []) pattern (start_at t r.note)
-    (never-kills r.generation.image r.generation r.ready (removes r.generation.image r.pid_path r.note (stopped r.generation.image)) (never-removes r.generation.image r.pid_path r.note (stopped r.generation.image) (refl, (tt, tt))))
+    (never-kills r.generation.image r.generation r.ready
+    (removes r.generation.image r.pid_path r.note (stopped r.generation.image))
+    (never-removes r.generation.image r.pid_path r.note (stopped r.generation.image) (refl, (tt, tt))))
 stop_manner false t r turns pattern a =
     let tree = plan_tree r (Stop false) [] in
     let at = start_at t r.note in
     let c = own_course r pattern in
     let asked = InOrder r.generation r.ready in
     let all = from-traced asked (λ past e q. ⊤) Anyhow c [] tree at (stop-traced r pattern at) a.spared (are-mild-anyhow c tree at) in
-    let ran = run_with None tree pattern at in
-    (kills-traced t asked (kill-due r.generation r.ready t) [] ran.entries ran.passed all.dues, leaves-traced r asked (leave-due r.generation r.ready) ran.entries ran.passed all.dues)
+    let ran = run_with None tree pattern at in (
+      kills-traced t asked (kill-due r.generation r.ready t) [] ran.entries ran.passed all.dues,
+      leaves-traced r asked
+          (leave-due r.generation r.ready) ran.entries ran.passed all.dues,
+    )

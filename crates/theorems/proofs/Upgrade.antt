@@ -15,20 +15,18 @@ use Rattle.vocabulary.specs.declared.calls.Call.TheVariants.{MovePid, SpawnMaste
 use Rattle.vocabulary.specs.declared.calls.Answer.TheVariants as answer
 use Rattle.vocabulary.specs.declared.calls.Reply.TheVariants as reply
 use Rattle.vocabulary.specs.declared.targets.Target.TheVariants.{Upgrade, Attended}
-use Rattle.definitions.specs.Table.{Table, FilePath, File, Master, Caller, same_generation, owner_at}
-use Rattle.definitions.specs.Calls.{gives, with_files, with_file, without_file, with_new_row}
-use Rattle.definitions.specs.Record.{Record, FilesAre, oldbin}
-use Rattle.definitions.specs.Target.{want, wanted_at, sides_of}
+use Rattle.definitions.specs.Table.{Table, FilePath, File, Master, Caller, same_generation, owner_at, service}
+use Rattle.definitions.specs.Calls.{gives, with_file, without_file, with_new_row}
+use Rattle.call_laws.specs.Pieces.{with_files, spawn_edges}
+use Rattle.definitions.specs.Master.{Record, FilesAre, oldbin, want, sides_of}
 use Rattle.definitions.specs.After.{next_record, record_from, master_of, named_record}
-use Rattle.definitions.specs.Tree.{Tree, Nothing}
+use Rattle.definitions.specs.Run.{Tree, Nothing, Ending, Progress, faults_since, after_call, after_moment, start_at}
+use Rattle.definitions.specs.Run.{report_of}
 use Rattle.vocabulary.specs.declared.plans.Turn.{Turn}
-use Rattle.definitions.specs.Plans.{weave, joined}
-use Rattle.definitions.specs.Plans.{back_from, plan_tree, on, does, settle, move_aside, back_alone}
-use Rattle.call_laws.specs.Pieces.{spawn_edges}
+use Rattle.definitions.specs.Plans.{weave, joined, back_from, plan_tree, on, does, settle, move_aside, back_alone}
 use Rattle.definitions.specs.Plans.{new_part, old_part, taken_over, relieve, upgrade_tree}
-use Rattle.definitions.specs.Service.{service}
-use Rattle.definitions.specs.Run.{Ending, Progress, faults_since, after_call, after_moment, start_at, report_of}
-use Rattle.definitions.specs.Claims.{Kept, Floor, AttendedFloor, Says, AgreesAfter, IsBlamed, run_of}
+use Rattle.definitions.specs.Claims.{Kept, Floor, Says, AgreesAfter, IsBlamed, run_of}
+use Rattle.theorems.proofs.Ends.{numbered-image}
 use Rattle.theorems.proofs.Headlines.{UpgradeHeadline, AttendedHeadline}
 use Rattle.table_laws.proofs.Rows.{every-more}
 use Rattle.call_laws.proofs.Choices.{and-left, and-right}
@@ -194,7 +192,8 @@ module _ (c : Given) (turns : List Turn) where
 
 pub upgrade_headline : UpgradeHeadline
 upgrade_headline t rec st turns pattern a =
-    let (range, ds, numbered) = a.accepts in
+    let (range, ds, later) = a.accepts in
+    let numbered = numbered-image rec.generation later in
     let c : Given = record { t = t; rec = rec; st = st; pattern = pattern; attended = false; start = a.start; range = range; ds = ds; numbered = numbered } in
     let at = start_at t rec.note in
     let tree = plan_tree rec (Upgrade st) turns in
@@ -209,7 +208,7 @@ upgrade_headline t rec st turns pattern a =
         cause = all.last.2;
         paid = all.last.1;
       },
-      every-more (inv c) (Floor (service t) target t (wanted_at rec (Upgrade st)))
+      every-more (inv c) (Floor (λ q. 0) t rec (Upgrade st))
           (λ q h address common. omega (arith, h.1 address common, ap (λ l. faults_since 2 l q.faults) (h.3 refl)))
           ran.passed all.always,
     )
@@ -239,7 +238,8 @@ after-attended r s report t a =
 
 pub attended_headline : AttendedHeadline
 attended_headline t rec st turns pattern a =
-    let (range, ds, numbered) = a.accepts in
+    let (range, ds, later) = a.accepts in
+    let numbered = numbered-image rec.generation later in
     let c : Given = record { t = t; rec = rec; st = st; pattern = pattern; attended = true; start = a.start; range = range; ds = ds; numbered = numbered } in
     let at = start_at t rec.note in
     let tree = plan_tree rec (Attended st) turns in
@@ -255,5 +255,6 @@ attended_headline t rec st turns pattern a =
         cause = all.last.2;
         paid = all.last.1;
       },
-      every-more (inv c) (AttendedFloor (service t) target t (wanted_at rec (Attended st))) (λ q h. h.1) ran.passed all.always,
+      every-more (inv c) (Floor (λ q. faults_since 2 q.returns q.faults) t rec (Attended st))
+          (λ q h address common. omega (arith, h.1 address common)) ran.passed all.always,
     )

@@ -10,12 +10,12 @@ use Rattle.vocabulary.specs.declared.plans.Order.TheVariants.{Make}
 use Rattle.vocabulary.specs.declared.plans.Side.TheVariants.{Old}
 use Rattle.vocabulary.specs.declared.calls.Call.TheVariants.{MovePid, TermMaster}
 use Rattle.vocabulary.specs.declared.calls.Answer.TheVariants as answer
-use Rattle.definitions.specs.Table.{Address, FilePath, File, Hold, Process, Master, Worker, Foreign, Caller, is_ready, bears, same_generation, owner_at}
-use Rattle.definitions.specs.Calls.{gives, with_files, with_file, without_file, own_step}
-use Rattle.definitions.specs.Record.{FilesAre, oldbin}
-use Rattle.definitions.specs.Tree.{Tree}
+use Rattle.definitions.specs.Table.{Address, FilePath, File, Hold, Process, Master, Worker, Foreign, Caller, bears, same_generation, owner_at}
+use Rattle.call_laws.specs.Pieces.{is_ready, with_files, noted}
+use Rattle.definitions.specs.Calls.{gives, with_file, without_file, own_step}
+use Rattle.definitions.specs.Master.{FilesAre, oldbin}
+use Rattle.definitions.specs.Run.{Tree, Ending, Progress, Return, after_call}
 use Rattle.definitions.specs.Plans.{does, then_edge, note_edges, settle, move_back, back_alone, back_from, back_late, starts_any, awaits_any}
-use Rattle.definitions.specs.Run.{Ending, Progress, Return, noted, after_call}
 use Rattle.table_laws.proofs.Rows.{one, weigh, both-true}
 use Rattle.call_laws.proofs.Choices.{and-left, and-right}
 use Rattle.table_laws.proofs.Views.{HoldsShare, Names, named, View, ready_in, eqb-is, eqb-refl}

@@ -8,14 +8,12 @@ use Rattle.vocabulary.specs.declared.plans.End.TheVariants.{Join}
 use Rattle.vocabulary.specs.declared.plans.Order.TheVariants.{ForkLacking, AwaitLacking, KillLacking}
 use Rattle.vocabulary.specs.declared.plans.Turn.{Turn}
 use Rattle.vocabulary.specs.declared.plans.Turn.TheVariants as turn
-use Rattle.definitions.specs.Crew.{fds_of}
+use Rattle.definitions.specs.Master.{fds_of}
 use Rattle.vocabulary.specs.declared.calls.Reply.{Reply}
 use Rattle.vocabulary.specs.declared.calls.Reply.TheVariants as reply
-use Rattle.definitions.specs.Tree.{Tree, Branches, Nothing, Ends, Does}
-use Rattle.definitions.specs.Plans.{beside, graft}
-use Rattle.definitions.specs.Plans.{old_part, on, round, await_any_edges, then_edge}
+use Rattle.definitions.specs.Run.{Tree, Branches, Nothing, Ends, Does, Progress}
+use Rattle.definitions.specs.Plans.{beside, graft, old_part, on, round, await_any_edges, then_edge}
 use Rattle.call_laws.specs.Pieces.{census, census_edges, fork_edges}
-use Rattle.definitions.specs.Run.{Progress}
 use Rattle.table_laws.proofs.Rows.{both-true}
 use Rattle.table_laws.proofs.Views.{Names, named}
 use Rattle.table_laws.proofs.Effects.{none, same-refl}

@@ -9,18 +9,16 @@ use Rattle.listener_set.specs.declared.generation.Generation.{Generation}
 use Rattle.vocabulary.specs.declared.table.Listener.{Listener}
 use Rattle.vocabulary.specs.declared.calls.Call.{Call}
 use Rattle.vocabulary.specs.declared.calls.Call.TheVariants.{Adopt, CloseAt, OpenAt, AwaitReady, WritePid, Census}
-use Rattle.definitions.specs.Table.{Address, FilePath, File, Hold, bears, same_generation, owner_at, is_at, has_address, is_worker, is_ready}
-use Rattle.definitions.specs.Calls.{each_row, drop_where, with_file, put_hold, lacks_address, is_exited_of, census_of}
-use Rattle.definitions.specs.Crew.{fork_of}
-use Rattle.definitions.specs.Record.{FilesAre, oldbin, listener_of}
+use Rattle.definitions.specs.Table.{Address, FilePath, File, Hold, bears, same_generation, owner_at, has_address, is_worker}
+use Rattle.call_laws.specs.Pieces.{is_at, is_ready, lacks_address, listener_of, full_or_short, went_wrong, first_cause}
+use Rattle.definitions.specs.Calls.{each_row, drop_where, with_file, put_hold, is_exited_of, census_of}
+use Rattle.definitions.specs.Master.{fork_of, FilesAre, oldbin}
 use Rattle.vocabulary.specs.declared.plans.End.{End}
 use Rattle.vocabulary.specs.declared.plans.End.TheVariants.{JoinReady, JoinBack}
 use Rattle.vocabulary.specs.declared.plans.Turn.{Turn}
-use Rattle.definitions.specs.Tree.{Tree, Ends, full_or_short}
+use Rattle.definitions.specs.Run.{Tree, Ends, lacked_by, lacked_after, Progress}
 use Rattle.definitions.specs.Plans.{joined, weave, graft, tries, tries_all, pid_calls, new_part, back_from, only_in}
 use Rattle.vocabulary.specs.declared.calls.Answer.TheVariants as answer
-use Rattle.definitions.specs.Run.{went_wrong, lacked_by, lacked_after, Progress}
-use Rattle.call_laws.specs.Pieces.{first_cause}
 use Rattle.definitions.specs.After.{all_opened, still_wanted, upgraded}
 use Rattle.table_laws.proofs.Rows.{both-true}
 use Rattle.call_laws.proofs.Choices.{and-left, and-right}

@@ -12,10 +12,9 @@ use Rattle.vocabulary.specs.declared.plans.PidNote.TheVariants.{InPlace, AtOldbi
 use Rattle.vocabulary.specs.declared.plans.Side.{Side}
 use Rattle.vocabulary.specs.declared.plans.Side.TheVariants as side
 use Rattle.definitions.specs.Table.{Address, FilePath}
-use Rattle.definitions.specs.Crew.{Crew, fork_of}
-use Rattle.definitions.specs.Tree.{Tree, Ends, Done, Split, JoinReady, JoinBack}
+use Rattle.definitions.specs.Master.{Crew, fork_of, Listener, addresses_of, crew_of}
+use Rattle.definitions.specs.Run.{Tree, Ends, Done, Split, JoinReady, JoinBack}
 use Rattle.call_laws.specs.Lengths.{height}
-use Rattle.definitions.specs.Record.{Listener, addresses_of, crew_of}
 use Rattle.definitions.specs.After.{crew_wanted}
 use Rattle.definitions.specs.Plans.{does, tries, tries_all, pid_calls, awaits_gone, forks_any, awaits_any, starts_any}
 use Rattle.definitions.specs.Plans.{asks, retire, relieve, hand_over, remove_oldbin, back_serving, back_late, back_from}

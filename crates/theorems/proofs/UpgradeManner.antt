@@ -19,19 +19,17 @@ use Rattle.vocabulary.specs.declared.plans.Order.TheVariants.{Make, ForkLacking,
 use Rattle.vocabulary.specs.declared.reports.Entry.{Entry}
 use Rattle.vocabulary.specs.declared.calls.Reply.{Reply}
 use Rattle.vocabulary.specs.Settings.{Settings}
-use Rattle.definitions.specs.Table.{Table, Caller, bears, is_worker, is_any}
-use Rattle.definitions.specs.Crew.{Crew}
-use Rattle.definitions.specs.Target.{sides_of}
-use Rattle.definitions.specs.Exits.{after_exits}
-use Rattle.definitions.specs.Calls.{Stepped, gives, each_row, drop_where, census_of, is_exited_of, step_by, step_with}
-use Rattle.definitions.specs.Calls.{Handed}
-use Rattle.definitions.specs.Tree.{Tree, Branches, Ends, Does, Nothing, Branch, among, reply_of, call_of}
+use Rattle.definitions.specs.Table.{Table, Caller, bears, is_worker}
+use Rattle.call_laws.specs.Pieces.{is_any, among, quits, gone_edges, noted, lacked_last, is_process_of}
+use Rattle.definitions.specs.Master.{Crew, sides_of}
+use Rattle.definitions.specs.Calls.{after_exits, Stepped, gives, each_row, drop_where, census_of, is_exited_of, step_by}
+use Rattle.definitions.specs.Calls.{step_with, Handed}
+use Rattle.definitions.specs.Run.{Tree, Branches, Ends, Does, Nothing, Branch, reply_of, call_of, Progress, Lost}
+use Rattle.definitions.specs.Run.{start_at, outcome_of, after_call, ready_after}
 use Rattle.definitions.specs.Plans.{upgrade_tree, settle, awaits_gone, then_edge, does}
-use Rattle.call_laws.specs.Pieces.{quits, gone_edges}
-use Rattle.definitions.specs.Run.{Progress, Lost, start_at, outcome_of, noted, after_call, ready_after, lacked_last}
-use Rattle.definitions.specs.Manner.{has_ready, is_lost, is_old_side, is_process_of, is_quit, is_wait}
-use Rattle.definitions.specs.Manner.{is_late, is_leave_call, was_late, IsKillDue, KillsAreDue, Manner}
-use Rattle.definitions.specs.Claims.{names_any}
+use Rattle.definitions.specs.Claims.{has_ready, is_lost, is_old_side, is_quit, is_wait, is_late, is_leave_call}
+use Rattle.definitions.specs.Claims.{was_late, IsKillDue, KillsAreDue, Manner, names_any}
+use Rattle.theorems.proofs.Ends.{numbered-image}
 use Rattle.theorems.proofs.Headlines.{InManner}
 use Rattle.run_laws.proofs.Refusals.{is_leave}
 use Rattle.table_laws.proofs.Rows.{FitsIn, every-filter_map, both-true}
@@ -89,7 +87,9 @@ module _ (c : Given) (p k : ℕ) (on : has_ready c.t p k ≡ true) where
 
   -- it stands at an end on the old side, unless its master had waited for it to go
   abbrev stays : Finally
-  stays past e q = is_old_side (outcome_of (sides_of c.rec (Upgrade c.st)) e (lacked_last q.lacked)) ≡ true → list_any (λ e. is_wait (λ g k. true) e.call) past ≡ false → F q.table
+  stays past e q =
+      is_old_side (outcome_of (sides_of c.rec (Upgrade c.st)) e (lacked_last q.lacked)) ≡ true →
+      list_any (λ e. is_wait (λ g k. true) e.call) past ≡ false → F q.table
 
   abbrev no_asking : Asking
   no_asking past call t = ⊤
@@ -106,7 +106,9 @@ module _ (c : Given) (p k : ℕ) (on : has_ready c.t p k ≡ true) where
   settled-it past q known h =
       along-traced no_asking stays (Unlost p) Unasked (λ e q. F q.table) (λ past call t x. tt)
       (λ past e q st old none. st) (co c) (settle c.rec.generation.image (old_crew c) (R c) Old c.rec.retries) q
-      (settle-along c.rec.generation.image (Unlost p) Unasked (standing c.rec.pid c.rec.generation.image p c.rec.generation k low) (λ e q. F q.table) (λ e q st. st) (co c) (acts c) Old (old_crew c) (R c) c.rec.retries q tt h)
+      (settle-along c.rec.generation.image (Unlost p) Unasked
+      (standing c.rec.pid c.rec.generation.image p c.rec.generation k low) (λ e q. F q.table) (λ e q st. st) (co c)
+      (acts c) Old (old_crew c) (R c) c.rec.retries q tt h)
       past
 
   -- someone was waited for
@@ -121,7 +123,8 @@ module _ (c : Given) (p k : ℕ) (on : has_ready c.t p k ≡ true) where
       Traced no_asking stays (Unlost p) (co c) past (awaits_gone c.rec.generation.image (g c) l rest) q
   waited-any l x xs rest is past q =
       subst (λ z. Traced no_asking stays (Unlost p) (co c) past (awaits_gone c.rec.generation.image (g c) z rest) q) (sym is)
-      (good-step no_asking stays (Unlost p) (co c) never-lost (λ t. ⊤) Free c.rec.generation.image (AwaitGone (g c) x) [] (edges xs rest x) refl (λ es t spared mild h. tt) (λ past t known h. tt)
+      (good-step no_asking stays (Unlost p) (co c) never-lost (λ t. ⊤) Free c.rec.generation.image
+      (AwaitGone (g c) x) [] (edges xs rest x) refl (λ es t spared mild h. tt) (λ past t known h. tt)
       (λ past q' fate known h.
       let st = step_with (co c).handed c.rec.generation.image (AwaitGone (g c) x) fate q'.table in
       robust-behind no_asking stays (Unlost p) (λ t. ⊤) Waits (λ es t h. tt) (λ handed by call fate t h. tt)
@@ -230,7 +233,9 @@ module _ (c : Given) (p k : ℕ) (on : has_ready c.t p k ≡ true) where
   settled-close past q known h =
       along-traced LateFirst anyway Anyhow (NotTaken p) (λ e q. ⊤) not-taken-late (λ past e q x. tt) (co c)
       (settle c.rec.generation.image (old_crew c) (R c) Old c.rec.retries) q
-      (settle-along c.rec.generation.image Anyhow (NotTaken p) (untouched c.rec.pid c.rec.generation.image p c.rec.generation k low) (λ e q. ⊤) (λ e q st. tt) (co c) (acts c) Old (old_crew c) (R c) c.rec.retries q tt h)
+      (settle-along c.rec.generation.image Anyhow (NotTaken p)
+      (untouched c.rec.pid c.rec.generation.image p c.rec.generation k low) (λ e q. ⊤) (λ e q st. tt) (co c)
+      (acts c) Old (old_crew c) (R c) c.rec.retries q tt h)
       past
 
   -- When it has left, nothing takes it.
@@ -258,7 +263,8 @@ module _ (c : Given) (p k : ℕ) (on : has_ready c.t p k ≡ true) where
   cut-loose : (x : ℕ) (t : Table) → Loose t → Loose (Cut x t)
   cut-loose x t h =
       subst (λ (st : Stepped). Loose st.table) (kill-is None x None t h)
-      (fact-steps c.rec.pid c.rec.generation.image p _ _ (loose-lasts c.rec.pid c.rec.generation.image p c.rec.generation k low) None (Kill (g c) x) None t tt h)
+      (fact-steps c.rec.pid c.rec.generation.image p _ _
+      (loose-lasts c.rec.pid c.rec.generation.image p c.rec.generation k low) None (Kill (g c) x) None t tt h)
 
   cut-absent : (t : Table) → Loose t → Absent p (Cut k t)
   cut-absent t h = record {
@@ -266,7 +272,8 @@ module _ (c : Given) (p k : ℕ) (on : has_ready c.t p k ≡ true) where
         every-filter_map
         (OnlyOurs c.rec.pid c.rec.generation.image p c.rec.generation k low (InAny c.rec.pid c.rec.generation.image p c.rec.generation k low))
         (IsOther p) (drop_where (is_worker is_any c.rec.pid (g c) k))
-        (λ row x. pick (FitsIn (IsOther p)) (is_worker is_any c.rec.pid (g c) k row) None (Some row) (λ e. tt) (λ e. not-killed c.rec.pid c.rec.generation.image p c.rec.generation k low row x e))
+        (λ row x. pick (FitsIn (IsOther p)) (is_worker is_any c.rec.pid (g c) k row) None (Some row) (λ e. tt)
+        (λ e. not-killed c.rec.pid c.rec.generation.image p c.rec.generation k low row x e))
         t.rows h.all;
     below = h.below;
   }
@@ -308,9 +315,12 @@ module _ (c : Given) (p k : ℕ) (on : has_ready c.t p k ≡ true) where
       let st = step_with (co c).handed by (Kill (g c) x) fate2 q2.table in
       let is = kill-is (co c).handed x fate2 q2.table h2 in
       subst
-      (λ (st : Stepped). TracedBehind LateFirst anyway Anyhow (co c) (past2 ++ entry_of by (Kill (g c) x) st.answer ∷ []) (then_edge more) (reply_of [] st.answer) (after_call c.rec.generation.image (Make (Kill (g c) x)) [] st q2))
+      (λ (st : Stepped). TracedBehind LateFirst anyway Anyhow (co c)
+      (past2 ++ entry_of by (Kill (g c) x) st.answer ∷ []) (then_edge more) (reply_of [] st.answer)
+      (after_call c.rec.generation.image (Make (Kill (g c) x)) [] st q2))
       (sym is)
-      (after (past2 ++ entry_of by (Kill (g c) x) answer.Fine ∷ []) (after_call c.rec.generation.image (Make (Kill (g c) x)) [] (gives answer.Fine (Cut x q2.table)) q2) q2.table
+      (after (past2 ++ entry_of by (Kill (g c) x) answer.Fine ∷ [])
+      (after_call c.rec.generation.image (Make (Kill (g c) x)) [] (gives answer.Fine (Cut x q2.table)) q2) q2.table
       (λ j e. any-more (λ e. is_quit (bears (g c) j) e.call) past2 (entry_of by (Kill (g c) x) answer.Fine) (k2.1 j e)) h2 refl))
       (past ++ late ∷ []) (after_call c.rec.generation.image (Make (AwaitGone (g c) x)) [] (gives answer.Late q'.table) q')
       (was, λ j e. any-more (λ e. is_quit (bears (g c) j) e.call) past late (told' j (in-there x j ks e))) h')
@@ -324,7 +334,8 @@ module _ (c : Given) (p k : ℕ) (on : has_ready c.t p k ≡ true) where
       (quits c.rec.generation.image (g c) (reverse (R c)) (awaits_gone c.rec.generation.image (g c) (reverse (R c)) rest))
   relieved-close rest past q known h =
       quits-told c.rec.generation.image (g c) LateFirst anyway Anyhow (co c) not-lost Loose exits-loose (λ past x t h. tt)
-      (λ handed x fate t h. fact-steps c.rec.pid c.rec.generation.image p _ _ (loose-lasts c.rec.pid c.rec.generation.image p c.rec.generation k low) handed (Quit (g c) x) fate t tt h)
+      (λ handed x fate t h. fact-steps c.rec.pid c.rec.generation.image p _ _
+      (loose-lasts c.rec.pid c.rec.generation.image p c.rec.generation k low) handed (Quit (g c) x) fate t tt h)
       (reverse (R c)) (awaits_gone c.rec.generation.image (g c) (reverse (R c)) rest) Free (λ past e h. tt)
       (λ past q' k' told h'. waits-late (reverse (R c)) rest (in-reverse (R c) k ∙ first-in c.t c.rec c.start p k on) past q' told h') past q tt
       (loosens c.rec.pid c.rec.generation.image p c.rec.generation k low q.table h)
@@ -414,7 +425,10 @@ module _ (c : Given) where
         let here = no-leave x rest past (noted said q) h.0 in
         let there = no-leave-behind x more past r q h.1 in
         elim (among replies r) as
-        (λ b. elim b as (λ z. Type 0) [ true ↦ Traced WaitedFirst whatever Anyhow x past rest (noted said q) | false ↦ TracedBehind WaitedFirst whatever Anyhow x past more r q ]) [
+        (λ b. elim b as (λ z. Type 0) [
+          | true ↦ Traced WaitedFirst whatever Anyhow x past rest (noted said q)
+          | false ↦ TracedBehind WaitedFirst whatever Anyhow x past more r q
+        ]) [
           | true ↦ here
           | false ↦ there
         ]
@@ -433,8 +447,12 @@ module _ (c : Given) where
       let L = reverse (R c) in
       quits-told by (g c) WaitedFirst whatever Anyhow (co c) not-lost-either Any exits-any (λ past x t h. tt)
       (λ handed x fate t h. tt) L (awaits_gone by (g c) L rest) Free (λ past e h. tt)
-      (λ past1 q1 k1 told h1. waits-told by (g c) WaitedFirst whatever Anyhow (co c) not-lost-either Any exits-any (λ past x t h. tt) (λ handed x fate t h. tt) (λ past x t late h. tt) (λ handed x fate t h. tt) L rest (λ l. (x : ℕ) → is_in L x ≡ true → Told (g c) x l) (λ l e h x on. told-on (g c) x l e (h x on)) (λ l h. h)
-      (λ past2 q2 k2 waited h2. robust WaitedFirst whatever Anyhow Any (AllWaited (g c) (R c)) (λ es t h. tt) (λ handed by call fate t h. tt) (all-waited-on (g c) (R c)) asked (λ past e q k h. tt) (co c) rest past2 q2 (λ x on. waited x (in-reverse (R c) x ∙ on)) tt)
+      (λ past1 q1 k1 told h1. waits-told by (g c) WaitedFirst whatever Anyhow (co c) not-lost-either Any exits-any
+      (λ past x t h. tt) (λ handed x fate t h. tt) (λ past x t late h. tt) (λ handed x fate t h. tt) L rest
+      (λ l. (x : ℕ) → is_in L x ≡ true → Told (g c) x l) (λ l e h x on. told-on (g c) x l e (h x on)) (λ l h. h)
+      (λ past2 q2 k2 waited h2. robust WaitedFirst whatever Anyhow Any (AllWaited (g c) (R c)) (λ es t h. tt)
+      (λ handed by call fate t h. tt) (all-waited-on (g c) (R c)) asked (λ past e q k h. tt) (co c) rest past2 q2
+      (λ x on. waited x (in-reverse (R c) x ∙ on)) tt)
       past1 q1 told tt) past q tt tt
     where
       asked : (past : List Entry) (call : Call) (t : Table) → AllWaited (g c) (R c) past → Any t → WaitedFirst past call t
@@ -462,7 +480,8 @@ module _ (c : Given) where
   pub leave-traced : (turns : List Turn) → Traced WaitedFirst whatever Anyhow (co c) [] (tree_of c turns) (start_at c.t c.rec.note)
   leave-traced turns =
       upgrade-good c WaitedFirst whatever Anyhow not-lost-either Any exits-any any-any asks-any
-      (λ past q k h. no-leave (co c) (settle c.rec.generation.image (old_crew c) (R c) Old c.rec.retries) past q (no-leave-settle c.rec.generation.image (old_crew c) (R c) Old c.rec.retries))
+      (λ past q k h. no-leave (co c) (settle c.rec.generation.image (old_crew c) (R c) Old c.rec.retries) past q
+      (no-leave-settle c.rec.generation.image (old_crew c) (R c) Old c.rec.retries))
       relieved-waits spares-any turns
       [] (start_at c.t c.rec.note) tt tt
 
@@ -499,7 +518,8 @@ manner-of c turns spared =
     let left = from-traced (WaitedFirst c) (λ past e q. ⊤) Anyhow (co c) [] tree at (leave-traced c turns) spared (are-mild-anyhow (co c) tree at) in (
       (λ old none p k on need. stays-it c p k on spared old none (is_lost p ran.passed) refl),
       kills-due c [] ran.entries ran.passed left.dues
-          (λ p k on. (from-traced (LateFirst c p k on) (λ past e q. ⊤) Anyhow (co c) [] tree at (late-traced c p k on turns) spared (are-mild-anyhow (co c) tree at)).dues),
+          (λ p k on. (from-traced (LateFirst c p k on) (λ past e q. ⊤) Anyhow (co c) [] tree at
+          (late-traced c p k on turns) spared (are-mild-anyhow (co c) tree at)).dues),
       leaves-traced c.rec (WaitedFirst c) (leave-due c) ran.entries ran.passed left.dues,
     )
   where
@@ -517,21 +537,26 @@ manner-of c turns spared =
         let at = start_at c.t c.rec.note in
         let all =
         from-traced (λ past call t. ⊤)
-        (λ past e q. is_old_side (outcome_of (sides_of c.rec (Upgrade c.st)) e (lacked_last q.lacked)) ≡ true → list_any (λ e. is_wait (λ g k. true) e.call) past ≡ false → Stands c.rec.pid c.rec.generation.image p c.rec.generation k (first-low c.t c.rec c.start p k on) q.table)
+        (λ past e q. is_old_side (outcome_of (sides_of c.rec (Upgrade c.st)) e (lacked_last q.lacked)) ≡ true →
+        list_any (λ e. is_wait (λ g k. true) e.call) past ≡ false →
+        Stands c.rec.pid c.rec.generation.image p c.rec.generation k (first-low c.t c.rec c.start p k on) q.table)
         (Unlost p) (co c) [] tree at (stays-traced c p k on turns) spared (are-unlost p (co c) tree at e) in
         inl
-        (stands-ready c.rec.pid c.rec.generation.image p c.rec.generation k (first-low c.t c.rec c.start p k on) (run_in (co c) tree at).last.table (all.last old none))
+        (stands-ready c.rec.pid c.rec.generation.image p c.rec.generation k (first-low c.t c.rec c.start p k on)
+        (run_in (co c) tree at).last.table (all.last old none))
 
 pub upgrade_manner : (s : Settings) → InManner (Upgrade s)
 upgrade_manner s t r turns pattern a =
-    let (range, ds, numbered) = a.accepts in
+    let (range, ds, later) = a.accepts in
+    let numbered = numbered-image r.generation later in
     manner-of
     (record { t = t; rec = r; st = s; pattern = pattern; attended = false; start = a.start; range = range; ds = ds; numbered = numbered })
     turns a.spared
 
 pub attended_manner : (s : Settings) → InManner (Attended s)
 attended_manner s t r turns pattern a =
-    let (range, ds, numbered) = a.accepts in
+    let (range, ds, later) = a.accepts in
+    let numbered = numbered-image r.generation later in
     manner-of
     (record { t = t; rec = r; st = s; pattern = pattern; attended = true; start = a.start; range = range; ds = ds; numbered = numbered })
     turns a.spared

@@ -18,18 +18,15 @@ use Rattle.vocabulary.specs.declared.plans.Turn.{Turn}
 use Rattle.vocabulary.specs.declared.plans.Turn.TheVariants as turn
 use Rattle.vocabulary.specs.declared.reports.Entry.{Entry}
 use Rattle.definitions.specs.Table.{Table, Caller, live_master}
-use Rattle.definitions.specs.Exits.{after_exits}
-use Rattle.definitions.specs.Calls.{Stepped, step_by, step_with, Handed}
-use Rattle.definitions.specs.Crew.{fork_of}
-use Rattle.definitions.specs.Manner.{is_leave_call}
-use Rattle.definitions.specs.Tree.{Tree, Branches, Ends, Does, Nothing, Branch, among, full_or_short, reply_of}
-use Rattle.definitions.specs.Tree.{plain_reply, replies_to}
-use Rattle.definitions.specs.Plans.{beside, graft, weave, joined}
-use Rattle.definitions.specs.Run.{Lack, lacked_by, lacked_after, Progress, Lost, noted, after_call}
+use Rattle.definitions.specs.Calls.{after_exits, Stepped, step_by, step_with, Handed}
+use Rattle.definitions.specs.Master.{fork_of}
+use Rattle.definitions.specs.Claims.{is_leave_call, names_any}
+use Rattle.definitions.specs.Run.{Tree, Branches, Ends, Does, Nothing, Branch, reply_of, plain_reply, Lack, lacked_by}
+use Rattle.definitions.specs.Run.{lacked_after, Progress, Lost, after_call}
+use Rattle.call_laws.specs.Pieces.{among, full_or_short, noted, census, census_edges, fork_edges, lowest, replies_to}
+use Rattle.definitions.specs.Plans.{beside, graft, weave, joined, on, round, await_any_edges, then_edge, tries}
+use Rattle.definitions.specs.Plans.{tries_all}
 use Rattle.run_laws.proofs.Rules.{own-lacked}
-use Rattle.definitions.specs.Plans.{on, round, await_any_edges, then_edge, tries, tries_all}
-use Rattle.call_laws.specs.Pieces.{census, census_edges, fork_edges, lowest}
-use Rattle.definitions.specs.Claims.{names_any}
 use Rattle.run_laws.proofs.Logic.{Exiting}
 use Rattle.call_laws.proofs.Cases.{fork-cases, await-cases, open-cases, adopt-cases, unfailing}
 use Rattle.run_laws.proofs.Processes.{AnyCall}
@@ -76,7 +73,8 @@ keeps-lacking handed image call fate t l is = keeps-by handed image call fate t 
 module _ (c : Given) (due : Asking) (post : Finally) (mild : Exiting)
     (lost : (past : List Entry) (p : Progress) → post past Lost p) (F : Table → Type 0)
     (exits : (es : List Name) (t : Table) → names_any (co c).executing es ≡ false → mild es t.rows → F t → F (after_exits es t))
-    (any : (handed : Handed) (image : ℕ) (call : Call) (fate : Option Fate) (t : Table) → AnyCall (by c) call → F t → F (step_with handed image call fate t).table)
+    (any : (handed : Handed) (image : ℕ) (call : Call) (fate : Option Fate) (t : Table) → AnyCall (by c) call → F t →
+    F (step_with handed image call fate t).table)
     (asks : (past : List Entry) (call : Call) (t : Table) → AnyCall (by c) call → F t → due past call t) where
   -- Of each number whether its worker may be killed: so it is of one that a count of the old master lacks, and no exit and no call
   -- changes that; and a kill then keeps the fact.

@@ -12,18 +12,16 @@ use Rattle.vocabulary.specs.declared.calls.Fate.{Fate}
 use Rattle.vocabulary.specs.declared.calls.Answer.TheVariants as answer
 use Rattle.vocabulary.specs.declared.calls.Reply.TheVariants as reply
 use Rattle.vocabulary.specs.declared.plans.Order.TheVariants.{Make}
-use Rattle.definitions.specs.Table.{Address, FilePath, File, Hold, Worker, Table, Caller, bears, same_generation, is_worker, is_starting, is_exited}
-use Rattle.definitions.specs.Calls.{Stepped, gives, step_by, own_step, each_row, drop_where, with_files, with_file}
-use Rattle.definitions.specs.Calls.{with_new_row, with_new_socket, with_holds, put_hold, lacks_address, lowest_free}
-use Rattle.definitions.specs.Calls.{is_of, is_row, made_ready}
-use Rattle.definitions.specs.Crew.{fds_of, fork_of, share}
-use Rattle.definitions.specs.Exits.{change}
-use Rattle.definitions.specs.Manner.{is_leave_call}
-use Rattle.definitions.specs.Tree.{Tree, Branches, Nothing, plain_reply, replies_to, reply_of}
+use Rattle.definitions.specs.Table.{Address, FilePath, File, Hold, Worker, Table, Caller, bears, same_generation, is_worker}
+use Rattle.call_laws.specs.Pieces.{is_starting, is_exited, with_files, with_new_socket, lacks_address, is_row}
+use Rattle.call_laws.specs.Pieces.{made_ready, share, answered, first_cause, replies_to}
+use Rattle.definitions.specs.Calls.{Stepped, gives, step_by, own_step, each_row, drop_where, with_file, with_new_row}
+use Rattle.definitions.specs.Calls.{with_holds, put_hold, lowest_free, is_of, change}
+use Rattle.definitions.specs.Master.{fds_of, fork_of}
+use Rattle.definitions.specs.Claims.{is_leave_call, names_any}
+use Rattle.definitions.specs.Run.{Tree, Branches, Nothing, plain_reply, reply_of, Lack, lacked_by, Ending, Progress}
+use Rattle.definitions.specs.Run.{after_moment, after_call}
 use Rattle.definitions.specs.Plans.{on, tries, back_from}
-use Rattle.definitions.specs.Run.{Lack, lacked_by, Ending, Progress, after_moment, after_call, answered}
-use Rattle.call_laws.specs.Pieces.{first_cause}
-use Rattle.definitions.specs.Claims.{names_any}
 use Rattle.run_laws.proofs.Refusals.{is_leave}
 use Rattle.table_laws.proofs.Rows.{both-true}
 use Rattle.call_laws.proofs.Choices.{and-left, and-right}

@@ -13,13 +13,13 @@ use Rattle.vocabulary.specs.declared.calls.Call.TheVariants.{Alive, Leave, Remov
 use Rattle.vocabulary.specs.declared.calls.Answer.TheVariants as answer
 use Rattle.vocabulary.specs.declared.calls.Reply.TheVariants as reply
 use Rattle.definitions.specs.Table.{Address, FilePath, File, Hold, Caller, has_address, owner_at}
-use Rattle.definitions.specs.Calls.{Stepped, gives, step_by, each_row, drop_where, is_image, asked_alive, with_files, without_file}
-use Rattle.call_laws.specs.Pieces.{without_master, quits}
-use Rattle.definitions.specs.Record.{FilesAre, oldbin}
-use Rattle.definitions.specs.Tree.{Tree, Nothing, reply_of}
-use Rattle.definitions.specs.Plans.{on, does, then_edge, note_edges, awaits_gone, settle, remove_oldbin}
-use Rattle.definitions.specs.Plans.{hand_over, back_late, back_from, back_serving, asks, retire, relieve}
-use Rattle.definitions.specs.Run.{Ending, Progress, Return, noted, after_call, after_moment, answered, lacked_by}
+use Rattle.definitions.specs.Calls.{Stepped, gives, step_by, each_row, drop_where, is_image, without_file}
+use Rattle.call_laws.specs.Pieces.{asked_alive, with_files, without_master, quits, noted, answered}
+use Rattle.definitions.specs.Master.{FilesAre, oldbin}
+use Rattle.definitions.specs.Run.{Tree, Nothing, reply_of, Ending, Progress, Return, after_call, after_moment}
+use Rattle.definitions.specs.Run.{lacked_by}
+use Rattle.definitions.specs.Plans.{on, does, then_edge, note_edges, awaits_gone, settle, remove_oldbin, hand_over}
+use Rattle.definitions.specs.Plans.{back_late, back_from, back_serving, asks, retire, relieve}
 use Rattle.table_laws.proofs.Views.{Names, named, View, Looks, finds, eqb-is, eqb-refl}
 use Rattle.table_laws.proofs.Effects.{none, looks-allows}
 use Rattle.table_laws.proofs.Exits.{spares-each, shrinks}

@@ -10,15 +10,16 @@ use Rattle.vocabulary.specs.declared.targets.Target.TheVariants.{Upgrade}
 use Rattle.vocabulary.specs.declared.plans.PidNote.{PidNote}
 use Rattle.vocabulary.specs.declared.plans.End.TheVariants.{Done, RolledBack, ShortOld, ShortTarget}
 use Rattle.vocabulary.specs.Settings.{Settings, IsInRange}
-use Rattle.definitions.specs.Table.{Address, File, Hold, Process, Table, same_generation, has_address, is_worker, is_ready}
-use Rattle.definitions.specs.Service.{Service, service}
-use Rattle.definitions.specs.Crew.{Posts, Crew, Layout, share, group_of, layout_in, short_at, shortfalls_of}
-use Rattle.definitions.specs.Record.{Record, Agrees, FilesAre, addresses_of, crew_of, layout_of, listener_of}
-use Rattle.definitions.specs.Target.{Sides, upgrade_generation, want, wanted_at, sides_of, handover_for, next_image}
-use Rattle.definitions.specs.After.{crew_wanted, posts_wanted, named_record, reported, renewed, upgraded, posts_of}
-use Rattle.definitions.specs.Tree.{Tree}
-use Rattle.definitions.specs.Run.{Pattern, Progress, Return, faults_since, Ending, At, outcome_of, lacked_last}
-use Rattle.definitions.specs.Claims.{AgreesAfter, IsStart, has_socket, Says, IsPaid, Kept, IsCommon, IsBlamed, HasCause, HasDescriptors, ready_with}
+use Rattle.definitions.specs.Table.{Address, File, Hold, Process, Table, same_generation, has_address, is_worker}
+use Rattle.definitions.specs.Table.{Service, service}
+use Rattle.call_laws.specs.Pieces.{is_ready, share, listener_of, lacked_last, has_socket}
+use Rattle.definitions.specs.Master.{Posts, Crew, Layout, group_of, layout_in, short_at, shortfalls_of, Record, Agrees}
+use Rattle.definitions.specs.Master.{FilesAre, addresses_of, crew_of, layout_of, Sides, upgrade_generation, want}
+use Rattle.definitions.specs.Master.{wanted_at, sides_of, handover_for}
+use Rattle.definitions.specs.After.{next_image, crew_wanted, posts_wanted, named_record, reported, renewed, upgraded}
+use Rattle.definitions.specs.After.{posts_of}
+use Rattle.definitions.specs.Run.{Tree, Pattern, Progress, Return, faults_since, Ending, At, outcome_of}
+use Rattle.definitions.specs.Claims.{AgreesAfter, IsStart, Says, IsPaid, Kept, IsCommon, IsBlamed, HasCause, HasDescriptors, ready_with}
 use Rattle.table_laws.proofs.Rows.{weigh, both-true}
 use Rattle.table_laws.proofs.Views.{Names, named, View, Looks, ready_in}
 use Rattle.table_laws.proofs.Effects.{none}

@@ -13,19 +13,15 @@ use Rattle.vocabulary.specs.declared.plans.Side.TheVariants.{Old}
 use Rattle.vocabulary.specs.declared.plans.Order.TheVariants.{Make}
 use Rattle.vocabulary.specs.declared.reports.Entry.{Entry}
 use Rattle.definitions.specs.Table.{Address, FilePath, Table}
-use Rattle.definitions.specs.Exits.{after_exits}
-use Rattle.definitions.specs.Calls.{step_with, Handed}
-use Rattle.definitions.specs.Manner.{is_leave_call}
+use Rattle.definitions.specs.Calls.{after_exits, step_with, Handed}
+use Rattle.definitions.specs.Claims.{is_leave_call, names_any}
 use Rattle.vocabulary.specs.declared.calls.Reply.TheVariants as reply
-use Rattle.definitions.specs.Tree.{Tree, Branches, Nothing, Does, plain_reply, replies_to}
+use Rattle.definitions.specs.Run.{Tree, Branches, Nothing, Does, plain_reply, Progress, Lost}
+use Rattle.call_laws.specs.Pieces.{replies_to, quits, spawn_edges}
 use Rattle.definitions.specs.Plans.{on, then_edge, note_edges, settle, back_alone, back_from, move_back, move_aside}
 use Rattle.definitions.specs.Plans.{tries, tries_all, new_calls, new_part, old_part, taken_over, pid_calls, awaits_gone}
 use Rattle.definitions.specs.Plans.{asks, retire, back_serving, relieve, upgrade_tree, does, weave, joined, only_in}
-use Rattle.call_laws.specs.Pieces.{quits, spawn_edges}
-use Rattle.definitions.specs.Run.{Progress, Lost}
-use Rattle.definitions.specs.Crew.{fork_of}
-use Rattle.definitions.specs.Record.{oldbin}
-use Rattle.definitions.specs.Claims.{names_any}
+use Rattle.definitions.specs.Master.{fork_of, oldbin}
 use Rattle.run_laws.proofs.Logic.{Exiting}
 use Rattle.run_laws.proofs.Processes.{AnyCall}
 use Rattle.vocabulary.specs.declared.plans.Turn.{Turn}

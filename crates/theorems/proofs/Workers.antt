@@ -7,18 +7,14 @@ use Rattle.std.specs.Prelude.{◌++◌, ◌&&◌, filter, reverse, min, nat_lt}
 use Rattle.std.proofs.lemmas.Bool.Decides.{nat_tests}
 use Rattle.listener_set.specs.declared.generation.Generation.{Generation}
 use Rattle.listener_set.specs.Numbers.{is_in, numbers_below}
-use Rattle.definitions.specs.Plans.{workers_tree, settle}
+use Rattle.definitions.specs.Plans.{workers_tree, settle, plan_tree}
 use Rattle.call_laws.specs.Pieces.{quits}
 use Rattle.vocabulary.specs.declared.plans.Side.TheVariants.{Old, Target}
 use Rattle.vocabulary.specs.declared.targets.Target.TheVariants.{Workers}
-use Rattle.definitions.specs.Target.{want, wanted_at}
-use Rattle.definitions.specs.Crew.{Crew, served}
+use Rattle.definitions.specs.Master.{want, Crew, served, Record, crew_of, layout_of}
 use Rattle.definitions.specs.Run.{Pattern, Progress, start_at}
-use Rattle.definitions.specs.Plans.{plan_tree}
 use Rattle.definitions.specs.Claims.{run_of, IsStart, Floor}
 use Rattle.theorems.proofs.Headlines.{WorkersHeadline}
-use Rattle.definitions.specs.Record.{Record, crew_of, layout_of}
-use Rattle.definitions.specs.Service.{service}
 use Rattle.table_laws.proofs.Rows.{weigh, both-true, every-more}
 use Rattle.call_laws.proofs.Choices.{and-left, and-right}
 use Rattle.table_laws.proofs.Views.{ready_in, Names, named, View, Looks}
@@ -252,5 +248,9 @@ workers_headline t rec n turns pattern a =
     let like = like_workers rec n a.accepts in
     let first = start_at t rec.note in
     let all = whole t rec (Workers n) pattern a.start like (plan_tree rec (Workers n) []) (goes t rec n pattern a.start a.accepts) a.spared in
-    let target = want rec (Workers n) in
-    (all.0, every-more (Level t rec (Workers n) pattern a.start like) (Floor (service t) target t (wanted_at rec (Workers n))) (λ q h address common. omega (arith, first-few t rec a.start address, h address common)) (run_of rec (Workers n) [] pattern t).passed all.1)
+    let target = want rec (Workers n) in (
+      all.0,
+      every-more (Level t rec (Workers n) pattern a.start like) (Floor (λ q. 0) t rec (Workers n))
+          (λ q h address common. omega (arith, first-few t rec a.start address, h address common))
+          (run_of rec (Workers n) [] pattern t).passed all.1,
+    )

@@ -7,15 +7,11 @@ use Rattle.listener_set.specs.declared.generation.Generation.{Generation}
 use Rattle.vocabulary.specs.declared.targets.Target.TheVariants.{Workers}
 use Rattle.vocabulary.specs.declared.plans.Side.TheVariants.{Old, Target}
 use Rattle.definitions.specs.Table.{Table, bears, same_generation}
-use Rattle.definitions.specs.Crew.{Crew}
-use Rattle.definitions.specs.Record.{Record, crew_of}
-use Rattle.definitions.specs.Target.{sides_of}
-use Rattle.definitions.specs.Tree.{Tree}
+use Rattle.definitions.specs.Master.{Crew, Record, crew_of, sides_of}
+use Rattle.definitions.specs.Run.{Tree, Pattern, Progress, Ending, At, start_at, outcome_of}
 use Rattle.definitions.specs.Plans.{plan_tree, workers_tree, settle}
-use Rattle.call_laws.specs.Pieces.{quits}
-use Rattle.definitions.specs.Run.{Pattern, Progress, Ending, At, start_at, outcome_of, lacked_last}
-use Rattle.definitions.specs.Manner.{has_ready, is_old_side}
-use Rattle.definitions.specs.Claims.{IsStart}
+use Rattle.call_laws.specs.Pieces.{quits, lacked_last}
+use Rattle.definitions.specs.Claims.{has_ready, is_old_side, IsStart}
 use Rattle.theorems.proofs.Headlines.{InManner}
 use Rattle.table_laws.proofs.Views.{eqb-off}
 use Rattle.table_laws.proofs.Sets.{in-here, in-filter-of, below-of}

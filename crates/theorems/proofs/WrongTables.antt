@@ -3,12 +3,11 @@ use Rattle.std.proofs.Common.{◌≡◌, ℕ, ◌+◌, Bool, true, false, length
 use Rattle.std.specs.Prelude.{is_some, count_by, List, [], None, Some}
 use Rattle.vocabulary.specs.declared.calls.Call.TheVariants.{Adopt}
 use Rattle.vocabulary.specs.declared.plans.End.TheVariants as end
-use Rattle.definitions.specs.Tree.{Ends}
+use Rattle.definitions.specs.Run.{Ends}
 use Rattle.definitions.specs.Plans.{tries}
 use Rattle.listener_set.specs.declared.generation.Generation.{Generation}
-use Rattle.definitions.specs.Table.{Hold, Table, Caller, same_generation, live_master}
-use Rattle.definitions.specs.Crew.{share}
-use Rattle.definitions.specs.Service.{service, is_serving}
+use Rattle.definitions.specs.Table.{Hold, Table, Caller, same_generation, live_master, service}
+use Rattle.call_laws.specs.Pieces.{share, is_serving_as}
 use Rattle.definitions.specs.Claims.{IsFewerAt}
 use Rattle.theorems.specs.Examples.{first, port, other_port, holds, two_workers, count_if}
 use Rattle.theorems.specs.GroupRuns.{both_holds, grouped_with, three_workers, three_ready}
@@ -19,7 +18,7 @@ no : true ≡ false → ⊥
 no e = cc
 
 abbrev counts : Table → Generation → ℕ
-counts t g = count_by (is_serving port g) t.rows
+counts t g = count_by (is_serving_as port g) t.rows
 
 -- Of the generation that had two workers, two are lacking, and no other can have lost one.
 two_less : IsFewerAt 1 (service two_workers port) (service none_left port) → ⊥

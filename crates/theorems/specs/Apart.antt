@@ -1,8 +1,8 @@
 -- The entries of a stretch, taken for each master.
 use Rattle.std.specs.Prelude.{ℕ, ◌≡◌, ◌≢◌, ◌==◌, true, false, List, [], ◌∷◌, ◌++◌, Option, Some, None, ⊤, ◌⊎◌}
-use Rattle.definitions.specs.Tree.{End, JoinBack, PidNote, Tree, Branches, Ends, Does, Nothing, Branch, reply_of}
-use Rattle.definitions.specs.Tree.{call_of}
-use Rattle.definitions.specs.Run.{Entry, Lack, lacked_by, lacked_after}
+use Rattle.definitions.specs.Run.{End, JoinBack, Tree, Branches, Ends, Does, Nothing, Branch, reply_of, call_of, Entry}
+use Rattle.definitions.specs.Run.{Lack, lacked_by, lacked_after}
+use Rattle.definitions.specs.Master.{PidNote}
 use Rattle.call_laws.specs.Pieces.{lacking_after, branch}
 use Rattle.definitions.specs.Plans.{Turn, New, Old, weave}
 

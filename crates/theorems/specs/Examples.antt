@@ -12,14 +12,13 @@ use Rattle.vocabulary.specs.declared.reports.Entry.{Entry}
 use Rattle.vocabulary.specs.declared.reports.Report.{Report}
 use Rattle.vocabulary.specs.declared.reports.Outcome.{Outcome}
 use Rattle.definitions.specs.Table.{Address, FilePath, Hold, Process, Master, Worker, Foreign, File, Table, IsFormed}
+use Rattle.definitions.specs.Table.{service}
 use Rattle.vocabulary.specs.Settings.{Settings}
 use Rattle.theorems.specs.Settling.{HasSide}
-use Rattle.definitions.specs.Service.{service}
-use Rattle.definitions.specs.Crew.{Posts}
-use Rattle.definitions.specs.Record.{Record, oldbin, crew_of}
-use Rattle.definitions.specs.Target.{Target, Sides, sides_of}
+use Rattle.definitions.specs.Master.{Posts, Record, oldbin, crew_of, Target, Sides, sides_of}
 use Rattle.definitions.specs.Claims.{IsStart, HasDescriptors, run_of}
-use Rattle.definitions.specs.Run.{quiet, Pattern, Ran, report_of}
+use Rattle.call_laws.specs.Pieces.{quiet}
+use Rattle.definitions.specs.Run.{Pattern, Ran, report_of}
 
 ---- A master with two workers
 

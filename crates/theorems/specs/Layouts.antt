@@ -6,10 +6,9 @@ use Rattle.vocabulary.specs.Settings.{Settings}
 use Rattle.vocabulary.specs.declared.plans.Side.TheVariants as side
 use Rattle.vocabulary.specs.declared.reports.Outcome.TheVariants as outcome
 use Rattle.definitions.specs.Table.{Address}
-use Rattle.definitions.specs.Crew.{Layout, layout_in}
-use Rattle.definitions.specs.Record.{Listener, Record, layout_of}
+use Rattle.definitions.specs.Master.{Layout, layout_in, Listener, Record, layout_of, Target, Workers, Mend, Reopen}
+use Rattle.definitions.specs.Master.{Reload, Upgrade, Attended, Stop, layout_wanted}
 use Rattle.call_laws.specs.Start.{started}
-use Rattle.definitions.specs.Target.{Target, Workers, Mend, Reopen, Reload, Upgrade, Attended, Stop, layout_wanted}
 use Rattle.definitions.specs.Run.{Report, Outcome}
 use Rattle.definitions.specs.After.{record_after}
 

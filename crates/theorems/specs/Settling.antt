@@ -3,16 +3,14 @@ use Rattle.std.specs.Prelude.{ℕ, ◌≡◌, ◌≤◌, ◌<◌, ◌+◌, true,
 use Rattle.std.specs.List.{list_any, AllByRecursion}
 use Rattle.listener_set.specs.Numbers.{IsRising, is_in, numbers_below}
 use Rattle.listener_set.specs.AddressList.{has}
-use Rattle.definitions.specs.Table.{Address, Generation, Hold, Process, Master, Worker, Foreign, Table, live_master, is_worker, is_ready}
-use Rattle.definitions.specs.Table.{IsFormed}
-use Rattle.definitions.specs.Crew.{Crew, share}
-use Rattle.definitions.specs.Record.{IsRunning}
+use Rattle.definitions.specs.Table.{Address, Generation, Hold, Process, Master, Worker, Foreign, Table, live_master}
+use Rattle.definitions.specs.Table.{is_worker, IsFormed}
+use Rattle.call_laws.specs.Pieces.{is_ready, share, quits, closes, lacked_last}
+use Rattle.definitions.specs.Master.{Crew, IsRunning}
 use Rattle.vocabulary.specs.declared.table.Stance.TheVariants.{Starting, Ready, Draining, Exited}
-use Rattle.definitions.specs.Tree.{Side, Tree}
+use Rattle.definitions.specs.Run.{Side, Tree, Pattern, Progress, Ending, At, Ran, run_with}
 use Rattle.vocabulary.specs.declared.plans.Side.TheVariants as side
 use Rattle.definitions.specs.Plans.{settle, starts, workers_tree, reload_back, full_end, short_end}
-use Rattle.call_laws.specs.Pieces.{quits, closes}
-use Rattle.definitions.specs.Run.{Pattern, Progress, Ending, At, Ran, run_with, lacked_last}
 use Rattle.definitions.specs.Claims.{refused_among}
 use Rattle.definitions.specs.Calls.{Handed}
 
@@ -40,7 +38,10 @@ abbrev pub IsSettled : Side → ℕ → ℕ → Generation → List ℕ → Prog
 IsSettled side rounds pid g set first end last =
     ((end ≡ At (full_end side)) × (missing pid g set last.table ≡ []))
     ⊎
-    ((end ≡ At (short_end side)) × (1 ≤ length (lacked_last last.lacked)) × (lacked_last last.lacked ≡ missing pid g set last.table) × (length (lacked_last last.lacked) + rounds + (first.faults + first.losses) ≤ length (missing pid g set first.table) + (last.faults + last.losses)))
+    ((end ≡ At (short_end side)) × (1 ≤ length (lacked_last last.lacked)) ×
+    (lacked_last last.lacked ≡ missing pid g set last.table) ×
+    (length (lacked_last last.lacked) + rounds + (first.faults + first.losses)
+    ≤ length (missing pid g set first.table) + (last.faults + last.losses)))
 
 -- How a settle ends; the last count is what is Ready then, the master and its workers are as they have to be, and the files
 -- and the note are as they were.

@@ -12,9 +12,8 @@ use Rattle.vocabulary.specs.declared.reports.Outcome.TheVariants.{Done, RolledBa
 use Rattle.vocabulary.specs.declared.reports.Entry.{Entry}
 use Rattle.vocabulary.specs.declared.targets.Target.{Target}
 use Rattle.vocabulary.specs.declared.targets.Target.TheVariants.{Workers, Mend, Reopen, Reload, Upgrade, Attended, Stop}
-use Rattle.definitions.specs.Record.{Record, oldbin}
+use Rattle.definitions.specs.Master.{Record, oldbin, Sides, sides_of, handover_for}
 use Rattle.definitions.specs.Calls.{Handover}
-use Rattle.definitions.specs.Target.{Sides, sides_of, handover_for}
 use Rattle.listener_set.specs.Numbers.{numbers_below}
 use Rattle.call_laws.specs.Lengths.{height}
 use Rattle.definitions.specs.Plans.{Turn, New, Old, plan_tree}

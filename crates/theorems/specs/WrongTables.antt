@@ -10,19 +10,15 @@ use Rattle.vocabulary.specs.declared.plans.Side.TheVariants as side
 use Rattle.vocabulary.specs.declared.reports.Entry.{Entry}
 use Rattle.vocabulary.specs.declared.reports.Outcome.TheVariants.{Done, RolledBack, Degraded, Lost}
 use Rattle.vocabulary.specs.declared.targets.Target.TheVariants.{Workers, Reload, Stop}
-use Rattle.definitions.specs.Table.{Master, Worker, Table, Caller, IsFormed}
-use Rattle.definitions.specs.Service.{service}
+use Rattle.definitions.specs.Table.{Master, Worker, Table, Caller, IsFormed, service}
 use Rattle.call_laws.specs.Aside.{LeavesAlone}
-use Rattle.definitions.specs.Tree.{Tree, Ends}
+use Rattle.definitions.specs.Run.{Tree, Ends, faults_since, Progress, Ran, At, start_at}
 use Rattle.definitions.specs.Plans.{Turn, Old, weave, joined, tries, old_part}
 use Rattle.theorems.specs.Apart.{WalksAll}
-use Rattle.definitions.specs.Crew.{layout_in}
-use Rattle.definitions.specs.Record.{Agrees, FilesAre, crew_of, layout_of}
-use Rattle.definitions.specs.Target.{want, wanted_at}
-use Rattle.definitions.specs.Run.{Progress, Ran, At, start_at}
+use Rattle.definitions.specs.Master.{layout_in, Agrees, FilesAre, crew_of, layout_of, want}
 use Rattle.theorems.specs.Settling.{IsSettled, HasSide}
-use Rattle.definitions.specs.Manner.{Stays, Goes, KillsOnlyLate, LeavesLast}
-use Rattle.definitions.specs.Claims.{Says, Kept, Floor, AttendedFloor, IsBlamed, HasCause, IsPaid, StopNote, IsSucceeded}
+use Rattle.definitions.specs.Claims.{Stays, Goes, KillsOnlyLate, LeavesLast, Says, Kept, Floor, IsBlamed, HasCause}
+use Rattle.definitions.specs.Claims.{IsPaid, StopNote, IsSucceeded}
 use Rattle.theorems.specs.GroupRuns.{both_holds, first_hold, grouped, grouped_with, three_workers, three_ready, two_groups}
 use Rattle.theorems.specs.Layouts.{IsSameLayout}
 use Rattle.theorems.specs.Examples.{first, port, other_port, pid_file, holds, two_workers, two_without_file, two_ready}
@@ -111,7 +107,7 @@ abbrev pub went_back : Progress → ℕ → ℕ → Progress
 went_back p question faults = record p { returns = (record { question = question; faults = faults }) ∷ [] }
 
 abbrev pub FloorThen : Progress → Type 0
-FloorThen p = AttendedFloor (service two_workers) (want (two_ready 3) (Workers 2)) two_workers (wanted_at (two_ready 3) (Workers 2)) p
+FloorThen p = Floor (λ q. faults_since 2 q.returns q.faults) two_workers (two_ready 3) (Workers 2) p
 
 -- of one call, from one table to another
 abbrev pub ran_from : Table → Entry → Table → Ran
@@ -152,7 +148,7 @@ pub record WrongTables : Type 0 where
   -- The old workers went before new ones were ready.
   pub floor :
       Refuted
-      (Floor (service two_workers) (want (two_ready 3) (Workers 2)) two_workers (wanted_at (two_ready 3) (Workers 2)) (progress one_left 0 0 None))
+      (Floor (λ q. 0) two_workers (two_ready 3) (Workers 2) (progress one_left 0 0 None))
   -- The operator went back at the second question, and the new master ended before the old workers were started again. A fault
   -- before that question does not count, and none counts where the operator went back at the first.
   pub ended_first : Refuted (FloorThen (went_back (progress none_left 0 0 (Some 15)) 2 0))
@@ -206,4 +202,7 @@ pub record WrongTables : Type 0 where
   -- Each of two groups listens where the other should.
   pub swapped :
       Refuted
-      (IsSameLayout (layout_of (record three_ready { posts = record { groups = two_groups; descriptors = (4 ∷ []) ∷ (3 ∷ []) ∷ [] } })) (layout_in grouped.groups grouped.listeners))
+      (IsSameLayout
+      (layout_of
+      (record three_ready { posts = record { groups = two_groups; descriptors = (4 ∷ []) ∷ (3 ∷ []) ∷ [] } }))
+      (layout_in grouped.groups grouped.listeners))

@@ -43,7 +43,9 @@ word_reads = record { found = λ text w e. at text w (reading text) refl e; only
 unread_reads : IsReader IsUnread refusal_code unread_of
 unread_reads = record { found = λ text r e. at text r (bytes_eq text (codes "W1")) refl (bytes_eq text (codes "W2")) refl e; only = only }
   where
-    at : (text : List ℕ) (r : WordRefusal) (a : Bool) → bytes_eq text (codes "W1") ≡ a → (b : Bool) → bytes_eq text (codes "W2") ≡ b → cond a (Some Unknown) (cond b (Some BadNumber) None) ≡ Some r → IsUnread r × (text ≡ refusal_code r)
+    at : (text : List ℕ) (r : WordRefusal) (a : Bool) → bytes_eq text (codes "W1") ≡ a → (b : Bool) →
+        bytes_eq text (codes "W2") ≡ b → cond a (Some Unknown) (cond b (Some BadNumber) None) ≡ Some r → IsUnread r ×
+        (text ≡ refusal_code r)
     at text r true k b l e =
         let same : Some Unknown ≡ Some r = e in
         let is : Unknown ≡ r = cc in
@@ -86,8 +88,11 @@ module _ (text : List ℕ) (v : Line) where
       begins : (word : List ℕ) → bytes_eq first word ≡ true → text ≡ word ++ 32 ∷ rest
       begins word k = whole ∙ ap (λ t. t ++ 32 ∷ rest) (same_bytes first word k)
 
-      at : (a : Bool) → bytes_eq first (codes "word") ≡ a → (b : Bool) → bytes_eq first (codes "unread") ≡ b → (c : Bool) → bytes_eq first (codes "refused") ≡ c →
-          cond a (option_map Heard (word_of rest)) (cond b (option_map Unread (unread_of rest)) (cond c (some_if (is_code rest) (Refused rest)) (option_map Ended (report_of [] text)))) ≡ Some v →
+      at : (a : Bool) → bytes_eq first (codes "word") ≡ a → (b : Bool) → bytes_eq first (codes "unread") ≡ b →
+          (c : Bool) → bytes_eq first (codes "refused") ≡ c →
+          cond a (option_map Heard (word_of rest))
+          (cond b (option_map Unread (unread_of rest))
+          (cond c (some_if (is_code rest) (Refused rest)) (option_map Ended (report_of [] text)))) ≡ Some v →
           IsLine v × (text ≡ line_text v)
       at true k b l c m e =
           let heard = mapped Heard (word_of rest) v e in

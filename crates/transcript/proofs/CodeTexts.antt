@@ -1,5 +1,6 @@
 -- What the bytes of a code are.
-use Rattle.std.proofs.Common.{◌≡◌, ℕ, zero, suc, ◌-◌, ◌<◌, ltb, Bool, true, false, ◌&&◌, ◌||◌, not, ◌==◌, List, [], ◌∷◌, ◌++◌, Option, Some, None, IsUtf8, IsAscii, refl, ap, ◌∙◌, arith}
+use Rattle.std.proofs.Common.{◌≡◌, ℕ, zero, suc, ◌-◌, ◌<◌, ltb, Bool, true, false, ◌&&◌, ◌||◌, not, ◌==◌, List, [], ◌∷◌}
+use Rattle.std.proofs.Common.{◌++◌, Option, Some, None, IsUtf8, IsAscii, refl, ap, ◌∙◌, arith}
 use Rattle.std.specs.Prelude.{codes, bytes_eq, nat_lt}
 use Rattle.std.specs.List.{list_all}
 use Rattle.std.specs.Char.{is_ascii_digit, is_ascii_uppercase}
@@ -50,7 +51,10 @@ same_plain text key plain h = ap (list_all is_plain) (same_bytes text key h) ∙
 key_plain : (text : List ℕ) → is_key text ≡ true → list_all is_plain text ≡ true
 key_plain text h = one (bytes_eq text (codes "command")) refl (bytes_eq text (codes "groups")) refl (bytes_eq text (codes "listeners")) refl (bytes_eq text (codes "pid")) refl (bytes_eq text (codes "retries")) refl (bytes_eq text (codes "timeout")) refl (bytes_eq text (codes "workers")) refl h
   where
-    one : (a : Bool) → bytes_eq text (codes "command") ≡ a → (b : Bool) → bytes_eq text (codes "groups") ≡ b → (c : Bool) → bytes_eq text (codes "listeners") ≡ c → (d : Bool) → bytes_eq text (codes "pid") ≡ d → (e : Bool) → bytes_eq text (codes "retries") ≡ e → (f : Bool) → bytes_eq text (codes "timeout") ≡ f → (g : Bool) → bytes_eq text (codes "workers") ≡ g → (a || b || c || d || e || f || g) ≡ true → list_all is_plain text ≡ true
+    one : (a : Bool) → bytes_eq text (codes "command") ≡ a → (b : Bool) → bytes_eq text (codes "groups") ≡ b →
+        (c : Bool) → bytes_eq text (codes "listeners") ≡ c → (d : Bool) → bytes_eq text (codes "pid") ≡ d → (e : Bool) →
+        bytes_eq text (codes "retries") ≡ e → (f : Bool) → bytes_eq text (codes "timeout") ≡ f → (g : Bool) →
+        bytes_eq text (codes "workers") ≡ g → (a || b || c || d || e || f || g) ≡ true → list_all is_plain text ≡ true
     one true i b j c k d l e m f n g o h = same_plain text (codes "command") refl i
     one false i true j c k d l e m f n g o h = same_plain text (codes "groups") refl j
     one false i false j true k d l e m f n g o h = same_plain text (codes "listeners") refl k
@@ -63,20 +67,23 @@ key_plain text h = one (bytes_eq text (codes "command")) refl (bytes_eq text (co
 detail_plain : (text : List ℕ) → is_detail text ≡ true → list_all is_plain text ≡ true
 detail_plain text h = one (is_lettered text) refl (is_numeral text) refl (is_key text) refl h
   where
-    one : (a : Bool) → is_lettered text ≡ a → (b : Bool) → is_numeral text ≡ b → (c : Bool) → is_key text ≡ c → (a || b || c) ≡ true → list_all is_plain text ≡ true
+    one : (a : Bool) → is_lettered text ≡ a → (b : Bool) → is_numeral text ≡ b → (c : Bool) → is_key text ≡ c →
+        (a || b || c) ≡ true → list_all is_plain text ≡ true
     one true i b j c k h = lettered_plain text i
     one false i true j c k h = numeral_plain text j
     one false i false j true k h = key_plain text k
     one false i false j false k h = cc
 
-cut_plain : (text : List ℕ) (p : List ℕ × List ℕ) → cut 32 text ≡ Some p → list_all is_plain p.0 ≡ true → list_all is_plain p.1 ≡ true → list_all is_plain text ≡ true
+cut_plain : (text : List ℕ) (p : List ℕ × List ℕ) → cut 32 text ≡ Some p → list_all is_plain p.0 ≡ true →
+    list_all is_plain p.1 ≡ true → list_all is_plain text ≡ true
 cut_plain text p e h k = ap (list_all is_plain) (cut_found 32 text p e) ∙ append_plain p.0 (32 ∷ p.1) h k
 
 details_plain : (n : ℕ) (text : List ℕ) → are_details n text ≡ true → list_all is_plain text ≡ true
 details_plain zero text h = cc
 details_plain (suc n) text h = at (cut 32 text) refl h (details_plain n)
   where
-    at : (o : Option (List ℕ × List ℕ)) → cut 32 text ≡ o → details_from (are_details n) text o ≡ true → ((rest : List ℕ) → are_details n rest ≡ true → list_all is_plain rest ≡ true) → list_all is_plain text ≡ true
+    at : (o : Option (List ℕ × List ℕ)) → cut 32 text ≡ o → details_from (are_details n) text o ≡ true →
+        ((rest : List ℕ) → are_details n rest ≡ true → list_all is_plain rest ≡ true) → list_all is_plain text ≡ true
     at None e h others = detail_plain text h
     at (Some p) e h others =
         let parts = both (is_detail p.0) (are_details n p.1) h in
@@ -107,7 +114,8 @@ pub IsUtf8_code : (text : List ℕ) → is_code text ≡ true → IsUtf8 text
 IsUtf8_code text h = IsUtf8-from_ascii text (plain_ascii text (code_plain text h))
 
 -- a word with others behind it
-pub details_both : (n : ℕ) (text word rest : List ℕ) → 0 < n → cut 32 text ≡ Some (word, rest) → is_detail word ≡ true → are_details n text ≡ are_details (n - 1) rest
+pub details_both : (n : ℕ) (text word rest : List ℕ) → 0 < n → cut 32 text ≡ Some (word, rest) → is_detail word ≡ true →
+    are_details n text ≡ are_details (n - 1) rest
 details_both zero text word rest lt e h = absurd (let none : 0 < 0 = lt in omega arith)
 details_both (suc n) text word rest lt e h =
     let less : n ≡ suc n - 1 = omega arith in

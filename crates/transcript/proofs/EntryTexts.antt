@@ -1,5 +1,6 @@
 -- Calls with their answers are read as they are written.
-use Rattle.std.proofs.Common.{◌≡◌, ℕ, zero, suc, ◌+◌, ◌-◌, ◌<◌, ◌==◌, eqb, Bool, true, false, cond, ◌&&◌, not, List, [], ◌∷◌, ◌++◌, length, take, drop, Option, Some, None, refl, sym, ap, subst, ◌∙◌, arith}
+use Rattle.std.proofs.Common.{◌≡◌, ℕ, zero, suc, ◌+◌, ◌-◌, ◌<◌, ◌==◌, eqb, Bool, true, false, cond, ◌&&◌, not, List, []}
+use Rattle.std.proofs.Common.{◌∷◌, ◌++◌, length, take, drop, Option, Some, None, refl, sym, ap, subst, ◌∙◌, arith}
 use Rattle.std.specs.Prelude.{codes, option_map, option_and_then}
 use Rattle.std.proofs.lemmas.Bool.Decides.{nat_tests}
 use Rattle.std.proofs.lemmas.List.{length-append, take-append-drop, drop-drop}
@@ -41,7 +42,9 @@ parted_found : (n : ℕ) (text : List ℕ) (p : List ℕ × List ℕ) → parted
 parted_found zero text p e = let none : Option (List ℕ × List ℕ) = None in let no : none ≡ Some p = e in cc
 parted_found (suc n) text p e = at (begins_answer (drop n text)) refl e (parted_found n text p)
   where
-    at : (b : Bool) → begins_answer (drop n text) ≡ b → cond b (Some (take n text, drop (n + 3) text)) (parted_below n text) ≡ Some p → (parted_below n text ≡ Some p → text ≡ p.0 ++ (codes " : " ++ p.1)) → text ≡ p.0 ++ (codes " : " ++ p.1)
+    at : (b : Bool) → begins_answer (drop n text) ≡ b →
+        cond b (Some (take n text, drop (n + 3) text)) (parted_below n text) ≡ Some p →
+        (parted_below n text ≡ Some p → text ≡ p.0 ++ (codes " : " ++ p.1)) → text ≡ p.0 ++ (codes " : " ++ p.1)
     at true k e again =
         let same : Some (take n text, drop (n + 3) text) ≡ Some p = e in
         let is : (take n text, drop (n + 3) text) ≡ p = cc in

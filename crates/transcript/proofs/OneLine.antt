@@ -1,5 +1,6 @@
 -- No text of a line has a newline, and no answer a colon.
-use Rattle.std.proofs.Common.{◌≡◌, ℕ, ◌+◌, ◌<◌, ◌≤◌, leb, ◌==◌, Bool, true, false, cond, ◌&&◌, ◌||◌, List, [], ◌∷◌, ◌++◌, length, map, Option, Some, None, refl, ap, ◌∙◌, inl, inr, arith}
+use Rattle.std.proofs.Common.{◌≡◌, ℕ, ◌+◌, ◌<◌, ◌≤◌, leb, ◌==◌, Bool, true, false, cond, ◌&&◌, ◌||◌, List, [], ◌∷◌}
+use Rattle.std.proofs.Common.{◌++◌, length, map, Option, Some, None, refl, ap, ◌∙◌, inl, inr, arith}
 use Rattle.std.specs.Prelude.{codes}
 use Rattle.std.specs.Fmt.{decimal}
 use Rattle.std.specs.List.{All, list_all, join_with_byte}
@@ -45,7 +46,8 @@ abbrev is_letter : ℕ → Bool
 is_letter c = is_ascii_lowercase c || c == 45
 
 -- ---- a byte that no answer has
-module _ (b : ℕ) (off : is_ascii_digit b ≡ false) (letters : is_letter b ≡ false) (space : lacks b (codes " ") ≡ true) (dash : lacks b (codes "-") ≡ true) (comma : lacks b (codes ",") ≡ true) where
+module _ (b : ℕ) (off : is_ascii_digit b ≡ false) (letters : is_letter b ≡ false) (space : lacks b (codes " ") ≡ true)
+    (dash : lacks b (codes "-") ≡ true) (comma : lacks b (codes ",") ≡ true) where
   number : (n : ℕ) → n < 1024 → lacks b (decimal n) ≡ true
   number n lt = number_lacks b n off (omega (arith, lt))
 
@@ -60,7 +62,8 @@ module _ (b : ℕ) (off : is_ascii_digit b ≡ false) (letters : is_letter b ≡
   runs_lacks [] f l h k below = run_lacks f l h k
   runs_lacks (n ∷ ns) f l h k below = at (n == l + 1) (runs_lacks ns f n h below.0 below.1) (runs_lacks ns n n below.0 below.0 below.1)
     where
-      at : (t : Bool) → lacks b (runs_text f n ns) ≡ true → lacks b (runs_text n n ns) ≡ true → lacks b (cond t (runs_text f n ns) (run_text f l ++ 44 ∷ runs_text n n ns)) ≡ true
+      at : (t : Bool) → lacks b (runs_text f n ns) ≡ true → lacks b (runs_text n n ns) ≡ true →
+          lacks b (cond t (runs_text f n ns) (run_text f l ++ 44 ∷ runs_text n n ns)) ≡ true
       at true one two = one
       at false one two = lacks-append b (run_text f l) (codes "," ++ runs_text n n ns) (run_lacks f l h k) (lacks-append b (codes ",") (runs_text n n ns) comma two)
 

@@ -1,5 +1,7 @@
 -- What is read of a text of blocks has this text, and whatever has this text is read.
-use Rattle.std.proofs.Common.{◌≡◌, ℕ, ◌+◌, ◌<◌, ◌^◌, ◌==◌, eqb, Bool, true, false, cond, List, [], ◌∷◌, ◌++◌, length, map, Option, Some, None, Result, Ok, Err, refl, sym, ap, subst, ◌∙◌, inl, inr, arith, append_assoc, append-nil, length-append}
+use Rattle.std.proofs.Common.{◌≡◌, ℕ, ◌+◌, ◌<◌, ◌^◌, ◌==◌, eqb, Bool, true, false, cond, List, [], ◌∷◌, ◌++◌, length}
+use Rattle.std.proofs.Common.{map, Option, Some, None, Result, Ok, Err, refl, sym, ap, subst, ◌∙◌, inl, inr, arith}
+use Rattle.std.proofs.Common.{append_assoc, append-nil, length-append}
 use Rattle.std.specs.Prelude.{⊤, codes}
 use Rattle.std.specs.List.{AllByRecursion}
 use Rattle.std.proofs.lemmas.Bool.Decides.{nat_tests}
@@ -21,7 +23,8 @@ use Rattle.plain_text.proofs.CutTexts.{lacks}
 use Rattle.transcript.specs.EntryReading.{IsEntry}
 use Rattle.transcript.specs.BlockLine.{Line, Heard, Unread, Nothing, Refused, Made, Ended, line_text, IsLine}
 use Rattle.transcript.specs.LineReading.{line_of}
-use Rattle.transcript.specs.Reading.{last_count, with_ready, Opened, Reading, begun, if_first, fault_of, if_fitting, if_formed, ran, with_line, taken, ended, finished, blocks_of}
+use Rattle.transcript.specs.Reading.{last_count, with_ready, Opened, Reading, begun, if_first, fault_of, if_fitting}
+use Rattle.transcript.specs.Reading.{if_formed, ran, with_line, taken, ended, finished, blocks_of}
 use Rattle.transcript.specs.Block.{body_text, block_text, transcript_text, IsBody, IsBlock, AreBlocks, body_read, block_read, IsTextOf}
 use Rattle.transcript.proofs.OneLine.{line_lacks}
 use Rattle.transcript.proofs.BlockLines.{block_line_reads}
@@ -64,8 +67,11 @@ abbrev IsStep : Reading → Line → Type 0
 IsStep r v = IsSoFar (with_line v r) × (text_so_far (with_line v r) ≡ text_so_far r ++ (line_text v ++ 10 ∷ []))
 
 -- a block that ends by this line
-step_end : (done : List Block) (o : Opened) (made : Body) (line : List ℕ) → AreBlocks done → IsWord o.word → IsBody made → entries_text 1 o.made ++ (line ++ 10 ∷ []) ≡ body_text made →
-    AreBlocks (done ++ block.Heard o.word made ∷ []) × (transcript_text (done ++ block.Heard o.word made ∷ []) ++ [] ≡ (transcript_text done ++ current_text (Some o)) ++ (line ++ 10 ∷ []))
+step_end : (done : List Block) (o : Opened) (made : Body) (line : List ℕ) → AreBlocks done → IsWord o.word →
+    IsBody made → entries_text 1 o.made ++ (line ++ 10 ∷ []) ≡ body_text made →
+    AreBlocks (done ++ block.Heard o.word made ∷ []) ×
+    (transcript_text (done ++ block.Heard o.word made ∷ []) ++ []
+    ≡ (transcript_text done ++ current_text (Some o)) ++ (line ++ 10 ∷ []))
 step_end done o made line are is_word is_body is =
     let head : List ℕ = codes "word " ++ word_text o.word ++ codes "\n" in (
       all_more IsBlock done (block.Heard o.word made) are (is_word, is_body),
@@ -82,7 +88,8 @@ no_fault {A = A} r e = let none : Option TextRefusal = None in let no : Some r �
 step : (number : ℕ) (v : Line) (r : Reading) → IsLine v → fault_of number v r.current ≡ None → IsSoFar r → IsStep r v
 step number v r is fits so = at r.current v is fits so.0 so.1
   where
-    at : (c : Option Opened) (v : Line) → IsLine v → fault_of number v c ≡ None → AreBlocks r.done → IsCurrent c → IsStep (record { done = r.done; current = c }) v
+    at : (c : Option Opened) (v : Line) → IsLine v → fault_of number v c ≡ None → AreBlocks r.done → IsCurrent c →
+        IsStep (record { done = r.done; current = c }) v
     at None (Heard word) is fits are cur = (
       (are, (is, tt, omega arith)),
       ap (λ t. transcript_text r.done ++ t) (append-nil (codes "word " ++ word_text word ++ codes "\n"))
@@ -115,7 +122,8 @@ step number v r is fits so = at r.current v is fits so.0 so.1
         head : List ℕ
         head = codes "word " ++ word_text o.word ++ codes "\n"
 
-        counted : (b : Bool) → (n == length o.made + 1) ≡ b → cond b None (Some (text.Order number)) ≡ None → IsStep (record { done = r.done; current = Some o }) (Made n e)
+        counted : (b : Bool) → (n == length o.made + 1) ≡ b → cond b None (Some (text.Order number)) ≡ None →
+            IsStep (record { done = r.done; current = Some o }) (Made n e)
         counted false k h = no_fault (text.Order number) h
         counted true k h =
             let test : eqb n (length o.made + 1) ≡ true = k in
@@ -137,10 +145,13 @@ step number v r is fits so = at r.current v is fits so.0 so.1
 no_error : {A : Type 0} (r : TextRefusal) (blocks : List Block) → Err r ≡ Ok blocks → A
 no_error {A = A} r blocks e = let err : Result (List Block) TextRefusal = Err r in let no : err ≡ Ok blocks = e in absurd cc
 
-read_all : (lines : List (List ℕ)) (number : ℕ) (r : Reading) (blocks : List Block) → reading_of taken finished number r lines ≡ Ok blocks → IsSoFar r → AreBlocks blocks × (text_so_far r ++ ended_lines lines ≡ transcript_text blocks)
+read_all : (lines : List (List ℕ)) (number : ℕ) (r : Reading) (blocks : List Block) →
+    reading_of taken finished number r lines ≡ Ok blocks → IsSoFar r → AreBlocks blocks ×
+    (text_so_far r ++ ended_lines lines ≡ transcript_text blocks)
 read_all [] number r blocks e so = at r.current e
   where
-    at : (c : Option Opened) → ended number r.done c ≡ Ok blocks → AreBlocks blocks × ((transcript_text r.done ++ current_text c) ++ [] ≡ transcript_text blocks)
+    at : (c : Option Opened) → ended number r.done c ≡ Ok blocks → AreBlocks blocks ×
+        ((transcript_text r.done ++ current_text c) ++ [] ≡ transcript_text blocks)
     at None e =
         let same : Ok r.done ≡ Ok blocks = e in
         let is : r.done ≡ blocks = cc in
@@ -153,12 +164,14 @@ read_all (line ∷ lines) number r blocks e so = formed (line_of line) refl e (r
     then one = unless_refused (unless_refused one (λ v. Ok (with_line v r))) (λ next. reading_of taken finished (number + 1) next lines)
 
     formed : (l : Option Line) → line_of line ≡ l → then (if_formed number r.current l) ≡ Ok blocks →
-        ((r : Reading) (blocks : List Block) → reading_of taken finished (number + 1) r lines ≡ Ok blocks → IsSoFar r → AreBlocks blocks × (text_so_far r ++ ended_lines lines ≡ transcript_text blocks)) →
+        ((r : Reading) (blocks : List Block) → reading_of taken finished (number + 1) r lines ≡ Ok blocks → IsSoFar r →
+        AreBlocks blocks × (text_so_far r ++ ended_lines lines ≡ transcript_text blocks)) →
         AreBlocks blocks × (text_so_far r ++ ended_lines (line ∷ lines) ≡ transcript_text blocks)
     formed None k e again = no_error (text.Line number) blocks e
     formed (Some v) k e again = fitting (fault_of number v r.current) refl e
       where
-        fitting : (f : Option TextRefusal) → fault_of number v r.current ≡ f → then (if_fitting v f) ≡ Ok blocks → AreBlocks blocks × (text_so_far r ++ ended_lines (line ∷ lines) ≡ transcript_text blocks)
+        fitting : (f : Option TextRefusal) → fault_of number v r.current ≡ f → then (if_fitting v f) ≡ Ok blocks →
+            AreBlocks blocks × (text_so_far r ++ ended_lines (line ∷ lines) ≡ transcript_text blocks)
         fitting (Some refusal) j e = no_error refusal blocks e
         fitting None j e =
             let got = block_line_reads.found line v k in
@@ -181,7 +194,9 @@ abbrev Goes : Reading → List ℕ → List Block → Type 0
 Goes = Gives taken finished
 
 -- a line that may stand there, and what the rest gives
-goes_line : (r : Reading) (v : Line) (rest : List ℕ) (blocks : List Block) → IsLine v → ((number : ℕ) → fault_of number v r.current ≡ None) → Goes (with_line v r) rest blocks → Goes r (line_text v ++ 10 ∷ rest) blocks
+goes_line : (r : Reading) (v : Line) (rest : List ℕ) (blocks : List Block) → IsLine v →
+    ((number : ℕ) → fault_of number v r.current ≡ None) → Goes (with_line v r) rest blocks →
+    Goes r (line_text v ++ 10 ∷ rest) blocks
 goes_line r v rest blocks is fits more = gives_line taken finished r (with_line v r) (line_text v) rest blocks (line_lacks v is) (λ number. takes number) more
   where
     takes : (number : ℕ) → taken number r (line_text v) ≡ Ok (with_line v r)
@@ -196,7 +211,8 @@ within done word made = record { done = done; current = Some (record { word = wo
 split_line : (line rest : List ℕ) → (line ++ 10 ∷ []) ++ rest ≡ line ++ 10 ∷ rest
 split_line line rest = append_assoc line (10 ∷ []) rest
 
-goes_entries : (es made : List Entry) (done : List Block) (word : Word) (rest : List ℕ) (blocks : List Block) (n : ℕ) → n ≡ length made + 1 → AreEntries es → length made + length es < 2 ^ 32 →
+goes_entries : (es made : List Entry) (done : List Block) (word : Word) (rest : List ℕ) (blocks : List Block) (n : ℕ) →
+    n ≡ length made + 1 → AreEntries es → length made + length es < 2 ^ 32 →
     Goes (within done word (made ++ es)) rest blocks → Goes (within done word made) (entries_text n es ++ rest) blocks
 goes_entries [] made done word rest blocks n is are small more = subst (λ es. Goes (within done word es) rest blocks) (append-nil made) more
 goes_entries (e ∷ es) made done word rest blocks n is are small more =
@@ -211,7 +227,9 @@ goes_entries (e ∷ es) made done word rest blocks n is are small more =
     subst (λ t. Goes (within done word made) t blocks) (sym whole)
     (goes_line (within done word made) (Made n e) (entries_text (n + 1) es ++ rest) blocks (number, are.0) (λ number. ap (λ b. cond b None (Some (text.Order number))) right) later)
 
-goes_body : (b : Body) (done : List Block) (word : Word) (rest : List ℕ) (blocks : List Block) → IsBody b → Goes (record { done = done ++ block.Heard word (body_read b) ∷ []; current = None }) rest blocks → Goes (within done word []) (body_text b ++ rest) blocks
+goes_body : (b : Body) (done : List Block) (word : Word) (rest : List ℕ) (blocks : List Block) → IsBody b →
+    Goes (record { done = done ++ block.Heard word (body_read b) ∷ []; current = None }) rest blocks →
+    Goes (within done word []) (body_text b ++ rest) blocks
 goes_body body.Nothing done word rest blocks is more = goes_line (within done word []) Nothing rest blocks tt (λ number. refl) more
 goes_body (body.Refused code) done word rest blocks is more =
     subst (λ t. Goes (within done word []) t blocks) (sym (split_line (codes "refused " ++ code) rest))
@@ -288,7 +306,8 @@ transcript_ends : (b : Block) (bs : List Block) → AreBlocks (b ∷ bs) → End
 transcript_ends b [] are = subst EndsWithLine (sym (append-nil (block_text b))) (block_ends b are.0)
 transcript_ends b (c ∷ bs) are = ends_before (block_text b) (transcript_text (c ∷ bs)) (transcript_ends c bs are.1)
 
-same_lines : (written : List ℕ) (blocks : List Block) → AreBlocks blocks → written ++ 10 ∷ [] ≡ transcript_text blocks → lines_of written ≡ lines_of (transcript_text blocks)
+same_lines : (written : List ℕ) (blocks : List Block) → AreBlocks blocks → written ++ 10 ∷ [] ≡ transcript_text blocks →
+    lines_of written ≡ lines_of (transcript_text blocks)
 same_lines written [] are e =
     let long : length (written ++ 10 ∷ []) ≡ length written + 1 = length-append written (10 ∷ []) in
     let none : length (written ++ 10 ∷ []) ≡ 0 = ap length e in

@@ -4,7 +4,8 @@ use Rattle.std.proofs.lemmas.List.{append_assoc}
 use Rattle.definitions.specs.Plans.{Turn, New, Old}
 use Rattle.turn_orders.specs.Orders.{orders, begun_with}
 
-begun-more : (begun : List Turn) (turn : Turn) (lists : List (List Turn)) → begun_with (begun ++ turn ∷ []) lists ≡ begun_with begun (map (λ turns. turn ∷ turns) lists)
+begun-more : (begun : List Turn) (turn : Turn) (lists : List (List Turn)) →
+    begun_with (begun ++ turn ∷ []) lists ≡ begun_with begun (map (λ turns. turn ∷ turns) lists)
 begun-more begun turn [] = refl
 begun-more begun turn (x ∷ xs) = λ i. append_assoc begun (turn ∷ []) x i ∷ begun-more begun turn xs i
 
@@ -21,7 +22,9 @@ length_each f [] = refl
 length_each f (x ∷ xs) = let h = length_each f xs in omega (arith, h)
 
 -- the orders of both, of the old master alone and of the new one alone
-split : (olds news : ℕ) → 0 < olds → 0 < news → orders olds news ≡ map (λ turns. New ∷ turns) (orders olds (news - 1)) ++ map (λ turns. Old ∷ turns) (orders (olds - 1) news)
+split : (olds news : ℕ) → 0 < olds → 0 < news →
+    orders olds news ≡ map (λ turns. New ∷ turns) (orders olds (news - 1)) ++ map (λ turns. Old ∷ turns)
+    (orders (olds - 1) news)
 split zero news p q = absurd (omega (arith, p))
 split (suc olds) zero p q = absurd (omega (arith, q))
 split (suc olds) (suc news) p q =
@@ -61,7 +64,8 @@ new_alone begun news p = (
 )
 
 pub both_go_on : (list : List (List Turn)) (begun : List Turn) (olds news : ℕ) → 0 < olds → 0 < news →
-    (((list ++ begun_with (begun ++ New ∷ []) (orders olds (news - 1))) ++ begun_with (begun ++ Old ∷ []) (orders (olds - 1) news)) ≡ list ++ begun_with begun (orders olds news))
+    (((list ++ begun_with (begun ++ New ∷ []) (orders olds (news - 1))) ++ begun_with (begun ++ Old ∷ [])
+    (orders (olds - 1) news)) ≡ list ++ begun_with begun (orders olds news))
     × (length (list ++ begun_with (begun ++ New ∷ []) (orders olds (news - 1))) + length (orders (olds - 1) news) ≡ length list + length (orders olds news))
     × (length (orders olds (news - 1)) + length (orders (olds - 1) news) ≡ length (orders olds news))
 both_go_on list begun olds news p q =

@@ -4,7 +4,7 @@ use Rattle.std.specs.Prelude.{nat_lt}
 use Rattle.std.proofs.lemmas.Bool.{lt-ltb}
 use Rattle.definitions.specs.Plans.{Turn, graft, pid_calls, relieve, upgrade_tree, only_in}
 use Rattle.call_laws.specs.Lengths.{upgrade_length}
-use Rattle.definitions.specs.Tree.{Tree, Ends, JoinReady, JoinBack}
+use Rattle.definitions.specs.Run.{Tree, Ends, JoinReady, JoinBack}
 use Rattle.plan_steps.specs.Fit.{is_fit}
 use Rattle.definitions.specs.Calls.{Census, WritePid}
 use Rattle.definitions.specs.Table.{Address}
@@ -66,8 +66,11 @@ drawn_fit d u drawn is =
     }
 
 -- the tree at its places, woven, is the one of the definition
-pub drawn_tree : (d : Draft) (u : Upgrade) (drawn : Drawn) (held wanted : List Address) → IsDrawn d u drawn → u.dropped.now ≡ only_in held wanted → u.added.now ≡ only_in wanted held → (turns : List Turn)
-    → woven_at (steps_in d) drawn.first.0 drawn.parts turns ≡ upgrade_tree u.attended (master_of u) u.old.crew u.new.crew u.old.numbers u.rounds u.path u.note held wanted u.workers turns
+pub drawn_tree : (d : Draft) (u : Upgrade) (drawn : Drawn) (held wanted : List Address) → IsDrawn d u drawn →
+    u.dropped.now ≡ only_in held wanted → u.added.now ≡ only_in wanted held → (turns : List Turn)
+    → woven_at (steps_in d) drawn.first.0 drawn.parts turns
+    ≡ upgrade_tree u.attended
+    (master_of u) u.old.crew u.new.crew u.old.numbers u.rounds u.path u.note held wanted u.workers turns
 drawn_tree d u drawn held wanted is dropped added turns =
     let p = drawn.parts in
     let first = stands d drawn.first (beginning u) is.first in
@@ -78,8 +81,11 @@ drawn_tree d u drawn held wanted is dropped added turns =
     (λ i. graft (part_end (ready i) (back i) (new i) (old i) turns) (first i)) ∙ woven_is u held wanted dropped added turns
 
 -- and it is as long
-pub drawn_length : (d : Draft) (u : Upgrade) (drawn : Drawn) (held wanted : List Address) → IsDrawn d u drawn → u.dropped.now ≡ only_in held wanted → u.added.now ≡ only_in wanted held
-    → longest_at (steps_in d) drawn.first.0 drawn.parts ≡ upgrade_length u.attended (master_of u) u.old.crew u.new.crew u.old.numbers u.rounds u.path u.note held wanted u.workers
+pub drawn_length : (d : Draft) (u : Upgrade) (drawn : Drawn) (held wanted : List Address) → IsDrawn d u drawn →
+    u.dropped.now ≡ only_in held wanted → u.added.now ≡ only_in wanted held
+    → longest_at (steps_in d) drawn.first.0 drawn.parts
+    ≡ upgrade_length u.attended
+    (master_of u) u.old.crew u.new.crew u.old.numbers u.rounds u.path u.note held wanted u.workers
 drawn_length d u drawn held wanted is dropped added =
     let p = drawn.parts in
     let first = stands d drawn.first (beginning u) is.first in

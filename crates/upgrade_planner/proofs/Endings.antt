@@ -5,14 +5,16 @@ use Rattle.listener_set.specs.Numbers.{numbers_below}
 use Rattle.listener_set.specs.declared.generation.Generation.{Generation}
 use Rattle.definitions.specs.Table.{FilePath}
 use Rattle.definitions.specs.Calls.{Call, SpawnMaster}
-use Rattle.definitions.specs.Crew.{Crew}
+use Rattle.definitions.specs.Master.{Crew}
 use Rattle.vocabulary.specs.declared.plans.Side.{Side}
 use Rattle.vocabulary.specs.declared.plans.Side.TheVariants.{Old, Target}
 use Rattle.vocabulary.specs.declared.plans.PidNote.{PidNote}
 use Rattle.vocabulary.specs.declared.plans.PidNote.TheVariants.{InPlace, AtOldbin, OldbinLeft, Left, NoFile}
 use Rattle.vocabulary.specs.declared.plans.End.{End}
-use Rattle.definitions.specs.Tree.{Tree, Branches, Ends, Does, Nothing, Branch, Split}
-use Rattle.definitions.specs.Plans.{asks, awaits_any, awaits_gone, back_alone, back_from, back_late, back_serving, does, forks_any, hand_over, move_aside, move_back, old_part, relieve, remove_oldbin, retire, settle, starts_any, tries, tries_all}
+use Rattle.definitions.specs.Run.{Tree, Branches, Ends, Does, Nothing, Branch, Split}
+use Rattle.definitions.specs.Plans.{asks, awaits_any, awaits_gone, back_alone, back_from, back_late, back_serving, does}
+use Rattle.definitions.specs.Plans.{forks_any, hand_over, move_aside, move_back, old_part, relieve, remove_oldbin}
+use Rattle.definitions.specs.Plans.{retire, settle, starts_any, tries, tries_all}
 use Rattle.call_laws.specs.Pieces.{quits, spawn_edges}
 use Rattle.plan_steps.specs.Stretches.{ends_at, all_end_at, has_some, is_last, is_onward, ends_old}
 use Rattle.plan_steps.proofs.Endings.{last_onward}
@@ -53,10 +55,12 @@ asks_last true by question on_go on_back h e = rw (h, e) refl
 asks_last false by question on_go on_back h e = h
 
 -- calls that are tried end where the rest and the way back do
-pub tries_end : (test : End → Bool) (by : ℕ) (call : Call) (set : List ℕ) (rest back : Tree) → ends_at test rest ≡ true → ends_at test back ≡ true → ends_at test (tries by call set rest back) ≡ true
+pub tries_end : (test : End → Bool) (by : ℕ) (call : Call) (set : List ℕ) (rest back : Tree) →
+    ends_at test rest ≡ true → ends_at test back ≡ true → ends_at test (tries by call set rest back) ≡ true
 tries_end test by call set rest back h e = rw (h, e) refl
 
-pub tries_all_end : (test : End → Bool) (by : ℕ) (calls : List Call) (rest back : Tree) → ends_at test rest ≡ true → ends_at test back ≡ true → ends_at test (tries_all by calls rest back) ≡ true
+pub tries_all_end : (test : End → Bool) (by : ℕ) (calls : List Call) (rest back : Tree) → ends_at test rest ≡ true →
+    ends_at test back ≡ true → ends_at test (tries_all by calls rest back) ≡ true
 tries_all_end test by [] rest back h e = h
 tries_all_end test by (call ∷ calls) rest back h e = tries_end test by call [] (tries_all by calls rest back) back (tries_all_end test by calls rest back h e) e
 
@@ -93,7 +97,8 @@ hand_over_last by new rounds path n =
 retire_last : (by : ℕ) (old new : Crew) (ready : List ℕ) (rounds : ℕ) (path : Option FilePath) (n : ℕ) → IsLast (retire by old new ready rounds path n)
 retire_last by old new ready rounds path n = let h = hand_over_last by new rounds path n in let e = late_last by new.generation.image old ready rounds path in rw (h, e) refl
 
-pub relieve_last : (attended : Bool) (by : ℕ) (old new : Crew) (ready : List ℕ) (rounds : ℕ) (path : Option FilePath) (n : ℕ) → IsLast (relieve attended by old new ready rounds path n)
+pub relieve_last : (attended : Bool) (by : ℕ) (old new : Crew) (ready : List ℕ) (rounds : ℕ) (path : Option FilePath)
+    (n : ℕ) → IsLast (relieve attended by old new ready rounds path n)
 relieve_last attended by old new ready rounds path n =
     let g = old.generation in
     let heir = new.generation.image in
@@ -122,10 +127,12 @@ mutual
       let parts = and_parts (ends_at is_last rest) (all_end_at is_last more) h in
       and_from (ends_at is_onward rest) (all_end_at is_onward more) (onward rest parts.0) (all_onward more parts.1)
 
-spawn_onward : (by image : ℕ) (alone : Tree) → ends_at is_onward alone ≡ true → ends_at is_onward (does by (SpawnMaster image) (spawn_edges (Ends Split) alone)) ≡ true
+spawn_onward : (by image : ℕ) (alone : Tree) → ends_at is_onward alone ≡ true →
+    ends_at is_onward (does by (SpawnMaster image) (spawn_edges (Ends Split) alone)) ≡ true
 spawn_onward by image alone h = rw h refl
 
-move_aside_onward : (by : ℕ) (path : Option FilePath) (note : PidNote) (ok bad : Tree) → ends_at is_onward ok ≡ true → ends_at is_onward bad ≡ true → ends_at is_onward (move_aside by path note ok bad) ≡ true
+move_aside_onward : (by : ℕ) (path : Option FilePath) (note : PidNote) (ok bad : Tree) → ends_at is_onward ok ≡ true →
+    ends_at is_onward bad ≡ true → ends_at is_onward (move_aside by path note ok bad) ≡ true
 move_aside_onward by None note ok bad h e = h
 move_aside_onward by (Some path) AtOldbin ok bad h e = h
 move_aside_onward by (Some path) InPlace ok bad h e = rw (h, e) refl
@@ -134,7 +141,9 @@ move_aside_onward by (Some path) Left ok bad h e = rw (h, e) refl
 move_aside_onward by (Some path) NoFile ok bad h e = rw (h, e) refl
 
 pub beginning_onward : (by image : ℕ) (crew : Crew) (ready : List ℕ) (rounds : ℕ) (path : Option FilePath) (note : PidNote)
-    → ends_at is_onward (move_aside by path note (does by (SpawnMaster image) (spawn_edges (Ends Split) (back_alone by crew ready rounds path))) (settle by crew ready Old rounds)) ≡ true
+    → ends_at is_onward (move_aside by path note
+    (does by (SpawnMaster image) (spawn_edges (Ends Split) (back_alone by crew ready rounds path)))
+    (settle by crew ready Old rounds)) ≡ true
 beginning_onward by image crew ready rounds path note =
     move_aside_onward by path note _ (settle by crew ready Old rounds) (spawn_onward by image (back_alone by crew ready rounds path) (onward (back_alone by crew ready rounds path) (alone_last by crew ready rounds path))) (onward (settle by crew ready Old rounds) (settle_last by crew ready Old rounds))
 

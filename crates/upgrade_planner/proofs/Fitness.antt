@@ -3,13 +3,13 @@ use Rattle.std.proofs.Common.{ℕ, zero, suc, Bool, true, false, List, Option, S
 use Rattle.listener_set.specs.Numbers.{numbers_below}
 use Rattle.definitions.specs.Table.{FilePath}
 use Rattle.definitions.specs.Calls.{Census, SpawnMaster, WritePid}
-use Rattle.definitions.specs.Crew.{Crew}
+use Rattle.definitions.specs.Master.{Crew, oldbin}
 use Rattle.vocabulary.specs.declared.plans.Side.TheVariants.{Old, Target}
 use Rattle.vocabulary.specs.declared.plans.PidNote.{PidNote}
 use Rattle.vocabulary.specs.declared.plans.PidNote.TheVariants.{InPlace, AtOldbin, OldbinLeft, Left, NoFile}
-use Rattle.definitions.specs.Record.{oldbin}
-use Rattle.definitions.specs.Tree.{Tree, Ends, Split, JoinReady, JoinBack}
-use Rattle.definitions.specs.Plans.{asks, back_serving, retire, does, settle, move_back, move_aside, remove_oldbin, back_alone, back_from, back_late, hand_over, old_part, pid_calls, relieve}
+use Rattle.definitions.specs.Run.{Tree, Ends, Split, JoinReady, JoinBack}
+use Rattle.definitions.specs.Plans.{asks, back_serving, retire, does, settle, move_back, move_aside, remove_oldbin}
+use Rattle.definitions.specs.Plans.{back_alone, back_from, back_late, hand_over, old_part, pid_calls, relieve}
 use Rattle.call_laws.specs.Pieces.{spawn_edges}
 use Rattle.plan_pieces.proofs.Fitness.{settle_fit, quits_fit, awaits_gone_fit, remove_fit, starts_any_fit}
 use Rattle.plan_pieces.proofs.TriedFitness.{IsFit, move_fit, tries_fit, tries_all_fit}
@@ -52,7 +52,8 @@ asks_fit : (attended : Bool) (by question : ℕ) (on_go on_back : Tree) → IsFi
 asks_fit true by question on_go on_back h e short = rw (h short, e short) refl
 asks_fit false by question on_go on_back h e short = h short
 
-relieve_fit : (attended : Bool) (by : ℕ) (old new : Crew) (ready : List ℕ) (rounds : ℕ) (path : Option FilePath) (n : ℕ) → IsFit (relieve attended by old new ready rounds path n)
+relieve_fit : (attended : Bool) (by : ℕ) (old new : Crew) (ready : List ℕ) (rounds : ℕ) (path : Option FilePath)
+    (n : ℕ) → IsFit (relieve attended by old new ready rounds path n)
 relieve_fit attended by old new ready rounds path n =
     let g = old.generation in
     let heir = new.generation.image in
@@ -74,7 +75,9 @@ move_aside_fit by (Some path) Left ok bad h e = λ short. rw (h short, e short) 
 move_aside_fit by (Some path) NoFile ok bad h e = λ short. rw (h short, e short) refl
 
 pub beginning_fit : (by image : ℕ) (crew : Crew) (ready : List ℕ) (rounds : ℕ) (path : Option FilePath) (note : PidNote)
-    → IsFit (move_aside by path note (does by (SpawnMaster image) (spawn_edges (Ends Split) (back_alone by crew ready rounds path))) (settle by crew ready Old rounds))
+    → IsFit (move_aside by path note
+    (does by (SpawnMaster image) (spawn_edges (Ends Split) (back_alone by crew ready rounds path)))
+    (settle by crew ready Old rounds))
 beginning_fit by image crew ready rounds path note =
     move_aside_fit by path note _ (settle by crew ready Old rounds)
     (spawn_fit by image (Ends Split) (back_alone by crew ready rounds path) (λ short. refl) (alone_fit by crew ready rounds path))

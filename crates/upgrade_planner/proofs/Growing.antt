@@ -36,7 +36,8 @@ all_grown old new x n most whole low =
     }
 
 -- the last piece is added, or refused
-pub last_grown : {T : Type 0} (old mid new : Draft) (result : Result T DraftRefusal) (m n most : ℕ) → Grown old mid m → GrowsWithin mid new result n → m + n ≤ most → GrowsWithin old new result most
+pub last_grown : {T : Type 0} (old mid new : Draft) (result : Result T DraftRefusal) (m n most : ℕ) → Grown old mid m →
+    GrowsWithin mid new result n → m + n ≤ most → GrowsWithin old new result most
 last_grown {T} old mid new result m n most before grows low =
     record {
       count = counted result grows.count;
@@ -44,12 +45,15 @@ last_grown {T} old mid new result m n most before grows low =
       too_large = λ full. omega (arith, grows.too_large full, before.count, low);
     }
   where
-    counted : (r : Result T DraftRefusal) → OnOk r (length (trees_of new) ≤ length (trees_of mid) + n) → OnOk r (length (trees_of new) ≤ length (trees_of old) + most)
+    counted : (r : Result T DraftRefusal) → OnOk r (length (trees_of new) ≤ length (trees_of mid) + n) →
+        OnOk r (length (trees_of new) ≤ length (trees_of old) + most)
     counted (Ok x) h = omega (arith, h, before.count, low)
     counted (Err e) h = tt
 
 -- a piece is refused, and so the whole
-pub refused_grown : {S T : Type 0} (old mid new : Draft) (e : DraftRefusal) (result : Result T DraftRefusal) (m n most : ℕ) → Grown old mid m → GrowsWithin {T = S} mid new (Err e) n → IsErrAnd result (λ d. d ≡ e) → m + n ≤ most
+pub refused_grown : {S T : Type 0} (old mid new : Draft) (e : DraftRefusal) (result : Result T DraftRefusal)
+    (m n most : ℕ) → Grown old mid m → GrowsWithin {T = S} mid new (Err e) n → IsErrAnd result (λ d. d ≡ e) →
+    m + n ≤ most
     → GrowsWithin old new result most
 refused_grown {S} {T} old mid new e (Ok x) m n most before grows none low = absurd none
 refused_grown {S} {T} old mid new e (Err d) m n most before grows same low =
@@ -71,6 +75,7 @@ within {T} old new result n grows =
       too_large = grows.too_large;
     }
   where
-    counted : (r : Result T DraftRefusal) → OnOk r (length (trees_of new) ≡ length (trees_of old) + n) → OnOk r (length (trees_of new) ≤ length (trees_of old) + n)
+    counted : (r : Result T DraftRefusal) → OnOk r (length (trees_of new) ≡ length (trees_of old) + n) →
+        OnOk r (length (trees_of new) ≤ length (trees_of old) + n)
     counted (Ok x) h = omega (arith, h)
     counted (Err e) h = tt

@@ -3,12 +3,12 @@ use Rattle.std.proofs.Common.{◌≡◌, ℕ, ◌-◌, ◌<◌, ◌≤◌, max, 
 use Rattle.std.proofs.lemmas.Bool.{and_parts}
 use Rattle.definitions.specs.Table.{FilePath}
 use Rattle.definitions.specs.Calls.{SpawnMaster}
-use Rattle.definitions.specs.Crew.{Crew}
+use Rattle.definitions.specs.Master.{Crew}
 use Rattle.vocabulary.specs.declared.plans.Side.TheVariants.{Old}
 use Rattle.vocabulary.specs.declared.plans.PidNote.{PidNote}
 use Rattle.vocabulary.specs.declared.plans.PidNote.TheVariants.{InPlace, AtOldbin, OldbinLeft, Left, NoFile}
 use Rattle.vocabulary.specs.declared.plans.End.{End}
-use Rattle.definitions.specs.Tree.{Tree, Branches, Ends, Does, Nothing, Branch, Done, RolledBack, ShortOld, ShortTarget, Split, JoinReady, JoinBack, Join}
+use Rattle.definitions.specs.Run.{Tree, Branches, Ends, Does, Nothing, Branch, Done, RolledBack, ShortOld, ShortTarget, Split, JoinReady, JoinBack, Join}
 use Rattle.call_laws.specs.Lengths.{height}
 use Rattle.definitions.specs.Plans.{graft, graft_all, back_alone, back_from, does, move_aside, settle}
 use Rattle.call_laws.specs.Pieces.{spawn_edges}
@@ -64,7 +64,8 @@ spawning by image ok bad = does by (SpawnMaster image) (spawn_edges ok bad)
 
 -- up to the parts it has as many steps as where nothing else follows
 split_is : (by image : ℕ) (path : Option FilePath) (note : PidNote) (alone bad : Tree) → to_split alone ≡ 0 → to_split bad ≡ 0
-    → to_split (move_aside by path note (spawning by image (Ends Split) alone) bad) - 1 ≡ height (move_aside by path note (spawning by image (Ends Split) (Ends Done)) (Ends Done))
+    → to_split (move_aside by path note (spawning by image (Ends Split) alone) bad) - 1
+    ≡ height (move_aside by path note (spawning by image (Ends Split) (Ends Done)) (Ends Done))
 split_is by image None note alone bad a b = rw a refl
 split_is by image (Some path) AtOldbin alone bad a b = rw a refl
 split_is by image (Some path) InPlace alone bad a b = rw (a, b) refl
@@ -73,7 +74,8 @@ split_is by image (Some path) Left alone bad a b = rw (a, b) refl
 split_is by image (Some path) NoFile alone bad a b = rw (a, b) refl
 
 -- it leads to the parts
-leads_on : (by image : ℕ) (path : Option FilePath) (note : PidNote) (alone bad : Tree) → to_split alone ≡ 0 → to_split bad ≡ 0 → 0 < to_split (move_aside by path note (spawning by image (Ends Split) alone) bad)
+leads_on : (by image : ℕ) (path : Option FilePath) (note : PidNote) (alone bad : Tree) → to_split alone ≡ 0 →
+    to_split bad ≡ 0 → 0 < to_split (move_aside by path note (spawning by image (Ends Split) alone) bad)
 leads_on by image None note alone bad a b = rw a (omega arith)
 leads_on by image (Some path) AtOldbin alone bad a b = rw a (omega arith)
 leads_on by image (Some path) InPlace alone bad a b = rw (a, b) (omega arith)
@@ -82,7 +84,8 @@ leads_on by image (Some path) Left alone bad a b = rw (a, b) (omega arith)
 leads_on by image (Some path) NoFile alone bad a b = rw (a, b) (omega arith)
 
 -- what lies aside is no higher than the ways back
-aside_low : (by image : ℕ) (path : Option FilePath) (note : PidNote) (alone bad : Tree) → to_split alone ≡ 0 → to_split bad ≡ 0 → aside alone ≡ height alone → aside bad ≡ height bad
+aside_low : (by image : ℕ) (path : Option FilePath) (note : PidNote) (alone bad : Tree) → to_split alone ≡ 0 →
+    to_split bad ≡ 0 → aside alone ≡ height alone → aside bad ≡ height bad
     → aside (move_aside by path note (spawning by image (Ends Split) alone) bad) ≤ max (height alone) (height bad)
 aside_low by image None note alone bad a b h e = rw (a, h) (omega arith)
 aside_low by image (Some path) AtOldbin alone bad a b h e = rw (a, h) (omega arith)
@@ -91,7 +94,8 @@ aside_low by image (Some path) OldbinLeft alone bad a b h e = rw (a, b, h, e) (o
 aside_low by image (Some path) Left alone bad a b h e = rw (a, b, h, e) (omega arith)
 aside_low by image (Some path) NoFile alone bad a b h e = rw (a, b, h, e) (omega arith)
 
-undone_low : (by : ℕ) (crew : Crew) (ready : List ℕ) (rounds : ℕ) (path : Option FilePath) → height (settle by crew ready Old rounds) ≤ height (back_alone by crew ready rounds path)
+undone_low : (by : ℕ) (crew : Crew) (ready : List ℕ) (rounds : ℕ) (path : Option FilePath) →
+    height (settle by crew ready Old rounds) ≤ height (back_alone by crew ready rounds path)
 undone_low by crew ready rounds None = omega arith
 undone_low by crew ready rounds (Some path) = omega arith
 
@@ -101,7 +105,8 @@ undone_low by crew ready rounds (Some path) = omega arith
 abbrev pub begun : ℕ → ℕ → Crew → List ℕ → ℕ → Option FilePath → PidNote → Tree
 begun by image crew ready rounds path note = move_aside by path note (spawning by image (Ends Split) (back_alone by crew ready rounds path)) (settle by crew ready Old rounds)
 
-pub begun_leads : (by image : ℕ) (crew : Crew) (ready : List ℕ) (rounds : ℕ) (path : Option FilePath) (note : PidNote) → 0 < to_split (begun by image crew ready rounds path note)
+pub begun_leads : (by image : ℕ) (crew : Crew) (ready : List ℕ) (rounds : ℕ) (path : Option FilePath) (note : PidNote) →
+    0 < to_split (begun by image crew ready rounds path note)
 begun_leads by image crew ready rounds path note =
     let alone = back_alone by crew ready rounds path in
     let bad = settle by crew ready Old rounds in
@@ -124,8 +129,11 @@ begun_aside by image crew ready rounds path note =
     omega (arith, aside_low by image path note alone bad (unsplit alone a) (unsplit bad b) (aside_whole alone a) (aside_whole bad b), undone_low by crew ready rounds path)
 
 -- where the mark gives way, the parts stand
-pub begun_grafted : (then : End → Tree) → ((e : End) → is_last e ≡ true → then e ≡ Ends e) → (by image : ℕ) (crew : Crew) (ready : List ℕ) (rounds : ℕ) (path : Option FilePath) (note : PidNote)
-    → graft then (begun by image crew ready rounds path note) ≡ move_aside by path note (spawning by image (then Split) (back_alone by crew ready rounds path)) (settle by crew ready Old rounds)
+pub begun_grafted : (then : End → Tree) → ((e : End) → is_last e ≡ true → then e ≡ Ends e) →
+    (by image : ℕ) (crew : Crew) (ready : List ℕ) (rounds : ℕ) (path : Option FilePath) (note : PidNote)
+    → graft then (begun by image crew ready rounds path note)
+    ≡ move_aside by path note (spawning by image (then Split) (back_alone by crew ready rounds path))
+    (settle by crew ready Old rounds)
 begun_grafted then same by image crew ready rounds path note =
     grafted note path (stays then same (back_alone by crew ready rounds path) (alone_last by crew ready rounds path)) (stays then same bad (undone_last by crew ready rounds))
   where

@@ -3,8 +3,8 @@ use Rattle.std.proofs.Common.{◌≡◌, ◌≢◌, ◌+◌, ℕ, zero, suc, ◌
 use Rattle.std.proofs.lemmas.Bool.Decides.{nat_tests}
 use Rattle.vocabulary.specs.declared.plans.End.TheVariants.{JoinReady, JoinBack}
 use Rattle.definitions.specs.Calls.{Call}
-use Rattle.definitions.specs.Crew.{Crew}
-use Rattle.definitions.specs.Tree.{Tree, Ends}
+use Rattle.definitions.specs.Master.{Crew}
+use Rattle.definitions.specs.Run.{Tree, Ends}
 use Rattle.definitions.specs.Plans.{tries_all, old_part}
 use Rattle.rollback_plan.specs.Masters.{all_by, are_apart}
 use Rattle.rollback_plan.proofs.Apart.{apart_by}
@@ -15,7 +15,8 @@ use Rattle.upgrade_planner.specs.declared.drawing.Drawn.{Drawn}
 use Rattle.upgrade_planner.specs.Trees.{master_of, heir_of, coming_calls, coming_part, staying_part, IsDrawn}
 
 -- what a master tries is its own, as far as what follows is
-tries-by : (test : ℕ → Bool) (by : ℕ) (calls : List Call) (rest back : Tree) → test by ≡ true → all_by test rest ≡ true → all_by test back ≡ true → all_by test (tries_all by calls rest back) ≡ true
+tries-by : (test : ℕ → Bool) (by : ℕ) (calls : List Call) (rest back : Tree) → test by ≡ true →
+    all_by test rest ≡ true → all_by test back ≡ true → all_by test (tries_all by calls rest back) ≡ true
 tries-by test by [] rest back own h k = h
 tries-by test by (call ∷ calls) rest back own h k = let more = tries-by test by calls rest back own h k in rw (own, more, k) refl
 
@@ -34,5 +35,6 @@ parts-apart u next =
     itself image = grind (arith, nat_tests)
 
 -- No master has steps in both parts of an upgrade that stands in a draft.
-pub drawn_apart : (d : Draft) (u : Upgrade) (drawn : Drawn) → IsDrawn d u drawn → heir_of u ≡ master_of u + 1 → are_apart (tree_at d drawn.parts.new) (tree_at d drawn.parts.old) ≡ true
+pub drawn_apart : (d : Draft) (u : Upgrade) (drawn : Drawn) → IsDrawn d u drawn → heir_of u ≡ master_of u + 1 →
+    are_apart (tree_at d drawn.parts.new) (tree_at d drawn.parts.old) ≡ true
 drawn_apart d u drawn made next = rw (made.parts.new.is, made.parts.old.is) (parts-apart u next)

@@ -3,8 +3,8 @@ use Rattle.std.proofs.Common.{◌≡◌, ℕ, List, [], ◌∷◌, ◌++◌, ◌
 use Rattle.listener_set.specs.declared.generation.Generation.{Generation}
 use Rattle.definitions.specs.Table.{Address}
 use Rattle.definitions.specs.Calls.{Call, OpenAt, CloseAt, AwaitReady, Adopt}
-use Rattle.definitions.specs.Crew.{Crew, fork_of}
-use Rattle.definitions.specs.Tree.{Tree, Ends, JoinReady, JoinBack}
+use Rattle.definitions.specs.Master.{Crew, fork_of}
+use Rattle.definitions.specs.Run.{Tree, Ends, JoinReady, JoinBack}
 use Rattle.definitions.specs.Plans.{tries, tries_all}
 use Rattle.rollback_plan.specs.declared.draft.Draft.{Draft}
 use Rattle.plan_steps.specs.declared.step.Place.{Place}
@@ -31,7 +31,8 @@ staffed by crew g numbers waited new waiting next same waits forks =
     tried_on by (map (AwaitReady crew.generation) numbers) (map (fork_of crew) numbers) waited new waiting (Over JoinBack) next (Ends JoinReady) (Ends JoinBack) refl wait forks
 
 -- a handover is adopted, addresses are closed and opened, and then other calls follow
-pub came : (by : ℕ) (calls : List Call) (dropped added : List Address) (set : List ℕ) (manned opened closed new : Draft) (manning opening closing : Next) (place : Place)
+pub came : (by : ℕ) (calls : List Call) (dropped added : List Address) (set : List ℕ) (manned opened closed new : Draft)
+    (manning opening closing : Next) (place : Place)
     → set ≡ []
     → LeadsTo manned manning (part by calls)
     → LeadsTo opened opening (tries_all by (map OpenAt added) (tree_among 0 (trees_of manned) manning) (Ends JoinBack))
@@ -46,7 +47,8 @@ came by calls dropped added set manned opened closed new manning opening closing
 ---- Behind both parts
 
 -- a pid is written, where there is one to write, before a count
-pub written : (by : ℕ) (calls : List Call) (old counted new : Draft) (counting back place : Place) (rest : Tree) → back.0 < length (trees_of old) → Keeps old counted → IsMade counted counting rest
+pub written : (by : ℕ) (calls : List Call) (old counted new : Draft) (counting back place : Place) (rest : Tree) →
+    back.0 < length (trees_of old) → Keeps old counted → IsMade counted counting rest
     → IsMade new place (tries_all by calls (tree_at counted counting) (tree_at counted back)) → IsMade new place (tries_all by calls rest (tree_at old back))
 written by calls old counted new counting back place rest low keeps counts writes =
     subst (IsMade new place) (ap (λ t. tries_all by calls t (tree_at counted back)) counts.is ∙ ap (tries_all by calls rest) (at_kept old counted back keeps low)) writes

@@ -1,5 +1,6 @@
 -- An upgrade is the one of its definition.
-use Rattle.std.proofs.Common.{◌≡◌, ℕ, ◌+◌, ◌≤◌, max, ◌∷◌, ◌++◌, map, reverse, Option, append_assoc, Bool, true, false, List, Some, None, nat_lt, refl, sym, ◌∙◌, ap, arith}
+use Rattle.std.proofs.Common.{◌≡◌, ℕ, ◌+◌, ◌≤◌, max, ◌∷◌, ◌++◌, map, reverse, Option, append_assoc, Bool, true, false}
+use Rattle.std.proofs.Common.{List, Some, None, refl, sym, ◌∙◌, ap, arith}
 use Rattle.std.specs.Prelude.{◌&&◌}
 use Rattle.std.specs.Bool.{then_some}
 use Rattle.listener_set.specs.Numbers.{numbers_below}
@@ -8,13 +9,11 @@ use Rattle.definitions.specs.Table.{Address, FilePath}
 use Rattle.vocabulary.specs.Settings.{Settings}
 use Rattle.vocabulary.specs.declared.targets.Target.TheVariants as target
 use Rattle.vocabulary.specs.declared.plans.End.{End}
-use Rattle.definitions.specs.Crew.{Posts, Crew, fork_of}
-use Rattle.definitions.specs.Record.{Record, addresses_of, crew_of}
-use Rattle.definitions.specs.Target.{upgrade_generation, numbers_wanted, addresses_wanted, handover_for, next_image}
-use Rattle.definitions.specs.Target.{has_next}
-use Rattle.definitions.specs.After.{posts_wanted, crew_wanted}
+use Rattle.definitions.specs.Master.{Posts, Crew, fork_of, Record, addresses_of, crew_of, upgrade_generation}
+use Rattle.definitions.specs.Master.{numbers_wanted, addresses_wanted, handover_for, has_next}
+use Rattle.definitions.specs.After.{next_image, posts_wanted, crew_wanted}
 use Rattle.definitions.specs.Calls.{Call, OpenAt, CloseAt, AwaitReady, Adopt, Census, WritePid}
-use Rattle.definitions.specs.Tree.{Tree, Ends, Done, RolledBack, ShortOld, ShortTarget, Split, JoinReady, JoinBack, Join}
+use Rattle.definitions.specs.Run.{Tree, Ends, Done, RolledBack, ShortOld, ShortTarget, Split, JoinReady, JoinBack, Join}
 use Rattle.call_laws.specs.Lengths.{height}
 use Rattle.definitions.specs.Plans.{Turn, graft, asks, awaits_gone, back_from, back_serving, retire, move_aside}
 use Rattle.definitions.specs.Plans.{new_calls, new_part, pid_calls, plan_tree, relieve, taken_over, tries, tries_all}
@@ -33,11 +32,13 @@ calls_are : (a b c d : List Call) → a ++ b ++ c ++ d ≡ a ++ (b ++ (c ++ d))
 calls_are a b c d = append_assoc (a ++ b) c d ∙ append_assoc a b (c ++ d)
 
 -- what the new master does is what the definition says
-coming_is : (crew : Crew) (held wanted : List Address) (n : ℕ) → coming_calls crew (only_in held wanted) (only_in wanted held) (numbers_below n) ≡ new_calls crew held wanted n
+coming_is : (crew : Crew) (held wanted : List Address) (n : ℕ) →
+    coming_calls crew (only_in held wanted) (only_in wanted held) (numbers_below n) ≡ new_calls crew held wanted n
 coming_is crew held wanted n =
     ap (λ calls. Adopt ∷ calls) (sym (calls_are (map CloseAt (only_in held wanted)) (map OpenAt (only_in wanted held)) (map (fork_of crew) (numbers_below n)) (map (AwaitReady crew.generation) (numbers_below n))))
 
-new_part_is : (u : Upgrade) (held wanted : List Address) → u.dropped.now ≡ only_in held wanted → u.added.now ≡ only_in wanted held → coming_part u ≡ new_part u.new.crew held wanted u.workers
+new_part_is : (u : Upgrade) (held wanted : List Address) → u.dropped.now ≡ only_in held wanted →
+    u.added.now ≡ only_in wanted held → coming_part u ≡ new_part u.new.crew held wanted u.workers
 new_part_is u held wanted d a =
     let crew = u.new.crew in
     let part = λ (calls : List Call). tries_all crew.generation.image calls (Ends JoinReady) (Ends JoinBack) in
@@ -66,7 +67,9 @@ unmarked ready back new old turns Join h = refl
 
 -- where the parts stand at the mark, it is the tree of the definition
 pub woven_is : (u : Upgrade) (held wanted : List Address) → u.dropped.now ≡ only_in held wanted → u.added.now ≡ only_in wanted held → (turns : List Turn)
-    → graft (part_end (taking_over u) (way_back u) (coming_part u) (staying_part u) turns) (beginning u) ≡ upgrade_tree u.attended (master_of u) u.old.crew u.new.crew u.old.numbers u.rounds u.path u.note held wanted u.workers turns
+    → graft (part_end (taking_over u) (way_back u) (coming_part u) (staying_part u) turns) (beginning u)
+    ≡ upgrade_tree u.attended
+    (master_of u) u.old.crew u.new.crew u.old.numbers u.rounds u.path u.note held wanted u.workers turns
 woven_is u held wanted d a turns =
     let by = master_of u in
     let all = λ (ready new : Tree). graft (part_end ready (way_back u) new (staying_part u) turns) (beginning u) in
@@ -80,7 +83,9 @@ greatest a b c h = omega (arith, h)
 
 -- and it is as long
 pub length_is : (u : Upgrade) (held wanted : List Address) → u.dropped.now ≡ only_in held wanted → u.added.now ≡ only_in wanted held
-    → longest_of (beginning u) (coming_part u) (staying_part u) (taking_over u) (way_back u) ≡ upgrade_length u.attended (master_of u) u.old.crew u.new.crew u.old.numbers u.rounds u.path u.note held wanted u.workers
+    → longest_of (beginning u) (coming_part u) (staying_part u) (taking_over u) (way_back u)
+    ≡ upgrade_length u.attended
+    (master_of u) u.old.crew u.new.crew u.old.numbers u.rounds u.path u.note held wanted u.workers
 length_is u held wanted d a =
     let by = master_of u in
     let heir = heir_of u in
@@ -98,9 +103,11 @@ length_is u held wanted d a =
 ---- The upgrade of a record
 
 -- what is made of a crew, the next one and the addresses of a record
-of_record : {X : Type 0} (f : ℕ → Crew → Crew → List Address → X) (r : Record) (s : Settings) (crew : Crew) (g : Generation) (posts : Posts) (held : List Address)
+of_record : {X : Type 0} (f : ℕ → Crew → Crew → List Address → X) (r : Record) (s : Settings) (crew : Crew)
+    (g : Generation) (posts : Posts) (held : List Address)
     → crew ≡ crew_of r → g ≡ upgrade_generation r.generation → posts ≡ posts_wanted r (target.Upgrade s) → held ≡ addresses_of r
-    → f crew.generation.image crew (record { generation = g; posts = posts }) held ≡ f r.generation.image (crew_of r) (crew_wanted r (target.Upgrade s)) (addresses_of r)
+    → f crew.generation.image crew (record { generation = g; posts = posts }) held
+    ≡ f r.generation.image (crew_of r) (crew_wanted r (target.Upgrade s)) (addresses_of r)
 of_record f r s crew g posts held c e p h =
     let made = λ (old : Crew) (next : Generation) (stands : Posts) (addresses : List Address). f old.generation.image old (record { generation = next; posts = stands }) addresses in
     let next = upgrade_generation r.generation in
@@ -109,13 +116,21 @@ of_record f r s crew g posts held c e p h =
     ∙ (ap (λ x. made (crew_of r) next x held) p
     ∙ ap (made (crew_of r) next (posts_wanted r (target.Upgrade s))) h))
 
-pub upgrade_is : (attended : Bool) (r : Record) (s : Settings) (crew : Crew) (g : Generation) (posts : Posts) (held : List Address) → crew ≡ crew_of r → g ≡ upgrade_generation r.generation → posts ≡ posts_wanted r (asked_for attended s) → held ≡ addresses_of r
-    → (turns : List Turn) → upgrade_tree attended crew.generation.image crew (record { generation = g; posts = posts }) r.ready r.retries r.pid_path r.note held s.listeners s.workers turns ≡ plan_tree r (asked_for attended s) turns
+pub upgrade_is : (attended : Bool) (r : Record) (s : Settings) (crew : Crew) (g : Generation) (posts : Posts)
+    (held : List Address) → crew ≡ crew_of r → g ≡ upgrade_generation r.generation →
+    posts ≡ posts_wanted r (asked_for attended s) → held ≡ addresses_of r
+    → (turns : List Turn) → upgrade_tree attended crew.generation.image crew
+    (record { generation = g; posts = posts }) r.ready r.retries r.pid_path r.note held s.listeners s.workers turns
+    ≡ plan_tree r (asked_for attended s) turns
 upgrade_is true r s crew g posts held c e p h turns = of_record (λ by old new addresses. upgrade_tree true by old new r.ready r.retries r.pid_path r.note addresses s.listeners s.workers turns) r s crew g posts held c e p h
 upgrade_is false r s crew g posts held c e p h turns = of_record (λ by old new addresses. upgrade_tree false by old new r.ready r.retries r.pid_path r.note addresses s.listeners s.workers turns) r s crew g posts held c e p h
 
-pub as_long : (attended : Bool) (r : Record) (s : Settings) (crew : Crew) (g : Generation) (posts : Posts) (held : List Address) → crew ≡ crew_of r → g ≡ upgrade_generation r.generation → posts ≡ posts_wanted r (asked_for attended s) → held ≡ addresses_of r
-    → upgrade_length attended crew.generation.image crew (record { generation = g; posts = posts }) r.ready r.retries r.pid_path r.note held s.listeners s.workers ≡ plan_length r (asked_for attended s)
+pub as_long : (attended : Bool) (r : Record) (s : Settings) (crew : Crew) (g : Generation) (posts : Posts)
+    (held : List Address) → crew ≡ crew_of r → g ≡ upgrade_generation r.generation →
+    posts ≡ posts_wanted r (asked_for attended s) → held ≡ addresses_of r
+    → upgrade_length attended crew.generation.image crew
+    (record { generation = g; posts = posts }) r.ready r.retries r.pid_path r.note held s.listeners s.workers
+    ≡ plan_length r (asked_for attended s)
 as_long true r s crew g posts held c e p h = of_record (λ by old new addresses. upgrade_length true by old new r.ready r.retries r.pid_path r.note addresses s.listeners s.workers) r s crew g posts held c e p h
 as_long false r s crew g posts held c e p h = of_record (λ by old new addresses. upgrade_length false by old new r.ready r.retries r.pid_path r.note addresses s.listeners s.workers) r s crew g posts held c e p h
 
@@ -141,7 +156,12 @@ next_is g new h = one (has_next g.image && has_next g.config) h
     one false e = cc
 
 -- the relief of the old master, from the trees of its parts
-pub relief_is : (attended : Bool) (image by : ℕ) (old new : Crew) (g : Generation) (ready leaving : List ℕ) (rounds : ℕ) (path : Option FilePath) (n : ℕ) (quitting waiting last stopped : Tree) → by ≡ image → g ≡ old.generation → leaving ≡ ready
-    → quitting ≡ quits by g (reverse leaving) waiting → waiting ≡ awaits_gone by g (reverse leaving) last → last ≡ asks attended image 2 (retire image old new ready rounds path n) (back_serving image new.generation.image old ready rounds path)
-    → stopped ≡ back_from image new.generation.image old ready rounds path → asks attended image 1 quitting stopped ≡ relieve attended image old new ready rounds path n
+pub relief_is : (attended : Bool) (image by : ℕ) (old new : Crew) (g : Generation) (ready leaving : List ℕ) (rounds : ℕ)
+    (path : Option FilePath) (n : ℕ) (quitting waiting last stopped : Tree) → by ≡ image → g ≡ old.generation →
+    leaving ≡ ready
+    → quitting ≡ quits by g (reverse leaving) waiting → waiting ≡ awaits_gone by g (reverse leaving) last →
+    last ≡ asks attended image 2 (retire image old new ready rounds path n)
+    (back_serving image new.generation.image old ready rounds path)
+    → stopped ≡ back_from image new.generation.image old ready rounds path →
+    asks attended image 1 quitting stopped ≡ relieve attended image old new ready rounds path n
 relief_is attended image by old new g ready leaving rounds path n quitting waiting last stopped b h v q w l s = rw (q, w, l, s, b, h, v) refl

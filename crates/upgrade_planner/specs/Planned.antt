@@ -1,6 +1,6 @@
 -- Which targets have a plan.
 use Rattle.std.specs.Prelude.{◌≡◌, true, false}
-use Rattle.definitions.specs.Record.{Record}
+use Rattle.definitions.specs.Master.{Record}
 use Rattle.service_state.specs.Targets.{lacks_generation}
 use Rattle.vocabulary.specs.declared.targets.Target.{Target}
 use Rattle.reload_planner.specs.declared.refusal.PlanRefusal.{PlanRefusal}

@@ -3,8 +3,8 @@ use Rattle.std.specs.Prelude.{◌≡◌, ℕ, Bool, true, false, List, ◌∷◌
 use Rattle.vocabulary.specs.declared.plans.Side.TheVariants.{Old}
 use Rattle.definitions.specs.Table.{Address, FilePath}
 use Rattle.definitions.specs.Calls.{Call, OpenAt, CloseAt, AwaitReady, Census, SpawnMaster, Adopt, WritePid}
-use Rattle.definitions.specs.Crew.{Crew, fork_of}
-use Rattle.definitions.specs.Tree.{Tree, Ends, Split, JoinReady, JoinBack}
+use Rattle.definitions.specs.Master.{Crew, fork_of}
+use Rattle.definitions.specs.Run.{Tree, Ends, Split, JoinReady, JoinBack}
 use Rattle.vocabulary.specs.Settings.{Settings}
 use Rattle.vocabulary.specs.declared.targets.Target.{Target}
 use Rattle.vocabulary.specs.declared.targets.Target.TheVariants as target
@@ -62,7 +62,8 @@ staying_part u = old_part (master_of u) u.old.crew u.old.numbers u.rounds
 abbrev pub taking_over : Upgrade → Tree
 taking_over u =
     tries_all (heir_of u) (pid_calls u.path WritePid)
-    (tries (heir_of u) (Census u.new.crew.generation) u.new.numbers (relieve u.attended (master_of u) u.old.crew u.new.crew u.old.numbers u.rounds u.path u.workers) (way_back u))
+    (tries (heir_of u) (Census u.new.crew.generation) u.new.numbers
+    (relieve u.attended (master_of u) u.old.crew u.new.crew u.old.numbers u.rounds u.path u.workers) (way_back u))
     (way_back u)
 
 -- What comes before the parts, of which the mark stands for both.

@@ -2,7 +2,7 @@
 ghost use Rattle.std.specs.Prelude.{◌≡◌, ◌≤◌, ◌<◌, ◌+◌, ◌*◌, ℕ, length, IfOk, IsErrOf, IsTrue, OnOk};
 ghost use Rattle.vocabulary.specs.Settings.{HasSuffixRoom};
 ghost use Rattle.vocabulary.specs.declared.calls.Call.TheVariants as call;
-ghost use Rattle.definitions.specs.Tree.{Ends, Split};
+ghost use Rattle.definitions.specs.Run.{Ends, Split};
 ghost use Rattle.definitions.specs.Plans.{back_late, does};
 ghost use Rattle.call_laws.specs.Pieces.{spawn_edges};
 ghost use Rattle.rollback_plan.specs.declared.draft.DraftRefusal.TheVariants.{TooLarge};

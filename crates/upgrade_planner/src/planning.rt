@@ -2,7 +2,7 @@
 ghost use Rattle.std.specs.Prelude.{◌≡◌, ◌≤◌, ◌↔◌, List, length, IfOk, IsErrOf, IsOkUnless, IsTrue};
 ghost use Rattle.vocabulary.specs.declared.targets.Target.TheVariants as target;
 ghost use Rattle.service_state.specs.Targets.{lacks_generation};
-ghost use Rattle.definitions.specs.Target.{handover_for, sides_of, upgrade_generation};
+ghost use Rattle.definitions.specs.Master.{handover_for, sides_of, upgrade_generation};
 ghost use Rattle.definitions.specs.Plans.{Turn, plan_tree};
 ghost use Rattle.call_laws.specs.Lengths.{plan_length};
 ghost use Rattle.handover_text.specs.Reading.{Hands};

@@ -1,7 +1,7 @@
 //! What the new master does on its own, and how it takes over.
 ghost use Rattle.std.specs.Prelude.{◌≡◌, ◌≤◌, ◌<◌, ◌+◌, ◌*◌, length, IfOk, IsErrOf, IsTrue, OnOk};
 ghost use Rattle.vocabulary.specs.declared.calls.Call.TheVariants as call;
-ghost use Rattle.definitions.specs.Tree.{Ends, JoinReady, JoinBack};
+ghost use Rattle.definitions.specs.Run.{Ends, JoinReady, JoinBack};
 ghost use Rattle.definitions.specs.Plans.{pid_calls, tries, tries_all};
 ghost use Rattle.plan_steps.specs.Steps.{tree_among};
 ghost use Rattle.rollback_plan.specs.Drafts.{trees_of, tree_at, is_plain, IsMade, LeadsTo, GrowsWithin};

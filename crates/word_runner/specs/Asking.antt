@@ -1,7 +1,7 @@
 -- What words ask of a running master.
 use Rattle.std.specs.Prelude.{⊤, ℕ, ◌≡◌, List, [], Option, Some, None, Result, Ok, Err}
 use Rattle.vocabulary.specs.Settings.{Settings}
-use Rattle.definitions.specs.Record.{Record}
+use Rattle.definitions.specs.Master.{Record}
 use Rattle.service_state.specs.Targets.{IsTarget}
 use Rattle.vocabulary.specs.declared.targets.Target.{Target}
 use Rattle.worker_table.specs.Beats.{Workers, overdue_numbers, with_worker}

@@ -1,7 +1,7 @@
 -- What control words come to, one after another, whatever carries targets out.
 use Rattle.std.specs.Prelude.{ℕ, ◌≡◌, ◌+◌, List, [], ◌∷◌, Option, Some, None}
 use Rattle.vocabulary.specs.Settings.{Settings}
-use Rattle.definitions.specs.Record.{Record}
+use Rattle.definitions.specs.Master.{Record}
 use Rattle.vocabulary.specs.declared.targets.Target.{Target}
 use Rattle.vocabulary.specs.declared.reports.Report.{Report}
 use Rattle.worker_table.specs.Beats.{Workers, followed}
@@ -30,12 +30,14 @@ IsStill code old body new = (body ≡ Refused code) × (new ≡ old)
 
 -- The target was carried out from the one to the other. Then the record is the one that this leaves, and of the workers
 -- those that are ready stay, each with its last beat unless the run started it.
-pub record HasRun {G : Type 0} (enacts : G → ℕ → Record → Target → Enacted → G → Type 0) (place : ℕ) (old : Standing G) (r : Record) (target : Target) (log : Told) (report : Report) (new : Standing G) : Type 0 where
+pub record HasRun {G : Type 0} (enacts : G → ℕ → Record → Target → Enacted → G → Type 0) (place : ℕ) (old : Standing G)
+    (r : Record) (target : Target) (log : Told) (report : Report) (new : Standing G) : Type 0 where
   pub enacted : enacts old.world place r target (record { log = log; report = report; after = new.record }) new.world
   pub workers : new.workers ≡ followed old.workers report.ready (started new.record log.entries)
 
 -- What carries targets out declined this one with this code.
-pub record IsDeclined {G : Type 0} (declines : G → ℕ → Record → Target → List ℕ → Type 0) (place : ℕ) (old : Standing G) (r : Record) (target : Target) (code : List ℕ) (new : Standing G) : Type 0 where
+pub record IsDeclined {G : Type 0} (declines : G → ℕ → Record → Target → List ℕ → Type 0) (place : ℕ) (old : Standing G)
+    (r : Record) (target : Target) (code : List ℕ) (new : Standing G) : Type 0 where
   pub declined : declines old.world place r target code
   pub still : new ≡ old
 

@@ -1,6 +1,6 @@
 //! What carries targets out.
 ghost use Rattle.std.specs.Prelude.{◌≡◌, ℕ, List, OnErr, IfOk, IfErr, IsErrOf};
-ghost use Rattle.definitions.specs.Record.{Record as Known};
+ghost use Rattle.definitions.specs.Master.{Record as Known};
 ghost use Rattle.service_state.specs.Targets.{IsTarget};
 ghost use Rattle.vocabulary.specs.declared.targets.Target.{Target as Wanted};
 ghost use Rattle.word_runner.specs.declared.enactor.Enacted.{Enacted as Done};

@@ -1,5 +1,5 @@
 use Rattle.std.proofs.Common.{ℕ, List, ◌∙◌, ap}
-use Rattle.definitions.specs.Tree.{reply_of}
+use Rattle.definitions.specs.Run.{reply_of}
 use Rattle.call_text.specs.Words.{reply_text}
 use Rattle.call_text.proofs.PlainAnswers.{word_is}
 use Rattle.call_text.proofs.answers.answer_word.Goals as goal

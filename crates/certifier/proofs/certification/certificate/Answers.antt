@@ -1,8 +1,7 @@
 use Rattle.std.proofs.Common.{rules, ◌≡◌, ◌⊎◌, inl, [], ◌∷◌, Result, Err, refl, sym, ◌∙◌, ap, subst}
 use Rattle.std.proofs.lemmas.Result.{err_from_is_err_and}
 use mathlib.Core.Bool.{true≢false}
-use Rattle.definitions.specs.Record.{Record, Agrees}
-use Rattle.definitions.specs.Target.{handover_for, sides_of}
+use Rattle.definitions.specs.Master.{Record, Agrees, handover_for, sides_of}
 use Rattle.call_laws.specs.Lengths.{plan_length}
 use Rattle.plan_walk.specs.Path.{begin}
 use Rattle.definitions.specs.Claims.{heirs_of}

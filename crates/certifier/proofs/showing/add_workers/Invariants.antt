@@ -9,5 +9,7 @@ abbrev pub invariant-loop-nr : goal.invariant-loop-nr
 invariant-loop-nr l = record {
   split : l.yielded ++ l.nr-iterator ≡ l.workers;
   below : AreBelow 1024 l.nr-iterator;
-  moments : (n : ℕ) → moment_at l.pattern n ≡ (if nat_eq n l.number then record { exits = map (name.Worker l.generation) l.yielded; fate = None } else moment_at l.fn.pattern n);
+  moments : (n : ℕ) → moment_at l.pattern n
+      ≡ (if nat_eq n l.number then record { exits = map (name.Worker l.generation) l.yielded; fate = None }
+      else moment_at l.fn.pattern n);
 }

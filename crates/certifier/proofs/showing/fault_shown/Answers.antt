@@ -1,5 +1,5 @@
 use Rattle.std.proofs.Common.{◌≡◌, [], true, sym, ◌∙◌, ap}
-use Rattle.definitions.specs.Tree.{reply_of, same_reply}
+use Rattle.definitions.specs.Run.{reply_of, same_reply}
 use Rattle.definitions.specs.Calls.{step_with}
 use Rattle.handover_text.specs.Reading.{handed_by}
 use Rattle.std.specs.Prelude.{None}

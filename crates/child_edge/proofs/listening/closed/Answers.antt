@@ -44,7 +44,8 @@ found-other a x all h =
     any-filter_same (λ y. bytes_eq y x) (is_other a) (is_other a x) (λ k e. ap (is_other a) ((bytes_eq-Decides k x).0 e)) all
     ∙ (ap (λ b. is_other a x && b) h ∙ (and-true (is_other a x) ∙ other-is a x))
 
-kept-others : (a : List ℕ) (all : List (List ℕ)) (ls : List Listener) → AreIn all ls → filter (λ (l : Listener). has (filter (is_other a) all) l.address) ls ≡ closed a ls
+kept-others : (a : List ℕ) (all : List (List ℕ)) (ls : List Listener) → AreIn all ls →
+    filter (λ (l : Listener). has (filter (is_other a) all) l.address) ls ≡ closed a ls
 kept-others a all [] h = refl
 kept-others a all (l ∷ ls) h =
     let rest = kept-others a all ls h.1 in

@@ -8,7 +8,10 @@ use Rattle.child_edge.proofs.Turning.{goes-from, goes-into, goes-both, goes-stop
 use Rattle.child_edge.proofs.masters.alive.Goals as goal
 
 living-of : (s : State) (image : ℕ) (child : Option ChildMaster) (m : ChildMaster) → child ≡ Some m → m.image ≡ image
-    → living s image child ≡ says m.id (codes "alive") (λ ok. if ok then hears m.id (λ h. if is_line (codes "alive") h then answers s answer.IsAlive else ended_master s m.id) else ended_master s m.id)
+    → living s image child ≡ says m.id (codes "alive")
+    (λ ok. if ok then hears m.id
+    (λ h. if is_line (codes "alive") h then answers s answer.IsAlive else ended_master s m.id)
+    else ended_master s m.id)
 living-of s image child m is same = rw (is, eq-eqb m.image image same) refl
 
 pub returns-then-answers_alive-clause-turn : goal.returns-then-answers_alive-clause-turn

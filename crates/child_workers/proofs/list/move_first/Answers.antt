@@ -4,10 +4,13 @@ use Rattle.child_workers.specs.Workers.{Worker, Who, Stage, means, at_stage, mov
 use Rattle.child_workers.proofs.Places.{at_place}
 use Rattle.child_workers.proofs.list.move_first.Goals as goal
 
-here : (who : Who) (stage : Stage) (w : Worker) (all rest : List Worker) → all ≡ w ∷ rest → means who w ≡ true → moved_first who stage all ≡ at_stage stage w ∷ rest
+here : (who : Who) (stage : Stage) (w : Worker) (all rest : List Worker) → all ≡ w ∷ rest → means who w ≡ true →
+    moved_first who stage all ≡ at_stage stage w ∷ rest
 here who stage w all rest is meant = rw (is, meant) refl
 
-moved-here : (who : Who) (stage : Stage) (ws : List Worker) (i : ℕ) (d : Worker) → i < length ws → means who (get_or ws i d) ≡ true → set ws i (at_stage stage (get_or ws i d)) ≡ take i ws ++ moved_first who stage (drop i ws)
+moved-here : (who : Who) (stage : Stage) (ws : List Worker) (i : ℕ) (d : Worker) → i < length ws →
+    means who (get_or ws i d) ≡ true →
+    set ws i (at_stage stage (get_or ws i d)) ≡ take i ws ++ moved_first who stage (drop i ws)
 moved-here who stage ws i d within meant =
     let w = get_or ws i d in
     let at : at_stage stage w ∷ drop (i + 1) ws ≡ moved_first who stage (drop i ws) = sym (here who stage w (drop i ws) (drop (i + 1) ws) (at_place ws i d within) meant) in

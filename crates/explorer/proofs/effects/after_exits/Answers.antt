@@ -1,8 +1,8 @@
 use Rattle.std.proofs.Common.{◌≡◌, [], ℕ, Option, Some, None, refl, sym, ap, ◌∙◌}
 use Rattle.handover_text.specs.Reading.{handed_by}
 use Rattle.definitions.specs.Table.{Table, Caller, live_master}
-use Rattle.definitions.specs.Exits.{after_exits}
-use Rattle.definitions.specs.Calls.{Stepped, Alive, step_by, step_with, asked_alive, Handed}
+use Rattle.definitions.specs.Calls.{after_exits, Stepped, Alive, step_by, step_with, Handed}
+use Rattle.call_laws.specs.Pieces.{asked_alive}
 use Rattle.kernel_model.specs.State.{State}
 use Rattle.explorer.proofs.effects.after_exits.Goals as goal
 

@@ -13,6 +13,8 @@ invariant-loop-mishap g l =
     let run = l.point.run.now in
     (p : Progress) → IsAt run p → AreKnown l.point → record {
       known : AllByRecursion (IsPassed run l.point.due.now.call) l.next.items;
-      counts : with_runs run.state.now run.target.now (turns_of run.course) run.first.now.table (runs_with_each run l.pairs (map (event_here l.point) (drop l.mishap-index l.mishaps))) l.found.tally
-          ≡ with_runs run.state.now run.target.now (turns_of run.course) run.first.now.table (runs_with_each run l.pairs (map (event_here l.point) l.mishaps)) l.fn.found.tally;
+      counts : with_runs run.state.now run.target.now (turns_of run.course) run.first.now.table
+          (runs_with_each run l.pairs (map (event_here l.point) (drop l.mishap-index l.mishaps))) l.found.tally
+          ≡ with_runs run.state.now run.target.now (turns_of run.course) run.first.now.table
+          (runs_with_each run l.pairs (map (event_here l.point) l.mishaps)) l.fn.found.tally;
     }

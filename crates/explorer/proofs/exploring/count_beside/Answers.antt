@@ -1,7 +1,7 @@
 use Rattle.std.proofs.Common.{◌≡◌, ◌+◌, List, OnOk, map, sym, ap, subst, ◌∙◌}
-use Rattle.definitions.specs.Exits.{after_exits}
-use Rattle.definitions.specs.Run.{quiet}
-use Rattle.definitions.specs.Target.{handover_for}
+use Rattle.definitions.specs.Calls.{after_exits}
+use Rattle.call_laws.specs.Pieces.{quiet}
+use Rattle.definitions.specs.Master.{handover_for}
 use Rattle.plan_executor.specs.Naming.{listed}
 use Rattle.plan_walk.specs.Course.{turns_of}
 use Rattle.explorer.specs.declared.events.Mishap.{Mishap}

@@ -1,6 +1,6 @@
 use Rattle.std.proofs.Common.{◌≡◌, ◌+◌, None, map, sym, ap, subst, ◌∙◌}
 use Rattle.std.specs.List.{AllByRecursion}
-use Rattle.definitions.specs.Run.{quiet}
+use Rattle.call_laws.specs.Pieces.{quiet}
 use Rattle.table_laws.proofs.Rows.{every-more}
 use Rattle.plan_executor.specs.Naming.{listed}
 use Rattle.plan_walk.specs.Course.{turns_of}

@@ -25,7 +25,8 @@ invariant-loop-due g l =
       target : l.run.target.now ≡ to;
       turns : turns_of l.run.course ≡ given;
       tried : l.run.tried ≡ Nothing;
-      known : (p : Progress) → IsAt l.fn.run p → (by : ℕ) (call : Call) → AsksFor (trail_on l.run.course) by call → AllByRecursion (IsKnownAt l.run (l.run.made + 1)) l.known.items;
+      known : (p : Progress) → IsAt l.fn.run p → (by : ℕ) (call : Call) → AsksFor (trail_on l.run.course) by call →
+          AllByRecursion (IsKnownAt l.run (l.run.made + 1)) l.known.items;
       counts : Reaches l.fn.run None (with-first r to given t l.pairs) (firsts-counting r to given t l.pairs) l.run l.fn.found.tally l.found.tally;
     }
 

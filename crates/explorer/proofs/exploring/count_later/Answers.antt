@@ -1,6 +1,6 @@
 use Rattle.std.proofs.Common.{◌≡◌, ◌+◌, Some, map, sym, ap, ◌∙◌, arith}
-use Rattle.definitions.specs.Run.{quiet}
-use Rattle.definitions.specs.Target.{handover_for}
+use Rattle.call_laws.specs.Pieces.{quiet}
+use Rattle.definitions.specs.Master.{handover_for}
 use Rattle.plan_executor.specs.Naming.{listed}
 use Rattle.plan_walk.specs.Course.{turns_of}
 use Rattle.explorer.specs.declared.events.Tried.TheVariants.{Two}

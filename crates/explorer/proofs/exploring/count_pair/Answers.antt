@@ -1,6 +1,6 @@
 use Rattle.std.proofs.Common.{◌≡◌, ◌+◌, ◌∷◌, [], OnOk, refl, subst, ap, ◌∙◌, arith}
 use Rattle.vocabulary.specs.declared.calls.Answer.TheVariants.{MasterGone}
-use Rattle.definitions.specs.Run.{quiet}
+use Rattle.call_laws.specs.Pieces.{quiet}
 use Rattle.plan_walk.specs.Course.{turns_of, trail_on}
 use Rattle.plan_walk.proofs.Paths.{asks_height}
 use Rattle.explorer.specs.declared.events.Tried.{Tried}

@@ -3,9 +3,10 @@ use Rattle.std.specs.Prelude.{if◌then◌else◌}
 use Rattle.vocabulary.specs.declared.calls.Answer.TheVariants.{MasterGone}
 use Rattle.vocabulary.specs.declared.reports.Report.{Report}
 use Rattle.definitions.specs.Table.{Table}
-use Rattle.definitions.specs.Exits.{after_exits}
-use Rattle.definitions.specs.Run.{Moment, quiet}
-use Rattle.definitions.specs.Target.{handover_for}
+use Rattle.definitions.specs.Calls.{after_exits}
+use Rattle.definitions.specs.Run.{Moment}
+use Rattle.call_laws.specs.Pieces.{quiet}
+use Rattle.definitions.specs.Master.{handover_for}
 use Rattle.plan_walk.specs.Course.{turns_of, trail_on}
 use Rattle.plan_walk.proofs.Paths.{asks_height}
 use Rattle.plan_executor.specs.Naming.{listed}

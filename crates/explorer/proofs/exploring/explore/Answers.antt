@@ -1,7 +1,7 @@
 use Rattle.std.proofs.Common.{rules, ◌≡◌, ◌∷◌, [], None, Err, inr, refl, sym, ◌∙◌}
 use Rattle.std.proofs.lemmas.Result.{err_from_is_err_and}
 use mathlib.Core.Bool.{true≢false}
-use Rattle.definitions.specs.Record.{Agrees}
+use Rattle.definitions.specs.Master.{Agrees}
 use Rattle.definitions.specs.Run.{start_at}
 use Rattle.plan_executor.specs.declared.enactment.EnactRefusal.TheVariants.{RecordDisagrees}
 use Rattle.plan_executor.proofs.Exact.{planless, short}

@@ -1,6 +1,5 @@
 use Rattle.std.proofs.Common.{ap, ◌∙◌}
-use Rattle.definitions.specs.Calls.{Stepped}
-use Rattle.definitions.specs.Exits.{after_exits}
+use Rattle.definitions.specs.Calls.{Stepped, after_exits}
 use Rattle.handover_text.specs.Reading.{handed_by}
 use Rattle.call_replies.specs.Replies.{is_listed}
 use Rattle.plan_executor.proofs.Replaying.{step-listed}

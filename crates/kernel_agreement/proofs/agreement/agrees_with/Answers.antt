@@ -1,6 +1,6 @@
 use Rattle.std.proofs.Common.{sym, ap, subst, ◌∙◌}
 use Rattle.std.proofs.lemmas.Bool.{true≢false}
-use Rattle.definitions.specs.Record.{Agrees}
+use Rattle.definitions.specs.Master.{Agrees}
 use Rattle.definitions.specs.Table.{live_master}
 use Rattle.kernel_agreement.specs.declared.agreement.Running.{Running}
 use Rattle.kernel_rows.specs.Seen.{seen_caller}

@@ -4,7 +4,8 @@ use Rattle.std.proofs.Math.Bool.{and-true}
 use Rattle.std.proofs.lemmas.Bool.{false≢true, eqb-true, and_parts}
 use Rattle.std.proofs.lemmas.Bool.Decides.{nat_tests}
 use Rattle.listener_set.specs.Numbers.{is_in}
-use Rattle.definitions.specs.Table.{is_ready, is_worker}
+use Rattle.definitions.specs.Table.{is_worker}
+use Rattle.call_laws.specs.Pieces.{is_ready}
 use Rattle.kernel_rows.specs.Holds.{seen_holds}
 use Rattle.kernel_rows.specs.Seen.{seen_rows}
 use Rattle.kernel_agreement.proofs.Comparing.{found_first, found_next, none_missing, none_in, is_in-without}

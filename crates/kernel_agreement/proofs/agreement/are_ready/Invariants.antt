@@ -1,7 +1,8 @@
 use Rattle.std.proofs.Common.{◌≡◌, ℕ, List, true, not, ◌&&◌, ◌||◌}
 use Rattle.std.specs.List.{list_any}
 use Rattle.listener_set.specs.Numbers.{is_in}
-use Rattle.definitions.specs.Table.{is_ready, is_worker}
+use Rattle.definitions.specs.Table.{is_worker}
+use Rattle.call_laws.specs.Pieces.{is_ready}
 use Rattle.kernel_rows.specs.Seen.{seen_rows}
 use Rattle.kernel_agreement.proofs.agreement.are_ready.Given as goal
 

@@ -2,7 +2,7 @@ use Rattle.std.proofs.Common.{◌≡◌, true, nat_eq, ◌&&◌, ap, sym, ◌∙
 use Rattle.std.proofs.lemmas.Bool.{and_parts, eqb-true}
 use Rattle.worker_groups.specs.Crews.{Crew}
 use Rattle.definitions.specs.Calls.{shared}
-use Rattle.definitions.specs.Crew.{fds_of}
+use Rattle.definitions.specs.Master.{fds_of}
 use Rattle.definitions.specs.Table.{Generation}
 use Rattle.kernel_rows.specs.Holds.{seen_holds}
 use Rattle.kernel_agreement.proofs.Comparing.{same_sockets}

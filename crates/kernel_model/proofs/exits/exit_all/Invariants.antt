@@ -1,5 +1,5 @@
 use Rattle.std.proofs.Common.{◌≡◌, drop}
-use Rattle.definitions.specs.Exits.{after_exits}
+use Rattle.definitions.specs.Calls.{after_exits}
 use Rattle.kernel_table.specs.Seen.{seen}
 use Rattle.kernel_table.specs.Room.{EditsRows, IsKept}
 use Rattle.kernel_model.proofs.exits.exit_all.Given as goal

@@ -1,7 +1,7 @@
 use Rattle.std.proofs.Common.{ℕ, ap, ◌∙◌}
 use Rattle.std.specs.List.{filter_map, list_any}
-use Rattle.definitions.specs.Table.{is_live_master, with_rows}
-use Rattle.definitions.specs.Exits.{without_exited, caller_exits}
+use Rattle.call_laws.specs.Pieces.{is_live_master, with_rows, caller_exits}
+use Rattle.definitions.specs.Calls.{without_exited}
 use Rattle.kernel_rows.specs.Holds.{seen_holds}
 use Rattle.kernel_rows.specs.Seen.{caller_row}
 use Rattle.kernel_table.specs.Seen.{seen}

@@ -2,11 +2,12 @@ use Rattle.std.proofs.Common.{◌≡◌, ℕ, ap, sym, ◌∙◌}
 use Rattle.std.proofs.lemmas.Bool.{true≢false, false≢true}
 use Rattle.std.proofs.lemmas.Slice.Eq.{bytes_eq-Decides}
 use Rattle.vocabulary.specs.declared.table.Listener.{Listener}
-use Rattle.definitions.specs.Record.{listener_of}
+use Rattle.call_laws.specs.Pieces.{listener_of}
 use Rattle.kernel_rows.specs.Holds.{address_of, seen_hold}
 use Rattle.kernel_model.proofs.HeldListeners.{next_listeners, all_listeners}
 use Rattle.kernel_model.proofs.listening.are_listeners.Goals as goal
-use Rattle.kernel_model.proofs.listening.are_listeners.Goals.{then-descriptor-listener-via-then-descriptor-listener, then-descriptor-listener-via-else-descriptor-listener+then-not-is_socket_at}
+use Rattle.kernel_model.proofs.listening.are_listeners.Goals.{then-descriptor-listener-via-then-descriptor-listener}
+use Rattle.kernel_model.proofs.listening.are_listeners.Goals.{then-descriptor-listener-via-else-descriptor-listener+then-not-is_socket_at}
 
 pub returns-then-descriptor-listener : goal.returns-then-descriptor-listener
 returns-then-descriptor-listener c =

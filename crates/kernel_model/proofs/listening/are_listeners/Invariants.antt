@@ -1,5 +1,5 @@
 use Rattle.std.proofs.Common.{◌≡◌, ◌↔◌, map, drop}
-use Rattle.definitions.specs.Record.{listener_of}
+use Rattle.call_laws.specs.Pieces.{listener_of}
 use Rattle.kernel_rows.specs.Holds.{seen_holds}
 use Rattle.kernel_model.proofs.listening.are_listeners.Given as goal
 

@@ -1,7 +1,7 @@
 use Rattle.std.proofs.Common.{ap, ◌∙◌}
 use Rattle.std.specs.List.{filter_map}
 use Rattle.vocabulary.specs.declared.calls.Answer.TheVariants as answer
-use Rattle.definitions.specs.Table.{with_rows}
+use Rattle.call_laws.specs.Pieces.{with_rows}
 use Rattle.definitions.specs.Calls.{drop_where, gives}
 use Rattle.kernel_rows.specs.Edits.{is_of_either}
 use Rattle.kernel_table.specs.Seen.{seen}

@@ -1,6 +1,6 @@
 use Rattle.std.proofs.Common.{◌≡◌, [], Bool, true, false, cond, refl, ◌∙◌}
 use Rattle.definitions.specs.Calls.{Stepped}
-use Rattle.definitions.specs.Tree.{reply_of}
+use Rattle.definitions.specs.Run.{reply_of}
 use Rattle.std.specs.List.{list_any}
 use Rattle.definitions.specs.Table.{is_active, is_worker}
 use Rattle.kernel_table.specs.Seen.{seen}

@@ -2,7 +2,7 @@ use Rattle.std.proofs.Common.{sym, ◌∙◌, rules, tests}
 use Rattle.std.proofs.lemmas.Iterator.Consumers.{YieldsList-from_first}
 use Rattle.std.proofs.lemmas.Iterator.Search.{any_from_yields_List}
 use Rattle.definitions.specs.Table.{has_address}
-use Rattle.definitions.specs.Service.{is_live_with}
+use Rattle.call_laws.specs.Pieces.{is_live_with}
 use Rattle.kernel_rows.specs.Seen.{seen_holder}
 use Rattle.kernel_rows.proofs.Lists.{list_any-map}
 use Rattle.kernel_model.proofs.service.is_offered.Goals as goal

@@ -1,7 +1,7 @@
 use Rattle.std.proofs.Common.{◌≡◌, ◌+◌, map, cond, sym, ap, ◌∙◌, List, arith}
 use Rattle.std.specs.FinMap.{put}
 use Rattle.definitions.specs.Table.{Generation}
-use Rattle.definitions.specs.Service.{is_serving}
+use Rattle.call_laws.specs.Pieces.{is_serving_as}
 use Rattle.kernel_service.specs.declared.counts.Count.{Count}
 use Rattle.kernel_rows.specs.Seen.{seen_holder}
 use Rattle.kernel_service.specs.Services.{generation_cmp, count_at}
@@ -29,6 +29,8 @@ loop-holder-preserved-in-Continue-1 c =
     let g = c.in-Some-serving_generation.generation in
     let said = c.count_of-workers.ensures ∙ ap (λ (cs : List Count). count_at (map seen_count cs) g) c.deref.ensures.value in
     let after = c.in_ok-set_count.ensures.ok ∙ ap (λ n. put generation_cmp g (n + 1) counts) said in
-    let step : (q : Generation) → count_at (put generation_cmp g (count_at counts g + 1) counts) q ≡ cond (is_serving a q (seen_holder addresses h)) (count_at counts q + 1) (count_at counts q) =
+    let step : (q : Generation) →
+    count_at (put generation_cmp g (count_at counts g + 1) counts) q
+    ≡ cond (is_serving_as a q (seen_holder addresses h)) (count_at counts q + 1) (count_at counts q) =
     λ q. count-one g q counts ∙ ap (λ b. cond b (count_at counts q + 1) (count_at counts q)) (sym (c.in-Some-serving_generation.ensures q)) in
     rw after (record { sound = counts-put g (count_at counts g + 1) counts holds.sound (omega arith); counted = more counts (put generation_cmp g (count_at counts g + 1) counts) step holds.counted })

@@ -5,7 +5,9 @@ use Rattle.kernel_rows.specs.Seen.{seen_rows, seen_holder}
 use Rattle.kernel_service.specs.Served.{seen_count}
 use Rattle.kernel_model.proofs.Serving.{serving-below, service-kept, service-added}
 use Rattle.kernel_model.proofs.service.service_of.Goals as goal
-use Rattle.kernel_model.proofs.service.service_of.Goals.{then-not-has+then-is_offered+in_ok-counts+in_ok-insert, else-not-has, else-not-has-via-then-not-has+else-is_offered, else-not-has-via-else-not-has}
+use Rattle.kernel_model.proofs.service.service_of.Goals.{then-not-has+then-is_offered+in_ok-counts+in_ok-insert}
+use Rattle.kernel_model.proofs.service.service_of.Goals.{else-not-has, else-not-has-via-then-not-has+else-is_offered}
+use Rattle.kernel_model.proofs.service.service_of.Goals.{else-not-has-via-else-not-has}
 
 pub ready_counts-requires : goal.ready_counts-requires
 ready_counts-requires c = λ g.

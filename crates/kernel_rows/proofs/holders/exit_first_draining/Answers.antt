@@ -1,8 +1,7 @@
 use Rattle.std.proofs.Common.{sym, ◌∙◌, rules, tests, []}
 use Rattle.std.proofs.lemmas.Iterator.{YieldsList-from_slice}
 use Rattle.std.proofs.lemmas.Iterator.Search.{position_from_yields_List}
-use Rattle.definitions.specs.Table.{is_draining, is_named}
-use Rattle.definitions.specs.Exits.{made_exited}
+use Rattle.call_laws.specs.Pieces.{is_named, is_draining, made_exited}
 use Rattle.kernel_rows.specs.declared.process.Row.TheVariants.{Foreign}
 use Rattle.kernel_rows.specs.Seen.{seen_holder}
 use Rattle.kernel_rows.proofs.First.{first_changed-Some, first_changed-None}

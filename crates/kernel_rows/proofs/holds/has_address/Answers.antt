@@ -1,7 +1,7 @@
 use Rattle.std.proofs.Common.{sym, ◌∙◌, rules, tests}
 use Rattle.std.proofs.lemmas.Iterator.Consumers.{YieldsList-from_first}
 use Rattle.std.proofs.lemmas.Iterator.Search.{any_from_yields_List}
-use Rattle.definitions.specs.Table.{is_at}
+use Rattle.call_laws.specs.Pieces.{is_at}
 use Rattle.kernel_rows.specs.Holds.{seen_hold}
 use Rattle.kernel_rows.proofs.Lists.{list_any-map}
 use Rattle.kernel_rows.proofs.holds.has_address.Goals as goal

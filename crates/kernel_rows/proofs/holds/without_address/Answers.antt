@@ -2,7 +2,8 @@ use Rattle.std.proofs.Common.{◌≡◌, ℕ, ◌∷◌, [], ◌++◌, not, fals
 use Rattle.std.proofs.lemmas.List.Elements.{filter-append}
 use Rattle.listener_set.specs.Numbers.{RisesFrom}
 use Rattle.listener_set.specs.Descriptors.{descriptors_of}
-use Rattle.definitions.specs.Table.{Hold, is_at}
+use Rattle.definitions.specs.Table.{Hold}
+use Rattle.call_laws.specs.Pieces.{is_at}
 use Rattle.kernel_rows.specs.Holds.{address_of, seen_holds}
 use Rattle.kernel_rows.proofs.Closing.{taken_out, seen-filter}
 use Rattle.kernel_rows.proofs.holds.without_address.Goals as goal

@@ -1,5 +1,5 @@
 use Rattle.std.proofs.Common.{sym, ◌∙◌}
-use Rattle.definitions.specs.Table.{is_any}
+use Rattle.call_laws.specs.Pieces.{is_any}
 use Rattle.kernel_rows.proofs.Bearing.{borne-there}
 use Rattle.kernel_table.proofs.store.is_worker_at.Goals as goal
 

@@ -2,7 +2,8 @@ use Rattle.std.proofs.Common.{◌&&◌, nat_lt, Some, None, sym, ap, subst, ◌�
 use Rattle.std.specs.List.{list_any}
 use Rattle.listener_set.specs.Numbers.{is_in, IsRising}
 use Rattle.listener_set.proofs.Rising.{RisesFrom-with_number}
-use Rattle.definitions.specs.Table.{is_ready, is_worker}
+use Rattle.definitions.specs.Table.{is_worker}
+use Rattle.call_laws.specs.Pieces.{is_ready}
 use Rattle.kernel_rows.specs.Holds.{seen_holds}
 use Rattle.kernel_rows.specs.Seen.{seen_rows, is_number}
 use Rattle.kernel_table.proofs.Census.{one-more, none-more, census-is}

@@ -1,6 +1,6 @@
 use Rattle.std.proofs.Common.{◌≡◌, ◌∙◌, ap, subst, map, IsTrue}
 use Rattle.std.specs.Prelude.{◌↔◌}
-use Rattle.definitions.specs.Record.{Record, Agrees}
+use Rattle.definitions.specs.Master.{Record, Agrees}
 use Rattle.listener_set.specs.Numbers.{RisesFrom}
 use Rattle.vocabulary.specs.declared.table.Listener.{Listener}
 use Rattle.plan_executor.proofs.Descriptors.{rises}

@@ -1,7 +1,6 @@
 use Rattle.std.proofs.Common.{◌≡◌, ◌||◌, true, false, sym, ◌∙◌}
 use Rattle.std.specs.Prelude.{◌&&◌}
-use Rattle.definitions.specs.Manner.{is_leave_call}
-use Rattle.definitions.specs.Claims.{names_any}
+use Rattle.definitions.specs.Claims.{is_leave_call, names_any}
 use Rattle.plan_executor.specs.Naming.{listed}
 use Rattle.plan_executor.proofs.Refused.{names_any-at}
 use Rattle.plan_executor.proofs.naming.names_executing.Goals as goal

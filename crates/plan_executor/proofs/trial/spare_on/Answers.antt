@@ -8,7 +8,9 @@ use Rattle.plan_executor.proofs.trial.spare_on.Goals as goal
 use Rattle.plan_executor.proofs.trial.spare_on.Goals.{After-heir_of-heir}
 
 -- what was tried
-tried : (c : After-heir_of-heir) → IsMade c.args.copy.now.table c.args.state.now c.args.target.now c.args.section.now.turns (moment_at c.args.section.now.pattern) c.run.new.log.entries c.run.new.kernel.table c.run.result
+tried : (c : After-heir_of-heir) →
+    IsMade c.args.copy.now.table c.args.state.now c.args.target.now c.args.section.now.turns
+    (moment_at c.args.section.now.pattern) c.run.new.log.entries c.run.new.kernel.table c.run.result
 tried c =
     made c.args.state.now c.args.target.now c.args.plan.now c.args.section.now.turns (moment_at c.args.section.now.pattern) c.args.copy.now.table c.run.new.kernel.table c.run.new.log.entries c.run.result
     c.requires.plan c.run.ensures.path_law c.run.ensures.replays

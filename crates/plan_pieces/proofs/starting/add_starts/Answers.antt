@@ -3,7 +3,7 @@ use Rattle.std.proofs.lemmas.List.{take_all}
 use Rattle.std.proofs.lemmas.Option.{slice_get-get_or}
 use Rattle.std.proofs.lemmas.Result.{IfOk-weaker}
 use Rattle.listener_set.specs.declared.generation.Generation.{Generation}
-use Rattle.definitions.specs.Crew.{Crew}
+use Rattle.definitions.specs.Master.{Crew}
 use Rattle.definitions.specs.Plans.{awaits}
 use Rattle.plan_steps.specs.declared.step.Place.{Place}
 use Rattle.rollback_plan.specs.Drafts.{tree_at}

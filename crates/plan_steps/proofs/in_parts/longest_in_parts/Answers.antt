@@ -1,6 +1,6 @@
 use Rattle.std.proofs.Common.{◌≡◌, ◌≤◌, ℕ, List, [], length, map, get_or, refl, ◌∙◌, ap, arith}
 use Rattle.std.proofs.lemmas.List.{length-map}
-use Rattle.definitions.specs.Tree.{Tree}
+use Rattle.definitions.specs.Run.{Tree}
 use Rattle.call_laws.specs.Lengths.{height}
 use Rattle.plan_steps.specs.declared.step.Step.{Step}
 use Rattle.plan_steps.specs.Steps.{at_place, trees_after}
@@ -14,7 +14,8 @@ many : (f : Tree → ℕ) (steps : List Step) (known : List ℕ) → known ≡ m
 many f steps known e = ap length e ∙ (length-map (trees_after [] steps) f ∙ length-trees steps)
 
 -- no tree of a draft is taller than a draft may have steps
-tall : (steps : List Step) (heights : List ℕ) → heights ≡ map height (trees_after [] steps) → ((k : ℕ) → get_or heights k 0 ≤ 65536) → (k : ℕ) → height (at_place steps k) ≤ 65536
+tall : (steps : List Step) (heights : List ℕ) → heights ≡ map height (trees_after [] steps) →
+    ((k : ℕ) → get_or heights k 0 ≤ 65536) → (k : ℕ) → height (at_place steps k) ≤ 65536
 tall steps heights e within k = omega (arith, within k, ap (λ ns. get_or ns k 0) e, known_at height refl (trees_after [] steps) k)
 
 pub index-requires-4 : goal.index-requires-4

@@ -3,7 +3,7 @@ use Rattle.std.proofs.lemmas.List.{take_all}
 use Rattle.std.proofs.lemmas.Result.{IfOk-weaker}
 use Rattle.listener_set.specs.declared.generation.Generation.{Generation}
 use Rattle.definitions.specs.Table.{Address}
-use Rattle.definitions.specs.Crew.{Crew}
+use Rattle.definitions.specs.Master.{Crew}
 use Rattle.vocabulary.specs.declared.plans.Side.TheVariants.{Old}
 use Rattle.definitions.specs.Plans.{settle}
 use Rattle.call_laws.specs.Pieces.{quits, closes}
@@ -18,7 +18,10 @@ use Rattle.reload_planner.specs.Changes.{on_tree, trial_tree, back_tree}
 use Rattle.reload_planner.proofs.reloading.add_reload.Goals as goal
 
 -- the ways back once all that is added is open, where these places stand for those of the draft
-ways_back : (by : ℕ) (old new : Crew) (g : Generation) (ready : List ℕ) (rounds : ℕ) (added : List Address) (fresh : List ℕ) (d : Draft) (places ways : List Place) → places ≡ ways → g ≡ new.generation → AreMade d ways (length fresh) (quits_back by g fresh (closes_back by added (settle by old ready Old rounds) (length added)))
+ways_back : (by : ℕ) (old new : Crew) (g : Generation) (ready : List ℕ) (rounds : ℕ) (added : List Address)
+    (fresh : List ℕ) (d : Draft) (places ways : List Place) → places ≡ ways → g ≡ new.generation →
+    AreMade d ways (length fresh)
+    (quits_back by g fresh (closes_back by added (settle by old ready Old rounds) (length added)))
     → AreMade d places (length fresh) (λ i. back_tree by old new ready rounds (reverse added) (reverse (take i fresh)))
 ways_back by old new g ready rounds added fresh d places ways same is made =
     subst (λ (ps : List Place). AreMade d ps (length fresh) (λ i. back_tree by old new ready rounds (reverse added) (reverse (take i fresh)))) (sym same)

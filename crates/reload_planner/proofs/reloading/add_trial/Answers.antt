@@ -2,7 +2,7 @@ use Rattle.std.proofs.Common.{length, get_or, reverse, take, ◌∙◌, ap, subs
 use Rattle.std.proofs.lemmas.List.{take_all}
 use Rattle.std.proofs.lemmas.Option.{slice_get-get_or}
 use Rattle.std.proofs.lemmas.Result.{IfOk-weaker}
-use Rattle.definitions.specs.Tree.{Tree}
+use Rattle.definitions.specs.Run.{Tree}
 use Rattle.definitions.specs.Plans.{starts}
 use Rattle.call_laws.specs.Pieces.{census, census_edges}
 use Rattle.plan_steps.specs.declared.step.Place.{Place}

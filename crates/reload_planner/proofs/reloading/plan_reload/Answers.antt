@@ -1,7 +1,7 @@
 use Rattle.std.proofs.Common.{false, ◌∙◌, ap, length, arith, sym, not, ◌≡◌}
 use Rattle.listener_set.specs.AddressList.{has}
-use Rattle.definitions.specs.Crew.{Crew}
-use Rattle.definitions.specs.Target.{next_config}
+use Rattle.definitions.specs.Master.{Crew}
+use Rattle.definitions.specs.After.{next_config}
 use Rattle.plan_steps.specs.Fit.{is_fit}
 use Rattle.reload_planner.proofs.Sets.{filter_few, length-below}
 use Rattle.reload_planner.proofs.Fitness.{renewal_fit}

@@ -2,8 +2,8 @@ use Rattle.std.proofs.Common.{◌≡◌, ℕ, List, length, reverse, take, true,
 use Rattle.std.proofs.lemmas.Result.{IfOk-weaker}
 use Rattle.listener_set.specs.declared.generation.Generation.{Generation}
 use Rattle.vocabulary.specs.declared.plans.Side.TheVariants.{Old}
-use Rattle.definitions.specs.Crew.{Crew}
-use Rattle.definitions.specs.Tree.{Tree}
+use Rattle.definitions.specs.Master.{Crew}
+use Rattle.definitions.specs.Run.{Tree}
 use Rattle.definitions.specs.Plans.{settle, starts}
 use Rattle.call_laws.specs.Pieces.{quits}
 use Rattle.plan_steps.specs.declared.step.Place.{Place}

@@ -3,7 +3,7 @@ use Rattle.std.proofs.lemmas.List.{drop_all, length-drop}
 use Rattle.std.proofs.lemmas.List.Sums.{sum_by-drop_more}
 use Rattle.worker_groups.specs.declared.groups.Group.{Group}
 use Rattle.worker_groups.specs.Groups.{no_group}
-use Rattle.definitions.specs.Crew.{addresses_of_group}
+use Rattle.definitions.specs.Master.{addresses_of_group}
 use Rattle.service_state.proofs.Grouped.{own-addresses, later-addresses}
 use Rattle.service_state.proofs.posting.addresses_of_group.Goals as goal
 

@@ -1,6 +1,6 @@
 use Rattle.std.proofs.Common.{◌≡◌, ◌≤◌, ◌+◌, ℕ, length, drop}
 use Rattle.worker_groups.specs.Groups.{addresses_in}
-use Rattle.definitions.specs.Crew.{addresses_of_group}
+use Rattle.definitions.specs.Master.{addresses_of_group}
 use Rattle.service_state.proofs.posting.addresses_of_group.Given as goal
 
 abbrev pub invariant-loop-index : goal.invariant-loop-index

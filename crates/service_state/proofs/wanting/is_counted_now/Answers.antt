@@ -1,7 +1,7 @@
 use Rattle.std.proofs.Common.{◌∙◌, ap, sym, map}
 use Rattle.vocabulary.specs.declared.table.Listener.{Listener}
 use Rattle.listener_set.specs.AddressList.{has}
-use Rattle.definitions.specs.Crew.{fds_of, listeners_under}
+use Rattle.definitions.specs.Master.{fds_of, listeners_under}
 use Rattle.service_state.proofs.Grouped.{listens-has}
 use Rattle.service_state.proofs.wanting.is_counted_now.Goals as goal
 

@@ -1,6 +1,6 @@
 use Rattle.std.proofs.Common.{arith}
 use Rattle.service_state.proofs.Serving.{counted-below}
-use Rattle.definitions.specs.Target.{layout_wanted}
+use Rattle.definitions.specs.Master.{layout_wanted}
 use Rattle.service_state.specs.Wanted.{is_counted}
 use Rattle.service_state.proofs.wanting.served_below.Goals as goal
 

@@ -1,7 +1,6 @@
 use Rattle.std.proofs.Common.{◌≡◌}
 use Rattle.listener_set.specs.Numbers.{numbers_below}
-use Rattle.definitions.specs.Crew.{served}
-use Rattle.definitions.specs.Target.{layout_wanted}
+use Rattle.definitions.specs.Master.{served, layout_wanted}
 use Rattle.service_state.proofs.wanting.served_below.Given as goal
 
 abbrev pub invariant-loop-number : goal.invariant-loop-number

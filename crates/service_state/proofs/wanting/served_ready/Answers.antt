@@ -2,8 +2,7 @@ use Rattle.std.proofs.Common.{ap, length, arith}
 use Rattle.std.proofs.lemmas.List.{length-append}
 use Rattle.std.proofs.lemmas.List.Sums.{count_by-le-length}
 use Rattle.listener_set.proofs.NumberSets.{length-numbers}
-use Rattle.definitions.specs.Record.{Record}
-use Rattle.definitions.specs.Target.{layout_wanted}
+use Rattle.definitions.specs.Master.{Record, layout_wanted}
 use Rattle.service_state.specs.Wanted.{is_counted}
 use Rattle.service_state.proofs.wanting.served_ready.Goals as goal
 

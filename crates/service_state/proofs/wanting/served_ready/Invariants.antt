@@ -1,6 +1,5 @@
 use Rattle.std.proofs.Common.{◌≡◌, ◌++◌}
-use Rattle.definitions.specs.Crew.{served}
-use Rattle.definitions.specs.Target.{layout_wanted}
+use Rattle.definitions.specs.Master.{served, layout_wanted}
 use Rattle.service_state.proofs.wanting.served_ready.Given as goal
 
 abbrev pub invariant-loop-number : goal.invariant-loop-number

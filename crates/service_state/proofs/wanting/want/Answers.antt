@@ -1,4 +1,4 @@
-use Rattle.definitions.specs.Target.{wanted_at}
+use Rattle.definitions.specs.Master.{wanted_at}
 use Rattle.service_state.proofs.Serving.{serving-more}
 use Rattle.service_state.proofs.wanting.want.Goals as goal
 

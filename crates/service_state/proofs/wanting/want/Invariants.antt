@@ -1,5 +1,5 @@
 use Rattle.service_state.proofs.Serving.{IsServingTo}
-use Rattle.definitions.specs.Target.{wanted_at}
+use Rattle.definitions.specs.Master.{wanted_at}
 use Rattle.service_state.proofs.wanting.want.Given as goal
 
 abbrev pub invariant-loop-address : goal.invariant-loop-address

@@ -1,6 +1,6 @@
 use Rattle.std.proofs.Common.{ℕ, ◌+◌, ◌*◌, length, ◌∙◌, ap, subst, arith}
 use Rattle.definitions.specs.Calls.{Census, WritePid}
-use Rattle.definitions.specs.Tree.{Tree}
+use Rattle.definitions.specs.Run.{Tree}
 use Rattle.definitions.specs.Plans.{old_part, pid_calls, relieve, tries, tries_all}
 use Rattle.rollback_plan.specs.Drafts.{IsMade, tree_at}
 use Rattle.rollback_plan.proofs.DraftTrees.{keeps_on, made_kept, at_kept}

@@ -2,8 +2,7 @@ use Rattle.std.proofs.Common.{◌≡◌, sym, ap, ◌∙◌}
 use Rattle.vocabulary.specs.Settings.{Settings}
 use Rattle.definitions.specs.Table.{Generation}
 use Rattle.definitions.specs.Calls.{Handover}
-use Rattle.definitions.specs.Record.{Record}
-use Rattle.definitions.specs.Target.{handover_of}
+use Rattle.definitions.specs.Master.{Record, handover_of}
 use Rattle.upgrade_planner.proofs.Handing.{hands-written}
 use Rattle.upgrade_planner.proofs.planning.handed.Goals as goal
 

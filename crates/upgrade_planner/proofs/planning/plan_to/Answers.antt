@@ -4,11 +4,9 @@ use Rattle.listener_set.specs.AddressList.{has}
 use Rattle.listener_set.specs.declared.generation.Generation.{Generation}
 use Rattle.vocabulary.specs.Settings.{Settings}
 use Rattle.vocabulary.specs.declared.table.Listener.{Listener}
-use Rattle.definitions.specs.Crew.{Crew}
-use Rattle.definitions.specs.Record.{Record, addresses_of, crew_of}
+use Rattle.definitions.specs.Master.{Crew, Record, addresses_of, crew_of, handover_for, upgrade_generation}
 use Rattle.definitions.specs.After.{posts_wanted}
 use Rattle.vocabulary.specs.declared.targets.Target.TheVariants as target
-use Rattle.definitions.specs.Target.{handover_for, upgrade_generation}
 use Rattle.handover_text.specs.Reading.{Hands}
 use Rattle.definitions.specs.Plans.{Turn, plan_tree, only_in}
 use Rattle.call_laws.specs.Lengths.{plan_length}
@@ -32,7 +30,9 @@ finish_in_parts-requires-clause-apart c =
     (omega (arith, ap (λ (g : Generation). g.image) c.requires, ap (λ (crew : Crew). crew.generation.image) c.crew.ensures))
 
 -- it is the plan of the target, and as long as that
-planned : (c : goal.After-drop-leaving-2) → ((turns : List Turn) → tree_under c.in_ok-finish_in_parts.field-0 turns ≡ plan_tree c.args.state.now (asked_for c.args.attended c.args.settings.now) turns)
+planned : (c : goal.After-drop-leaving-2) →
+    ((turns : List Turn) → tree_under c.in_ok-finish_in_parts.field-0 turns
+    ≡ plan_tree c.args.state.now (asked_for c.args.attended c.args.settings.now) turns)
     × (length_of c.in_ok-finish_in_parts.field-0 ≡ plan_length c.args.state.now (asked_for c.args.attended c.args.settings.now))
 planned c =
     let v = c.state.inside in

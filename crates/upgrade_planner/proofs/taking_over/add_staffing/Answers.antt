@@ -1,6 +1,6 @@
 use Rattle.std.proofs.Common.{ℕ, ap, subst}
 use Rattle.std.proofs.lemmas.Result.{IfOk-weaker}
-use Rattle.definitions.specs.Crew.{Crew}
+use Rattle.definitions.specs.Master.{Crew}
 use Rattle.rollback_plan.specs.Drafts.{LeadsTo}
 use Rattle.upgrade_planner.specs.Trees.{staffing}
 use Rattle.upgrade_planner.proofs.Takeovers.{part, staffed}

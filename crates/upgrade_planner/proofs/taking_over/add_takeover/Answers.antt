@@ -2,7 +2,7 @@ use Rattle.std.proofs.Common.{ℕ, ap, subst}
 use Rattle.std.proofs.lemmas.Result.{IfOk-weaker}
 use Rattle.listener_set.specs.declared.generation.Generation.{Generation}
 use Rattle.vocabulary.specs.declared.calls.Call.TheVariants.{Census, WritePid}
-use Rattle.definitions.specs.Crew.{Crew}
+use Rattle.definitions.specs.Master.{Crew}
 use Rattle.definitions.specs.Plans.{pid_calls, tries, tries_all}
 use Rattle.rollback_plan.specs.Drafts.{tree_at, IsMade}
 use Rattle.upgrade_planner.proofs.Takeovers.{written}

@@ -3,8 +3,7 @@ use Rattle.std.specs.Prelude.{if◌then◌else◌}
 use Rattle.std.proofs.lemmas.Bool.{false≢true}
 use Rattle.std.proofs.lemmas.Bool.Decides.{nat_tests}
 use Rattle.vocabulary.specs.declared.calls.Answer.{Answer}
-use Rattle.definitions.specs.Calls.{Stepped, step_with}
-use Rattle.definitions.specs.Exits.{after_exits}
+use Rattle.definitions.specs.Calls.{Stepped, step_with, after_exits}
 use Rattle.call_replies.specs.Replies.{is_listed}
 use Rattle.definitions.specs.Run.{Moment}
 use Rattle.definitions.specs.Claims.{names_any}

@@ -1,8 +1,7 @@
 use Rattle.std.proofs.Common.{sym, ap, ◌∙◌, arith, subst}
 use Rattle.vocabulary.specs.declared.calls.Answer.TheVariants.{MasterGone}
 use Rattle.vocabulary.specs.declared.reports.Entry.{Entry}
-use Rattle.definitions.specs.Calls.{step_with}
-use Rattle.definitions.specs.Exits.{after_exits}
+use Rattle.definitions.specs.Calls.{step_with, after_exits}
 use Rattle.plan_walk.specs.Path.{Asks, advance}
 use Rattle.definitions.specs.Run.{Moment}
 use Rattle.handover_text.specs.Reading.{handed_by}

@@ -1,7 +1,7 @@
 use Rattle.std.proofs.Common.{◌≡◌, ◌+◌, refl, ap, subst, ◌∙◌, arith}
 use Rattle.plan_walk.specs.Path.{Reports}
-use Rattle.definitions.specs.Run.{quiet}
-use Rattle.definitions.specs.Target.{sides_of, handover_for}
+use Rattle.call_laws.specs.Pieces.{quiet}
+use Rattle.definitions.specs.Master.{sides_of, handover_for}
 use Rattle.definitions.specs.Claims.{run_of}
 use Rattle.plan_walk.specs.Course.{turns_of, trail_on}
 use Rattle.explorer.specs.declared.events.Tried.{Tried}

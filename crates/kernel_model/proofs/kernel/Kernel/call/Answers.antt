@@ -1,5 +1,5 @@
 use Rattle.std.proofs.Common.{ap, ◌∙◌, arith}
-use Rattle.definitions.specs.Exits.{after_exits}
+use Rattle.definitions.specs.Calls.{after_exits}
 use Rattle.handover_text.specs.Reading.{handed_by}
 use Rattle.kernel_model.specs.State.{State}
 use Rattle.kernel_model.proofs.Alone.{step-alone}

@@ -1,7 +1,7 @@
 use Rattle.std.proofs.Common.{refl, arith}
 use Rattle.std.proofs.lemmas.List.{length-map}
 use Rattle.std.proofs.lemmas.Result.{IfOk-weaker}
-use Rattle.definitions.specs.Service.{service, IsSame}
+use Rattle.definitions.specs.Table.{service, IsSame}
 use Rattle.kernel_service.specs.Services.{at}
 use Rattle.kernel_rows.specs.Seen.{seen_rows, seen_holder}
 use Rattle.kernel_table.specs.Seen.{seen}

@@ -1,5 +1,6 @@
 use Rattle.std.proofs.Common.{sym, ap, subst, ◌∙◌, refl, []}
-use Rattle.definitions.specs.Table.{is_active, is_worker, with_rows}
+use Rattle.definitions.specs.Table.{is_active, is_worker}
+use Rattle.call_laws.specs.Pieces.{with_rows}
 use Rattle.kernel_rows.specs.declared.process.Holder.{Holder}
 use Rattle.kernel_rows.specs.declared.process.Row.TheVariants.{Foreign}
 use Rattle.kernel_rows.specs.Seen.{seen_holder}

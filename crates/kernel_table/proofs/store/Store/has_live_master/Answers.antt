@@ -1,7 +1,7 @@
 use Rattle.std.proofs.Common.{sym, ◌∙◌, rules, tests}
 use Rattle.std.proofs.lemmas.Iterator.Consumers.{YieldsList-from_first}
 use Rattle.std.proofs.lemmas.Iterator.Search.{any_from_yields_List}
-use Rattle.definitions.specs.Table.{is_live_master}
+use Rattle.call_laws.specs.Pieces.{is_live_master}
 use Rattle.kernel_rows.specs.Seen.{seen_holder}
 use Rattle.kernel_rows.proofs.Lists.{list_any-map}
 use Rattle.kernel_table.proofs.store.Store.has_live_master.Goals as goal

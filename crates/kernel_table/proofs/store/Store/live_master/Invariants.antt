@@ -7,5 +7,6 @@ use Rattle.kernel_table.proofs.store.Store.live_master.Given as goal
 abbrev pub invariant-loop-holder : goal.invariant-loop-holder
 invariant-loop-holder l = record {
   split : passed l.yielded ++ l.holder-iterator ≡ l.self.holders.items;
-  first : live_master l.image (seen_rows l.self.addresses.items l.self.holders.items) ≡ live_master l.image (seen_rows l.self.addresses.items l.holder-iterator);
+  first : live_master l.image (seen_rows l.self.addresses.items l.self.holders.items)
+      ≡ live_master l.image (seen_rows l.self.addresses.items l.holder-iterator);
 }

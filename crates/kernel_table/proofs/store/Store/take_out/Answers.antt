@@ -1,6 +1,7 @@
 use Rattle.std.proofs.Common.{ap, subst, sym, refl, arith}
 use Rattle.std.specs.Prelude.{IfSome}
-use Rattle.definitions.specs.Table.{is_any, is_worker, with_rows}
+use Rattle.definitions.specs.Table.{is_worker}
+use Rattle.call_laws.specs.Pieces.{is_any, with_rows}
 use Rattle.kernel_rows.specs.declared.edits.Edit.TheVariants.{Kill}
 use Rattle.kernel_table.specs.Seen.{seen}
 use Rattle.kernel_table.specs.Free.{AreFree}

@@ -17,7 +17,10 @@ module _ (c : goal.After-self-3-1) where
   place : c.args.place ≤ c.self.inside.len
   place = omega (arith, count)
 
-  now : take (c.self.inside.len + 1) (put_mid c.args.place (c.self.inside.len + 1 - c.args.place) (set c.self.inside.items c.self.inside.len c.args.listener.now) c.rotate_right.new.self) ≡ insert c.args.self.now c.args.place c.args.listener.now
+  now : take (c.self.inside.len + 1)
+      (put_mid c.args.place (c.self.inside.len + 1 - c.args.place)
+      (set c.self.inside.items c.self.inside.len c.args.listener.now) c.rotate_right.new.self)
+      ≡ insert c.args.self.now c.args.place c.args.listener.now
   now =
       take-inserted c.self.inside.items c.self.inside.len c.args.place c.args.listener.now room place c.rotate_right.new.self c.rotate_right.ensures.after
       ∙ ap (λ ls. insert ls c.args.place c.args.listener.now) c.self.view_is

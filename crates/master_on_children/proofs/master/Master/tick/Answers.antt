@@ -1,5 +1,5 @@
 use Rattle.std.proofs.Common.{List, None, Option, sym, ◌∙◌, subst}
-use Rattle.definitions.specs.Record.{Record}
+use Rattle.definitions.specs.Master.{Record}
 use Rattle.control_words.specs.declared.words.Word.{Word}
 use Rattle.master_on_children.specs.Lines.{tick_words, AreActed, IsTicked}
 use Rattle.master_on_children.proofs.Hearing.{short-acted}

@@ -2,8 +2,7 @@ use Rattle.std.proofs.Common.{true, ◌≡◌, ◌+◌, [], ◌∷◌, ◌++◌,
 use Rattle.std.proofs.lemmas.List.{length-append}
 use Rattle.vocabulary.specs.declared.reports.Entry.{Entry}
 use Rattle.vocabulary.specs.declared.calls.Answer.{Answer}
-use Rattle.definitions.specs.Exits.{after_exits}
-use Rattle.definitions.specs.Calls.{Stepped, step_with}
+use Rattle.definitions.specs.Calls.{after_exits, Stepped, step_with}
 use Rattle.definitions.specs.Run.{Moment}
 use Rattle.handover_text.specs.Reading.{handed_by}
 use Rattle.plan_executor.specs.Replays.{Replays}

@@ -1,6 +1,6 @@
 use Rattle.std.proofs.Common.{◌<◌, ◌∙◌, Some, slice_get, option_map, subst, sym, ap}
 use Rattle.std.proofs.lemmas.Option.{slice_get-map}
-use Rattle.definitions.specs.Crew.{fork_of}
+use Rattle.definitions.specs.Master.{fork_of}
 use Rattle.plan_steps.specs.Batches.{asked_call, calls_of, size_of}
 use Rattle.plan_steps.proofs.batch.Batch.get.Goals as goal
 

@@ -1,7 +1,6 @@
 use Rattle.std.proofs.Common.{◌≡◌, ◌+◌, ◌<◌, ◌≤◌, ◌^◌, ℕ, Option, Some, refl, sym, ◌∙◌, ap, subst, List, arith}
-use Rattle.definitions.specs.Tree.{Tree, reply_of, plain_reply}
+use Rattle.definitions.specs.Run.{Tree, reply_of, plain_reply, Entry, Lack, lacked_after}
 use Rattle.call_laws.specs.Lengths.{height}
-use Rattle.definitions.specs.Run.{Entry, Lack, lacked_after}
 use Rattle.plan_walk.specs.Path.{Asks}
 use Rattle.rollback_plan.specs.declared.cursor.Cursor.{Cursor}
 use Rattle.rollback_plan.specs.Bounds.{lacked_in}

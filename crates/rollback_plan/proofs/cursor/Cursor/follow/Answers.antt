@@ -1,5 +1,6 @@
 use Rattle.std.proofs.Common.{◌≡◌, Option, Some, IfSome, true, sym, ◌∙◌, ap, subst, option_map}
-use Rattle.definitions.specs.Tree.{among, reply_of}
+use Rattle.call_laws.specs.Pieces.{among}
+use Rattle.definitions.specs.Run.{reply_of}
 use Rattle.plan_steps.specs.declared.step.PlanEdge.{PlanEdge}
 use Rattle.plan_steps.specs.Steps.{edge_for, is_within}
 use Rattle.rollback_plan.specs.Cursors.{led_to, left_after}

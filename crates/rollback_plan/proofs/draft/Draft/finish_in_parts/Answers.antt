@@ -1,6 +1,6 @@
 use Rattle.std.proofs.Common.{◌≡◌, false, true, sym, ◌∙◌, ap, arith}
 use Rattle.std.proofs.lemmas.Bool.{and_from}
-use Rattle.definitions.specs.Tree.{Tree}
+use Rattle.definitions.specs.Run.{Tree}
 use Rattle.plan_steps.specs.Fit.{is_fit}
 use Rattle.definitions.specs.Plans.{graft}
 use Rattle.plan_steps.specs.Stretches.{longest_of}

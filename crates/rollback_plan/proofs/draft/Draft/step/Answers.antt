@@ -1,4 +1,5 @@
-use Rattle.std.proofs.Common.{◌≡◌, ◌+◌, ◌≤◌, ℕ, Bool, true, false, cond, [], ◌∷◌, ◌++◌, List, length, arith, refl, zero-add, ◌∙◌, ap, subst, is_ok, IsErrOf, IsErrAnd, ◌↔◌, Ok, Err, Result}
+use Rattle.std.proofs.Common.{◌≡◌, ◌+◌, ◌≤◌, ℕ, Bool, true, false, cond, [], ◌∷◌, ◌++◌, List, length, arith, refl}
+use Rattle.std.proofs.Common.{zero-add, ◌∙◌, ap, subst, is_ok, IsErrOf, IsErrAnd, ◌↔◌, Ok, Err, Result}
 use Rattle.plan_steps.proofs.StepTrees.{length-trees, trees_after-push, all_lead_back-push}
 use Rattle.std.proofs.lemmas.Bool.{and_from}
 use Rattle.plan_steps.specs.Steps.{leads_back, all_lead_back, trees_after}
@@ -14,7 +15,8 @@ few_more true old new e h = omega arith
 few_more false old new e h = omega arith
 
 -- after a push that may have failed, each edge leads back
-still_back : (ok : Bool) (old new : List Step) (s : Step) → new ≡ cond ok (old ++ s ∷ []) old → all_lead_back 0 old ≡ true → leads_back (length old) s ≡ true → all_lead_back 0 new ≡ true
+still_back : (ok : Bool) (old new : List Step) (s : Step) → new ≡ cond ok (old ++ s ∷ []) old →
+    all_lead_back 0 old ≡ true → leads_back (length old) s ≡ true → all_lead_back 0 new ≡ true
 still_back true old new s e h k = ap (all_lead_back 0) e ∙ (all_lead_back-push 0 old s ∙ and_from (all_lead_back 0 old) (leads_back (0 + length old) s) h (ap (λ n. leads_back n s) (zero-add (length old)) ∙ k))
 still_back false old new s e h k = ap (all_lead_back 0) e ∙ h
 

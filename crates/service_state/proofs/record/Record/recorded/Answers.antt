@@ -1,5 +1,5 @@
 use Rattle.std.proofs.Common.{Some, ap, sym, ◌∙◌}
-use Rattle.definitions.specs.Record.{Record as Known}
+use Rattle.definitions.specs.Master.{Record as Known}
 use Rattle.definitions.specs.After.{reported}
 use Rattle.std.specs.Bool.{then_some}
 use Rattle.service_state.specs.Setups.{on_basis}
