@@ -184,7 +184,7 @@ def record_after(r: Record, t: Target, report: Report, pid: int) -> Record | Non
     return record_from(named_record(report.outcome, r, t), report, pid)
 
 
-# Who reigns then
+# The master that reigns then
 
 
 def master_of(r: Record | None, t: Table) -> int | None:

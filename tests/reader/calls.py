@@ -208,7 +208,7 @@ class Handover(NamedTuple):
     pid_file: FilePath | None
 
 
-# What a new master is handed: a handover, or nothing that is one.
+# What a new master is handed: a handover, or something that is not one.
 Handed = Handover | None
 
 
@@ -245,8 +245,8 @@ def own_step(handed: Handed, image: int, c: Caller, call: Call, t: Table) -> Ste
     the others."""
     match call:
         case OpenAt(a):
-            # A new socket of the address, unless somebody holds the address or the caller has as many descriptors as
-            # it may.
+            # A new socket of the address, unless a process holds the address or the caller is at its limit of
+            # descriptors.
             if is_held(a, t.rows):
                 return Stepped(Answer.InUse, t)
             if not len(c.holds) < t.limits.descriptors:

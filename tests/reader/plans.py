@@ -60,7 +60,7 @@ def then_edge(rest: Tree) -> Branches:
 
 
 def await_any_edges(rest: Tree, late: Tree) -> Branches:
-    """Whether the worker is ready or gone is no matter."""
+    """The worker may be ready or gone."""
     return on((Reply.IsReady, Reply.Gone), rest, on((Reply.Late,), late))
 
 
@@ -370,7 +370,7 @@ def new_part(crew: Crew, held: Addresses, wanted: Addresses, n: int) -> Tree:
 
 def old_part(by: int, crew: Crew, ready: Numbers, rounds: int) -> Tree:
     """The old master meanwhile mends its own workers: it counts those that were ready, and starts what is lacking, in
-    a number of rounds; what the last count says is no matter."""
+    a number of rounds. What the last count says does not matter."""
     if rounds == 0:
         return Does(by, Make(Census(crew.generation)), ready, on((Reply.Full, Reply.Short), Ends(End.Join)))
     again = round_of(by, crew, old_part(by, crew, ready, rounds - 1))

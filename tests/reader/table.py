@@ -1,4 +1,4 @@
-"""The table of processes: who runs, what each holds, which files are there, and the service of a table (Table.antt).
+"""The table of processes: which run, what each holds, which files exist, and the service of a table (Table.antt).
 
 Address and FilePath are in addresses.py, since vocabulary.py needs them too. A service is a map by extension: each
 address that is a key goes to the count of each generation. Here it is a dictionary, and a generation that has no count

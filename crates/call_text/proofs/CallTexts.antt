@@ -4,7 +4,7 @@ use Rattle.std.specs.Prelude.{codes, bytes_eq, option_map, option_and_then}
 use Rattle.std.specs.Fmt.{decimal}
 use Rattle.std.proofs.lemmas.Bool.Decides.{nat_tests}
 use Rattle.listener_set.specs.declared.generation.Generation.{Generation}
-use Rattle.plain_text.specs.NumberText.{number_of}
+use Rattle.plain_text.specs.NumberText.{number_in}
 use Rattle.vocabulary.specs.declared.calls.Call.{Call}
 use Rattle.vocabulary.specs.declared.calls.Call.TheVariants as call
 use Rattle.call_text.specs.declared.verbs.Verb.{Verb}
@@ -15,9 +15,9 @@ use Rattle.call_text.specs.Reading.{worker_of}
 use Rattle.listener_set.specs.GenerationText.{generation_text}
 use Rattle.call_text.specs.CallText.{master_text, call_text, call_line, worker_text, forked_text}
 use Rattle.call_text.specs.Ranges.{IsNumber, IsCall, IsCallLine, IsWorker}
-use Rattle.call_text.specs.CallReading.{fork_from, fork_of, verb_text, all_verbs, verb_of, about, bare_of, call_from, call_of, master_of, line_of}
+use Rattle.call_text.specs.CallReading.{fork_from, fork_in, verb_text, all_verbs, verb_of, about, bare_of, call_from, call_in, master_in, line_of}
 use Rattle.plain_text.proofs.CutTexts.{lacks, cut_found, cut_at}
-use Rattle.call_text.proofs.Readers.{IsReader, reads, mapped, then, joined_reads, find_found, number_reads, same_bytes}
+use Rattle.call_text.proofs.Readers.{IsReader, reads, mapped, then, both_reads, find_found, number_reads, same_bytes}
 use Rattle.call_text.proofs.ForkTexts.{forked_reads, forked_text_is}
 use Rattle.call_text.proofs.PartTexts.{number_lacks, generation_reads, worker_reads, address_reads, path_reads, paths_reads}
 
@@ -119,7 +119,7 @@ bare_found text c e = at (bytes_eq text (codes "adopt")) refl (bytes_eq text (co
         sym (ap (λ a. cond a (Some call.Adopt) (cond (bytes_eq text (codes "leave")) (Some call.Leave) None)) k ∙ ap (λ b. cond b (Some call.Leave) None) l) ∙ e in
         absurd cc
 
-call_found : (text : List ℕ) (c : Call) → call_of text ≡ Some c → IsCall c × (text ≡ call_text c)
+call_found : (text : List ℕ) (c : Call) → call_in text ≡ Some c → IsCall c × (text ≡ call_text c)
 call_found text c e = at (cut 32 text) refl e
   where
     at : (o : Option (List ℕ × List ℕ)) → cut 32 text ≡ o → call_from text o ≡ Some c → IsCall c × (text ≡ call_text c)
@@ -131,7 +131,7 @@ call_found text c e = at (cut 32 text) refl e
         (got.0, cut_found 32 text parts k ∙ ap (λ t. t ++ 32 ∷ parts.1) is ∙ got.1)
 
 -- ---- a call that was written
-behind_verb : (v : Verb) (rest : List ℕ) (o : Option Call) → about v rest ≡ o → call_of (verb_text v ++ 32 ∷ rest) ≡ o
+behind_verb : (v : Verb) (rest : List ℕ) (o : Option Call) → about v rest ≡ o → call_in (verb_text v ++ 32 ∷ rest) ≡ o
 behind_verb v rest o e =
     ap (call_from (verb_text v ++ 32 ∷ rest)) (cut_at 32 (verb_text v) rest (verb_lacks v))
     ∙ ap (option_and_then (λ w. about w rest)) (verb_again v) ∙ e
@@ -140,12 +140,12 @@ worker_only : (make : Generation → ℕ → Call) (g : Generation) (nr : ℕ) �
     option_map (λ (w : Generation × ℕ). make w.0 w.1) (worker_of (worker_text g nr)) ≡ Some (make g nr)
 worker_only make g nr h = ap (option_map (λ (w : Generation × ℕ). make w.0 w.1)) (worker_reads.only (g, nr) h)
 
-call_only : (c : Call) → IsCall c → call_of (call_text c) ≡ Some c
+call_only : (c : Call) → IsCall c → call_in (call_text c) ≡ Some c
 call_only (call.OpenAt a) h = behind_verb verb.Open a _ (ap (option_map (λ a. call.OpenAt a)) (address_reads.only a h))
 call_only (call.CloseAt a) h = behind_verb verb.Close a _ (ap (option_map (λ a. call.CloseAt a)) (address_reads.only a h))
 call_only (call.Fork g k fds) h =
     behind_verb verb.Fork (forked_text g k fds) _
-    (ap fork_of (sym (forked_text_is g k fds)) ∙ ap (option_map fork_from) (forked_reads.only (g, (k, fds)) (h.0.0, (h.0.1, h.1))))
+    (ap fork_in (sym (forked_text_is g k fds)) ∙ ap (option_map fork_from) (forked_reads.only (g, (k, fds)) (h.0.0, (h.0.1, h.1))))
 call_only (call.AwaitReady g k) h = behind_verb verb.AwaitReady (worker_text g k) _ (worker_only (λ g k. call.AwaitReady g k) g k h)
 call_only (call.Quit g k) h = behind_verb verb.Quit (worker_text g k) _ (worker_only (λ g k. call.Quit g k) g k h)
 call_only (call.Kill g k) h = behind_verb verb.Kill (worker_text g k) _ (worker_only (λ g k. call.Kill g k) g k h)
@@ -162,18 +162,18 @@ call_only (call.Usr1 g k) h = behind_verb verb.Usr1 (worker_text g k) _ (worker_
 call_only (call.TermMaster i) h = behind_verb verb.TermMaster (decimal i) _ (ap (option_map (λ i. call.TermMaster i)) (number_reads.only i h))
 call_only (call.Ask i) h = behind_verb verb.Ask (decimal i) _ (ap (option_map (λ i. call.Ask i)) (number_reads.only i h))
 
-pub call_reads : IsReader IsCall call_text call_of
+pub call_reads : IsReader IsCall call_text call_in
 call_reads = record { found = call_found; only = call_only }
 
 -- ---- masters
-pub master_reads : IsReader IsNumber master_text master_of
+pub master_reads : IsReader IsNumber master_text master_in
 master_reads = record { found = found; only = λ n h. number_reads.only n h }
   where
-    found : (text : List ℕ) (n : ℕ) → master_of text ≡ Some n → IsNumber n × (text ≡ master_text n)
+    found : (text : List ℕ) (n : ℕ) → master_in text ≡ Some n → IsNumber n × (text ≡ master_text n)
     found [] n e = let none : Option ℕ = None in let no : none ≡ Some n = e in absurd cc
     found (c ∷ cs) n e = at (c == 109) refl e
       where
-        at : (b : Bool) → (c == 109) ≡ b → cond b (number_of cs) None ≡ Some n → IsNumber n × (c ∷ cs ≡ master_text n)
+        at : (b : Bool) → (c == 109) ≡ b → cond b (number_in cs) None ≡ Some n → IsNumber n × (c ∷ cs ≡ master_text n)
         at true k e =
             let got = number_reads.found cs n e in
             let test : eqb c 109 ≡ true = k in
@@ -185,7 +185,7 @@ master_lacks : (n : ℕ) → IsNumber n → lacks 32 (master_text n) ≡ true
 master_lacks n h = number_lacks 32 n refl h
 
 pub line_reads : IsReader IsCallLine (λ (line : ℕ × Call). call_line line.0 line.1) line_of
-line_reads = joined_reads IsNumber IsCall master_text call_text master_of call_of 32 master_lacks master_reads call_reads
+line_reads = both_reads IsNumber IsCall master_text call_text master_in call_in 32 master_lacks master_reads call_reads
 
 pub Reads-line : (text : List ℕ) → Reads IsCallLine (λ (line : ℕ × Call). call_line line.0 line.1) text (line_of text)
 Reads-line text = reads IsCallLine (λ (line : ℕ × Call). call_line line.0 line.1) line_of line_reads text

@@ -18,10 +18,10 @@ use Rattle.plain_text.proofs.CutTexts.{lacks, cut_found, cut_at, cut_none}
 use Rattle.call_text.specs.SetText.{set_text}
 use Rattle.call_text.specs.CallText.{forked_text}
 use Rattle.call_text.specs.Ranges.{IsGeneration, IsWorkerNumber, IsShare}
-use Rattle.call_text.specs.Reading.{some_if, joined, behind, worker_number, generation_of}
+use Rattle.call_text.specs.Reading.{some_if, both_of, behind, worker_number, generation_of}
 use Rattle.call_text.specs.SetReading.{set_of}
 use Rattle.call_text.specs.CallReading.{is_descriptor, all_descriptors, descriptors_of, named_from, named_of}
-use Rattle.call_text.proofs.Readers.{IsReader, mapped, then, chosen, joined_reads, behind_found, behind_at, worker_number_reads}
+use Rattle.call_text.proofs.Readers.{IsReader, mapped, then, chosen, both_reads, behind_found, behind_at, worker_number_reads}
 use Rattle.call_text.proofs.PartTexts.{number_lacks, generation_lacks, generation_reads}
 use Rattle.call_text.proofs.SetTexts.{set_reads}
 
@@ -133,8 +133,8 @@ IsForked p = IsGeneration p.0 × IsNamed p.1
 
 pub forked_reads : IsReader IsForked
     (λ (p : Generation × (ℕ × Option (List ℕ))). generation_text p.0 ++ 32 ∷ named_text p.1.0 p.1.1)
-    (joined 32 generation_of named_of)
-forked_reads = joined_reads IsGeneration IsNamed generation_text (λ (p : ℕ × Option (List ℕ)). named_text p.0 p.1) generation_of named_of 32 (generation_lacks 32 refl refl) generation_reads named_reads
+    (both_of 32 generation_of named_of)
+forked_reads = both_reads IsGeneration IsNamed generation_text (λ (p : ℕ × Option (List ℕ)). named_text p.0 p.1) generation_of named_of 32 (generation_lacks 32 refl refl) generation_reads named_reads
 
 pub forked_text_is : (g : Generation) (nr : ℕ) (share : Option (List ℕ)) → generation_text g ++ 32 ∷ named_text nr share ≡ forked_text g nr share
 forked_text_is g nr None = refl

@@ -4,7 +4,7 @@ use Rattle.std.specs.Prelude.{⊤, option_map}
 use Rattle.std.specs.Fmt.{decimal}
 use Rattle.std.proofs.lemmas.Bool.Decides.{nat_tests}
 use Rattle.listener_set.specs.declared.generation.Generation.{Generation}
-use Rattle.plain_text.specs.NumberText.{number_of}
+use Rattle.plain_text.specs.NumberText.{number_in}
 use Rattle.vocabulary.specs.declared.names.Name.{Name}
 use Rattle.vocabulary.specs.declared.names.Name.TheVariants as name
 use Rattle.vocabulary.specs.declared.calls.Fate.{Fate}
@@ -14,20 +14,20 @@ use Rattle.call_text.specs.Words.{fate_text}
 use Rattle.call_text.specs.NameText.{worker_name, name_text}
 use Rattle.call_text.specs.Reads.{Reads}
 use Rattle.call_text.specs.Ranges.{IsNumber, IsWorkerNumber, IsWorker, IsName}
-use Rattle.call_text.specs.Reading.{joined, worker_number}
+use Rattle.call_text.specs.Reading.{both_of, worker_number}
 use Rattle.call_text.specs.NameReading.{three_of, worker_from, worker_name_of, name_of, fate_of}
-use Rattle.call_text.proofs.Readers.{IsReader, reads, mapped, joined_reads, mapped_reads, find_found, number_reads, worker_number_reads}
+use Rattle.call_text.proofs.Readers.{IsReader, reads, mapped, both_reads, mapped_reads, find_found, number_reads, worker_number_reads}
 use Rattle.call_text.proofs.PartTexts.{number_lacks}
 
 -- ---- names
-two_reads : IsReader (λ (p : ℕ × ℕ). IsNumber p.0 × IsWorkerNumber p.1) (λ (p : ℕ × ℕ). decimal p.0 ++ 46 ∷ decimal p.1) (joined 46 number_of worker_number)
+two_reads : IsReader (λ (p : ℕ × ℕ). IsNumber p.0 × IsWorkerNumber p.1) (λ (p : ℕ × ℕ). decimal p.0 ++ 46 ∷ decimal p.1) (both_of 46 number_in worker_number)
 two_reads =
-    joined_reads IsNumber IsWorkerNumber decimal decimal number_of worker_number 46 (λ n lt. number_lacks 46 n refl lt) number_reads worker_number_reads
+    both_reads IsNumber IsWorkerNumber decimal decimal number_in worker_number 46 (λ n lt. number_lacks 46 n refl lt) number_reads worker_number_reads
 
 three_reads : IsReader (λ (p : ℕ × (ℕ × ℕ)). IsNumber p.0 × (IsNumber p.1.0 × IsWorkerNumber p.1.1))
     (λ (p : ℕ × (ℕ × ℕ)). decimal p.0 ++ 46 ∷ (decimal p.1.0 ++ 46 ∷ decimal p.1.1)) three_of
 three_reads =
-    joined_reads IsNumber (λ (p : ℕ × ℕ). IsNumber p.0 × IsWorkerNumber p.1) decimal (λ (p : ℕ × ℕ). decimal p.0 ++ 46 ∷ decimal p.1) number_of (joined 46 number_of worker_number) 46
+    both_reads IsNumber (λ (p : ℕ × ℕ). IsNumber p.0 × IsWorkerNumber p.1) decimal (λ (p : ℕ × ℕ). decimal p.0 ++ 46 ∷ decimal p.1) number_in (both_of 46 number_in worker_number) 46
     (λ n lt. number_lacks 46 n refl lt) number_reads two_reads
 
 worker_name_reads : IsReader (λ (w : Generation × ℕ). IsWorker w.0 w.1) (λ (w : Generation × ℕ). worker_name w.0 w.1) worker_name_of
@@ -58,11 +58,11 @@ name_found (c ∷ cs) x e = at (c == 119) refl (c == 100) refl (c == 109) refl e
     at : (p : Bool) → (c == 119) ≡ p → (q : Bool) → (c == 100) ≡ q → (r : Bool) → (c == 109) ≡ r →
         cond p (option_map (λ (w : Generation × ℕ). name.Worker w.0 w.1) (worker_name_of cs))
         (cond q (option_map (λ (w : Generation × ℕ). name.Draining w.0 w.1) (worker_name_of cs))
-        (cond r (option_map (λ i. name.Master i) (number_of cs)) None)) ≡ Some x → IsName x × (c ∷ cs ≡ name_text x)
+        (cond r (option_map (λ i. name.Master i) (number_in cs)) None)) ≡ Some x → IsName x × (c ∷ cs ≡ name_text x)
     at true k q l r m e = worker (λ g k. name.Worker g k) 119 (byte_is c 119 k) (λ g k h. (h, refl)) e
     at false k true l r m e = worker (λ g k. name.Draining g k) 100 (byte_is c 100 l) (λ g k h. (h, refl)) e
     at false k false l true m e =
-        let i = mapped (λ i. name.Master i) (number_of cs) x e in
+        let i = mapped (λ i. name.Master i) (number_in cs) x e in
         let got = number_reads.found cs i.0 i.1 in
         let W : Name → Type 0 = λ x. IsName x × (c ∷ cs ≡ name_text x) in
         subst W i.2 (got.0, ap (λ b. b ∷ cs) (byte_is c 109 m) ∙ ap (λ t. 109 ∷ t) got.1)

@@ -10,7 +10,7 @@ use Rattle.std.proofs.lemmas.List.{length-append, take-append-drop}
 use Rattle.std.proofs.Math.Seq.{take-append_seam, drop-append_seam}
 use Rattle.listener_set.specs.declared.generation.Generation.{Generation}
 use Rattle.listener_set.specs.declared.address.AddressRefusal.{AddressRefusal}
-use Rattle.plain_text.specs.NumberText.{number_of}
+use Rattle.plain_text.specs.NumberText.{number_in}
 use Rattle.listener_set.specs.AddressText.{reading, check, accepted as taken, IsAddress}
 use Rattle.listener_set.specs.PathText.{is_path, begins_with_slash}
 use Rattle.listener_set.proofs.AddressGrammar.{grammar}
@@ -18,10 +18,11 @@ use Rattle.plain_text.proofs.NumberTextLemmas.{both}
 use Rattle.listener_set.specs.GenerationText.{generation_text}
 use Rattle.call_text.specs.CallText.{worker_text}
 use Rattle.call_text.specs.Ranges.{IsNumber, IsWorkerNumber, IsGeneration, IsWorker, IsPath}
-use Rattle.call_text.specs.Reading.{some_if, joined, worker_number, generation_from, generation_of, worker_of, accepted}
+use Rattle.call_text.specs.Reading.{some_if, both_of, worker_number, accepted}
+use Rattle.call_text.specs.Reading.{generation_from, generation_of, worker_of}
 use Rattle.call_text.specs.Reading.{address_of, is_suffixed, suffixed_of, path_of, paths_of}
 use Rattle.plain_text.proofs.CutTexts.{lacks, lacks-append, lacks-all, lacks-decimal}
-use Rattle.call_text.proofs.Readers.{IsReader, joined_reads, mapped_reads, chosen, number_reads, worker_number_reads, same_bytes}
+use Rattle.call_text.proofs.Readers.{IsReader, both_reads, mapped_reads, chosen, number_reads, worker_number_reads, same_bytes}
 
 -- ---- generations and workers
 pub number_lacks : (b n : ℕ) → is_ascii_digit b ≡ false → IsNumber n → lacks b (decimal n) ≡ true
@@ -29,9 +30,9 @@ number_lacks b n off lt = lacks-decimal b n off (omega (arith, lt))
 
 pub generation_reads : IsReader IsGeneration generation_text generation_of
 generation_reads =
-    mapped_reads (λ (p : ℕ × ℕ). IsNumber p.0 × IsNumber p.1) IsGeneration (λ (p : ℕ × ℕ). decimal p.0 ++ 46 ∷ decimal p.1) generation_text (joined 46 number_of number_of) generation_from (λ (g : Generation). (g.image, g.config))
+    mapped_reads (λ (p : ℕ × ℕ). IsNumber p.0 × IsNumber p.1) IsGeneration (λ (p : ℕ × ℕ). decimal p.0 ++ 46 ∷ decimal p.1) generation_text (both_of 46 number_in number_in) generation_from (λ (g : Generation). (g.image, g.config))
     (λ p h. (h, refl)) (λ g h. (h, refl))
-    (joined_reads IsNumber IsNumber decimal decimal number_of number_of 46 (λ n lt. number_lacks 46 n refl lt) number_reads number_reads)
+    (both_reads IsNumber IsNumber decimal decimal number_in number_in 46 (λ n lt. number_lacks 46 n refl lt) number_reads number_reads)
 
 pub generation_lacks : (b : ℕ) → is_ascii_digit b ≡ false → lacks b (codes ".") ≡ true → (g : Generation) → IsGeneration g → lacks b (generation_text g) ≡ true
 generation_lacks b off dot g h =
@@ -40,7 +41,7 @@ generation_lacks b off dot g h =
 
 pub worker_reads : IsReader (λ (w : Generation × ℕ). IsWorker w.0 w.1) (λ (w : Generation × ℕ). worker_text w.0 w.1) worker_of
 worker_reads =
-    joined_reads IsGeneration IsWorkerNumber generation_text decimal generation_of worker_number 32 (generation_lacks 32 refl refl) generation_reads worker_number_reads
+    both_reads IsGeneration IsWorkerNumber generation_text decimal generation_of worker_number 32 (generation_lacks 32 refl refl) generation_reads worker_number_reads
 
 -- ---- addresses
 pub address_reads : IsReader IsAddress (λ a. a) address_of
@@ -117,4 +118,4 @@ path_lacks path h = elim h [ inl is ↦ plain path is | inr stem ↦ ap (lacks 3
         lacks-all is_ascii_graphic 32 refl path (both (leb (length path) 100 && begins_with_slash path) (list_all is_ascii_graphic path) is).1
 
 pub paths_reads : IsReader (λ (p : List ℕ × List ℕ). IsPath p.0 × IsPath p.1) (λ (p : List ℕ × List ℕ). p.0 ++ 32 ∷ p.1) paths_of
-paths_reads = joined_reads IsPath IsPath (λ p. p) (λ p. p) path_of path_of 32 path_lacks path_reads path_reads
+paths_reads = both_reads IsPath IsPath (λ p. p) (λ p. p) path_of path_of 32 path_lacks path_reads path_reads

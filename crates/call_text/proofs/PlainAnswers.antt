@@ -8,14 +8,14 @@ use Rattle.definitions.specs.Run.{reply_of}
 use Rattle.call_text.specs.CallText.{answer_word}
 use Rattle.call_text.specs.Words.{reply_text}
 use Rattle.call_text.specs.Reading.{◌>>=◌}
-use Rattle.call_text.specs.AnswerReading.{is_answer, plain_answers, plain_of, plain_answer, plain_replies, tells}
+use Rattle.call_text.specs.AnswerReading.{is_answer, plain_answers, plain_of, plain_answer, plain_replies, is_reply}
 
 step : (text : List ℕ) (r : Reply) (a : Answer) (rs : List Reply) (more : List Answer) → plain_answer r ≡ Some a →
-    tells text r ≡ is_answer text a → (find (tells text) rs >>= plain_answer) ≡ find (is_answer text) more →
-    (find (tells text) (r ∷ rs) >>= plain_answer) ≡ find (is_answer text) (a ∷ more)
+    is_reply text r ≡ is_answer text a → (find (is_reply text) rs >>= plain_answer) ≡ find (is_answer text) more →
+    (find (is_reply text) (r ∷ rs) >>= plain_answer) ≡ find (is_answer text) (a ∷ more)
 step text r a rs more one same rest =
-    subst (λ (b : Bool). (cond b (Some r) (find (tells text) rs) >>= plain_answer) ≡ cond (is_answer text a) (Some a) (find (is_answer text) more)) (sym same)
-    (elim (is_answer text a) as (λ b. (cond b (Some r) (find (tells text) rs) >>= plain_answer) ≡ cond b (Some a) (find (is_answer text) more)) [
+    subst (λ (b : Bool). (cond b (Some r) (find (is_reply text) rs) >>= plain_answer) ≡ cond (is_answer text a) (Some a) (find (is_answer text) more)) (sym same)
+    (elim (is_answer text a) as (λ b. (cond b (Some r) (find (is_reply text) rs) >>= plain_answer) ≡ cond b (Some a) (find (is_answer text) more)) [
       | true ↦ one
       | false ↦ rest
     ])
@@ -25,15 +25,15 @@ abbrev Agree : List ℕ → List Reply → List Answer → Type 0
 Agree text [] [] = Unit {0}
 Agree text [] (a ∷ more) = ⊥
 Agree text (r ∷ rs) [] = ⊥
-Agree text (r ∷ rs) (a ∷ more) = (plain_answer r ≡ Some a) × (tells text r ≡ is_answer text a) × Agree text rs more
+Agree text (r ∷ rs) (a ∷ more) = (plain_answer r ≡ Some a) × (is_reply text r ≡ is_answer text a) × Agree text rs more
 
-found : (text : List ℕ) (rs : List Reply) (more : List Answer) → Agree text rs more → (find (tells text) rs >>= plain_answer) ≡ find (is_answer text) more
+found : (text : List ℕ) (rs : List Reply) (more : List Answer) → Agree text rs more → (find (is_reply text) rs >>= plain_answer) ≡ find (is_answer text) more
 found text [] [] all = refl
 found text [] (a ∷ more) all = absurd all
 found text (r ∷ rs) [] all = absurd all
 found text (r ∷ rs) (a ∷ more) all = step text r a rs more all.0 all.1 (found text rs more all.2)
 
-pub told : (text : List ℕ) → (find (tells text) plain_replies >>= plain_answer) ≡ plain_of text
+pub told : (text : List ℕ) → (find (is_reply text) plain_replies >>= plain_answer) ≡ plain_of text
 told text = found text plain_replies plain_answers (refl, refl, (refl, refl, (refl, refl, (refl, refl, (refl, refl, (refl, refl, (refl, refl, (refl, refl, (refl, refl, (refl, refl, (refl, refl, (refl, refl, (refl, refl, (refl, refl, (refl, refl, (refl, refl, (refl, refl, (refl, refl, (refl, refl, tt)))))))))))))))))))
 
 -- an answer's word is its reply's, unless it is a count

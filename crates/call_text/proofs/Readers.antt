@@ -3,11 +3,11 @@ use Rattle.std.proofs.Common.{◌≡◌, ℕ, ◌≤◌, ◌<◌, ◌^◌, subst
 use Rattle.std.specs.Prelude.{IfSome, option_map, option_and_then, find, bytes_eq}
 use Rattle.std.specs.Cmp.Lexicographic.{bytes_decides}
 use Rattle.std.specs.Fmt.{decimal}
-use Rattle.plain_text.proofs.NumberTextLemmas.{decimal-number_of, number_of-decimal, decimal-number_within, number_within-decimal}
+use Rattle.plain_text.proofs.NumberTextLemmas.{decimal-number_in, number_in-decimal, decimal-number_within, number_within-decimal}
 use Rattle.call_text.specs.Reads.{Reads}
-use Rattle.plain_text.specs.NumberText.{number_of, number_within, count_of}
+use Rattle.plain_text.specs.NumberText.{number_in, number_within, count_of}
 use Rattle.plain_text.specs.Cuts.{cut}
-use Rattle.call_text.specs.Reading.{some_if, joined, behind, worker_number}
+use Rattle.call_text.specs.Reading.{some_if, both_of, behind, worker_number}
 use Rattle.call_text.specs.Ranges.{IsNumber, IsWorkerNumber, IsCount}
 use Rattle.plain_text.proofs.CutTexts.{lacks, cut_found, cut_at}
 
@@ -44,9 +44,9 @@ bytes_same xs = (bytes_decides xs xs).1 refl
 
 -- ---- two parts with a byte between them
 module _ {A B : Type 0} (P : A → Type 0) (Q : B → Type 0) (f : A → List ℕ) (g : B → List ℕ) (r : List ℕ → Option A) (s : List ℕ → Option B) where
-  pub joined_reads : (b : ℕ) → ((v : A) → P v → lacks b (f v) ≡ true) → IsReader P f r → IsReader Q g s →
-      IsReader (λ (p : A × B). P p.0 × Q p.1) (λ (p : A × B). f p.0 ++ b ∷ g p.1) (joined b r s)
-  joined_reads b apart hr hs = record {
+  pub both_reads : (b : ℕ) → ((v : A) → P v → lacks b (f v) ≡ true) → IsReader P f r → IsReader Q g s →
+      IsReader (λ (p : A × B). P p.0 × Q p.1) (λ (p : A × B). f p.0 ++ b ∷ g p.1) (both_of b r s)
+  both_reads b apart hr hs = record {
     found = λ text p e.
         let parts = then (λ (q : List ℕ × List ℕ). option_and_then (λ v. option_and_then (λ w. Some (v, w)) (s q.1)) (r q.0)) (cut b text) p e in
         let left = then (λ v. option_and_then (λ w. Some (v, w)) (s parts.0.1)) (r parts.0.0) p parts.2 in
@@ -103,10 +103,10 @@ module _ {A : Type 0} (f : A → List ℕ) where
       at false is e again = again e
 
 -- ---- numbers
-pub number_reads : IsReader IsNumber decimal number_of
+pub number_reads : IsReader IsNumber decimal number_in
 number_reads = record {
-  found = λ text n e. let got = decimal-number_of text n e in (got.1, got.0);
-  only = λ n lt. number_of-decimal n lt;
+  found = λ text n e. let got = decimal-number_in text n e in (got.1, got.0);
+  only = λ n lt. number_in-decimal n lt;
 }
 
 pub within_reads : (least most : ℕ) → most < 2 ^ 32 → IsReader (λ n. (least ≤ n) × (n ≤ most)) decimal (number_within least most)

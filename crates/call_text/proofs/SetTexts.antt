@@ -14,7 +14,7 @@ use Rattle.call_text.specs.Reads.{Reads}
 use Rattle.plain_text.specs.Cuts.{cut}
 use Rattle.call_text.specs.Reading.{some_if, worker_number}
 use Rattle.call_text.specs.declared.sets.SetReader.{SetReader}
-use Rattle.call_text.specs.SetReading.{is_comma, several_of, run_from, run_of, begun, numbers_in, with_numbers, with_part, with_parts, set_of}
+use Rattle.call_text.specs.SetReading.{is_comma, several_of, run_from, run_in, begun, numbers_in, with_numbers, with_part, with_parts, set_of}
 use Rattle.plain_text.proofs.CutTexts.{with_first, cut-cons, cut_found, cut_at, cut_none, lacks, lacks-append}
 use Rattle.call_text.proofs.Readers.{IsReader, reads, mapped, then, chosen, same_bytes, worker_number_reads}
 use Rattle.call_text.proofs.PartTexts.{number_lacks}
@@ -74,7 +74,7 @@ several_found first last r e =
     let W : ℕ × ℕ → Type 0 = λ r. IsRun r × (first ++ 45 ∷ last ≡ text_of_run r) in
     subst W is.1 ((omega (arith, lt), two.0), ap (λ t. t ++ 45 ∷ last) one.1 ∙ ap (λ t. decimal f.0 ++ 45 ∷ t) two.1 ∙ sym (several f.0 l.0 lt))
 
-run_found : (text : List ℕ) (r : ℕ × ℕ) → run_of text ≡ Some r → IsRun r × (text ≡ text_of_run r)
+run_found : (text : List ℕ) (r : ℕ × ℕ) → run_in text ≡ Some r → IsRun r × (text ≡ text_of_run r)
 run_found text r e = at (cut 45 text) refl e
   where
     at : (o : Option (List ℕ × List ℕ)) → cut 45 text ≡ o → run_from text o ≡ Some r → IsRun r × (text ≡ text_of_run r)
@@ -90,16 +90,16 @@ run_found text r e = at (cut 45 text) refl e
 dashless : (n : ℕ) → n < 1024 → lacks 45 (decimal n) ≡ true
 dashless n lt = number_lacks 45 n refl (omega (arith, lt))
 
-run_only : (r : ℕ × ℕ) → IsRun r → run_of (text_of_run r) ≡ Some r
+run_only : (r : ℕ × ℕ) → IsRun r → run_in (text_of_run r) ≡ Some r
 run_only r h = at (eqb r.0 r.1) refl
   where
-    at : (b : Bool) → eqb r.0 r.1 ≡ b → run_of (text_of_run r) ≡ Some r
+    at : (b : Bool) → eqb r.0 r.1 ≡ b → run_in (text_of_run r) ≡ Some r
     at true e =
         let in_order : r.0 ≤ r.1 = h.0 in
         let small : r.1 < 1024 = h.1 in
         let same : r.0 ≡ r.1 = grind (arith, nat_tests) in
         let lt : r.0 < 1024 = omega (arith, same, small) in
-        ap run_of (ap (λ b. cond b (decimal r.0) (decimal r.0 ++ 45 ∷ decimal r.1)) e)
+        ap run_in (ap (λ b. cond b (decimal r.0) (decimal r.0 ++ 45 ∷ decimal r.1)) e)
         ∙ ap (run_from (decimal r.0)) (cut_none 45 (decimal r.0) (dashless r.0 lt))
         ∙ ap (option_map (λ n. (n, n))) (worker_number_reads.only r.0 lt)
         ∙ ap (λ n. Some (r.0, n)) same
@@ -109,7 +109,7 @@ run_only r h = at (eqb r.0 r.1) refl
         let lt : r.0 < r.1 = grind (arith, nat_tests) in
         let test : ltb r.0 r.1 ≡ true = grind (arith, nat_tests) in
         let low : r.0 < 1024 = omega (arith, lt, small) in
-        ap run_of (ap (λ b. cond b (decimal r.0) (decimal r.0 ++ 45 ∷ decimal r.1)) e)
+        ap run_in (ap (λ b. cond b (decimal r.0) (decimal r.0 ++ 45 ∷ decimal r.1)) e)
         ∙ ap (run_from (decimal r.0 ++ 45 ∷ decimal r.1)) (cut_at 45 (decimal r.0) (decimal r.1) (dashless r.0 low))
         ∙ ap (option_and_then (λ f. option_and_then (λ l. some_if (ltb f l) (f, l)) (worker_number (decimal r.1)))) (worker_number_reads.only r.0 low)
         ∙ ap (option_and_then (λ l. some_if (ltb r.0 l) (r.0, l))) (worker_number_reads.only r.1 small)
@@ -141,7 +141,7 @@ runs_read [] s t below e =
     record { runs = []; written = refl; in_order = tt; sum_up = ap (λ (x : SetReader). x.numbers) (sym is) ∙ sym (append-nil s.numbers) }
 runs_read (part ∷ parts) s t below e =
     let next = then (λ u. with_parts u parts) (with_part s part) t e in
-    let run = then (λ r. some_if (leb s.least r.0) (with_numbers s r)) (run_of part) next.0 next.1 in
+    let run = then (λ r. some_if (leb s.least r.0) (with_numbers s r)) (run_in part) next.0 next.1 in
     let fits = chosen (leb s.least run.0.0) (with_numbers s run.0) next.0 run.2 in
     let got = run_found part run.0 run.1 in
     let test : leb s.least run.0.0 ≡ true = fits.0 in

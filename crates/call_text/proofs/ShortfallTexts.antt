@@ -10,7 +10,7 @@ use Rattle.std.proofs.lemmas.Bool.Decides.{nat_tests}
 use Rattle.std.proofs.lemmas.List.{take_all}
 use Rattle.std.proofs.lemmas.List.Splits.{join_with_byte-slice_split}
 use Rattle.listener_set.specs.Numbers.{AreBelow}
-use Rattle.plain_text.specs.NumberText.{number_of}
+use Rattle.plain_text.specs.NumberText.{number_in}
 use Rattle.plain_text.specs.Cuts.{cut}
 use Rattle.plain_text.proofs.CutTexts.{lacks, lacks-append, cut_at, cut_none}
 use Rattle.call_text.specs.Ranges.{AreShortfalls}
@@ -58,7 +58,7 @@ counts_read [] ns ms fits e =
     record { counts = []; written = refl; within = tt; sum_up = sym is ∙ sym (append-nil ns); most = subst (λ xs. length xs ≤ 16) is fits }
 counts_read (text ∷ texts) ns ms fits e =
     let next = then (λ xs. with_counts xs texts) (with_count ns text) ms e in
-    let n = then (λ n. some_if (ltb (length ns) 16) (ns ++ n ∷ [])) (number_of text) next.0 next.1 in
+    let n = then (λ n. some_if (ltb (length ns) 16) (ns ++ n ∷ [])) (number_in text) next.0 next.1 in
     let is = chosen (ltb (length ns) 16) (ns ++ n.0 ∷ []) next.0 n.2 in
     let got = number_reads.found text n.0 n.1 in
     let test : ltb (length ns) 16 ≡ true = is.0 in

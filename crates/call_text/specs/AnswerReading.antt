@@ -40,8 +40,8 @@ plain_replies =
     ∷ reply.Late ∷ reply.Spawned ∷ reply.NoImage ∷ reply.Adopted ∷ reply.Refused ∷ reply.IoFault ∷ reply.IsAlive ∷ reply.Go ∷ reply.Back ∷ reply.MasterGone ∷ []
 
 -- whether a word tells this reply
-abbrev pub tells : List ℕ → Reply → Bool
-tells text r = bytes_eq (reply_text r) text
+abbrev pub is_reply : List ℕ → Reply → Bool
+is_reply text r = bytes_eq (reply_text r) text
 
 -- the answer of one word that gives a reply
 abbrev pub plain_answer : Reply → Option Answer

@@ -1,14 +1,14 @@
 -- What reading a call gives, part by part.
 use Rattle.std.specs.Prelude.{ℕ, ◌==◌, nat_le, nat_lt, Bool, ◌&&◌, List, [], ◌∷◌, Option, Some, None, option_map, find, bytes_eq, codes, if◌then◌else◌}
 use Rattle.std.specs.List.{list_all}
-use Rattle.plain_text.specs.NumberText.{number_of}
+use Rattle.plain_text.specs.NumberText.{number_in}
 use Rattle.listener_set.specs.declared.generation.Generation.{Generation}
 use Rattle.vocabulary.specs.declared.calls.Call.{Call}
 use Rattle.vocabulary.specs.declared.calls.Call.TheVariants as call
 use Rattle.call_text.specs.declared.verbs.Verb.{Verb}
 use Rattle.call_text.specs.declared.verbs.Verb.TheVariants as verb
 use Rattle.plain_text.specs.Cuts.{cut}
-use Rattle.call_text.specs.Reading.{◌>>=◌, some_if, joined, behind, worker_number, generation_of, worker_of, address_of, path_of, paths_of}
+use Rattle.call_text.specs.Reading.{◌>>=◌, some_if, both_of, behind, worker_number, generation_of, worker_of, address_of, path_of, paths_of}
 use Rattle.call_text.specs.SetReading.{set_of}
 
 abbrev pub verb_text : Verb → List ℕ
@@ -68,8 +68,8 @@ named_of text = named_from text (cut 32 text)
 abbrev pub fork_from : Generation × (ℕ × Option (List ℕ)) → Call
 fork_from p = call.Fork p.0 p.1.0 p.1.1
 
-abbrev pub fork_of : List ℕ → Option Call
-fork_of text = option_map fork_from (joined 32 generation_of named_of text)
+abbrev pub fork_in : List ℕ → Option Call
+fork_in text = option_map fork_from (both_of 32 generation_of named_of text)
 
 ---- Calls
 
@@ -77,20 +77,20 @@ fork_of text = option_map fork_from (joined 32 generation_of named_of text)
 abbrev pub about : Verb → List ℕ → Option Call
 about verb.Open rest = option_map (λ a. call.OpenAt a) (address_of rest)
 about verb.Close rest = option_map (λ a. call.CloseAt a) (address_of rest)
-about verb.Fork rest = fork_of rest
+about verb.Fork rest = fork_in rest
 about verb.AwaitReady rest = option_map (λ w. call.AwaitReady w.0 w.1) (worker_of rest)
 about verb.Quit rest = option_map (λ w. call.Quit w.0 w.1) (worker_of rest)
 about verb.Kill rest = option_map (λ w. call.Kill w.0 w.1) (worker_of rest)
 about verb.Census rest = option_map (λ g. call.Census g) (generation_of rest)
 about verb.AwaitGone rest = option_map (λ w. call.AwaitGone w.0 w.1) (worker_of rest)
-about verb.SpawnMaster rest = option_map (λ i. call.SpawnMaster i) (number_of rest)
+about verb.SpawnMaster rest = option_map (λ i. call.SpawnMaster i) (number_in rest)
 about verb.WritePid rest = option_map (λ p. call.WritePid p) (path_of rest)
 about verb.MovePid rest = option_map (λ p. call.MovePid p.0 p.1) (paths_of rest)
 about verb.RemovePid rest = option_map (λ p. call.RemovePid p) (path_of rest)
-about verb.Alive rest = option_map (λ i. call.Alive i) (number_of rest)
+about verb.Alive rest = option_map (λ i. call.Alive i) (number_in rest)
 about verb.Usr1 rest = option_map (λ w. call.Usr1 w.0 w.1) (worker_of rest)
-about verb.TermMaster rest = option_map (λ i. call.TermMaster i) (number_of rest)
-about verb.Ask rest = option_map (λ i. call.Ask i) (number_of rest)
+about verb.TermMaster rest = option_map (λ i. call.TermMaster i) (number_in rest)
+about verb.Ask rest = option_map (λ i. call.Ask i) (number_in rest)
 
 -- a call of one word
 abbrev pub bare_of : List ℕ → Option Call
@@ -100,12 +100,12 @@ abbrev pub call_from : List ℕ → Option (List ℕ × List ℕ) → Option Cal
 call_from text None = bare_of text
 call_from text (Some parts) = verb_of parts.0 >>= (λ v. about v parts.1)
 
-abbrev pub call_of : List ℕ → Option Call
-call_of text = call_from text (cut 32 text)
+abbrev pub call_in : List ℕ → Option Call
+call_in text = call_from text (cut 32 text)
 
-abbrev pub master_of : List ℕ → Option ℕ
-master_of [] = None
-master_of (c ∷ cs) = if c == 109 then number_of cs else None
+abbrev pub master_in : List ℕ → Option ℕ
+master_in [] = None
+master_in (c ∷ cs) = if c == 109 then number_in cs else None
 
 abbrev pub line_of : List ℕ → Option (ℕ × Call)
-line_of text = joined 32 master_of call_of text
+line_of text = both_of 32 master_in call_in text

@@ -1,16 +1,16 @@
 -- What reading the names of exits and fates gives, part by part.
 use Rattle.std.specs.Prelude.{ℕ, ◌==◌, Bool, List, [], ◌∷◌, Option, None, option_map, find, bytes_eq, if◌then◌else◌}
-use Rattle.plain_text.specs.NumberText.{number_of}
+use Rattle.plain_text.specs.NumberText.{number_in}
 use Rattle.listener_set.specs.declared.generation.Generation.{Generation}
 use Rattle.vocabulary.specs.declared.names.Name.{Name}
 use Rattle.vocabulary.specs.declared.names.Name.TheVariants as name
 use Rattle.vocabulary.specs.declared.calls.Fate.{Fate}
 use Rattle.vocabulary.specs.Fates.{all_fates}
 use Rattle.call_text.specs.Words.{fate_text}
-use Rattle.call_text.specs.Reading.{joined, worker_number}
+use Rattle.call_text.specs.Reading.{both_of, worker_number}
 
 abbrev pub three_of : List ℕ → Option (ℕ × (ℕ × ℕ))
-three_of text = joined 46 number_of (joined 46 number_of worker_number) text
+three_of text = both_of 46 number_in (both_of 46 number_in worker_number) text
 
 abbrev pub worker_from : ℕ × (ℕ × ℕ) → Generation × ℕ
 worker_from p = (record { image = p.0; config = p.1.0 }, p.1.1)
@@ -24,7 +24,7 @@ name_of [] = None
 name_of (c ∷ cs) =
     if c == 119 then option_map (λ w. name.Worker w.0 w.1) (worker_name_of cs)
     else if c == 100 then option_map (λ w. name.Draining w.0 w.1) (worker_name_of cs)
-    else if c == 109 then option_map (λ i. name.Master i) (number_of cs)
+    else if c == 109 then option_map (λ i. name.Master i) (number_in cs)
     else None
 
 abbrev pub is_fate : List ℕ → Fate → Bool

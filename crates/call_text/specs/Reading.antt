@@ -1,7 +1,7 @@
 -- What reading a text gives, part by part.
 use Rattle.std.specs.Prelude.{ℕ, ◌-◌, nat_le, Bool, ◌&&◌, List, length, take, drop, Option, Some, None, option_map}
 use Rattle.std.specs.Prelude.{option_and_then, Result, Ok, Err, bytes_eq, codes, if◌then◌else◌}
-use Rattle.plain_text.specs.NumberText.{number_of, number_within}
+use Rattle.plain_text.specs.NumberText.{number_in, number_within}
 use Rattle.plain_text.specs.Cuts.{cut}
 use Rattle.listener_set.specs.AddressText.{reading}
 use Rattle.listener_set.specs.PathText.{is_path}
@@ -16,8 +16,8 @@ abbrev pub some_if : {A : Type 0} → Bool → A → Option A
 some_if b v = if b then Some v else None
 
 -- two parts with a byte between them, the first without that byte
-abbrev pub joined : {A B : Type 0} → ℕ → (List ℕ → Option A) → (List ℕ → Option B) → List ℕ → Option (A × B)
-joined byte first second text = do
+abbrev pub both_of : {A B : Type 0} → ℕ → (List ℕ → Option A) → (List ℕ → Option B) → List ℕ → Option (A × B)
+both_of byte first second text = do
   parts ← cut byte text
   a ← first parts.0
   b ← second parts.1
@@ -39,10 +39,10 @@ abbrev pub generation_from : ℕ × ℕ → Generation
 generation_from p = record { image = p.0; config = p.1 }
 
 abbrev pub generation_of : List ℕ → Option Generation
-generation_of text = option_map generation_from (joined 46 number_of number_of text)
+generation_of text = option_map generation_from (both_of 46 number_in number_in text)
 
 abbrev pub worker_of : List ℕ → Option (Generation × ℕ)
-worker_of text = joined 32 generation_of worker_number text
+worker_of text = both_of 32 generation_of worker_number text
 
 ---- Addresses and paths
 
@@ -64,4 +64,4 @@ abbrev pub path_of : List ℕ → Option (List ℕ)
 path_of text = if is_path text then Some text else suffixed_of text
 
 abbrev pub paths_of : List ℕ → Option (List ℕ × List ℕ)
-paths_of text = joined 32 path_of path_of text
+paths_of text = both_of 32 path_of path_of text

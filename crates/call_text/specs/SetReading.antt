@@ -26,8 +26,8 @@ run_from text None = option_map (λ n. (n, n)) (worker_number text)
 run_from text (Some parts) = several_of parts.0 parts.1
 
 -- the first and the last number of a run
-abbrev pub run_of : List ℕ → Option (ℕ × ℕ)
-run_of text = run_from text (cut 45 text)
+abbrev pub run_in : List ℕ → Option (ℕ × ℕ)
+run_in text = run_from text (cut 45 text)
 
 abbrev pub begun : SetReader
 begun = record { numbers = []; least = 0 }
@@ -40,7 +40,7 @@ with_numbers s r = record { numbers = with_run s.numbers r.0 (r.1 + 1 - r.0); le
 
 -- a run that begins where it can
 abbrev pub with_part : SetReader → List ℕ → Option SetReader
-with_part s part = run_of part >>= (λ r. some_if (nat_le s.least r.0) (with_numbers s r))
+with_part s part = run_in part >>= (λ r. some_if (nat_le s.least r.0) (with_numbers s r))
 
 abbrev pub with_parts : SetReader → List (List ℕ) → Option SetReader
 with_parts s [] = Some s

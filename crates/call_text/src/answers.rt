@@ -4,7 +4,7 @@ ghost use Rattle.plain_text.specs.Kept.{kept};
 ghost use Rattle.call_text.specs.CallText.{answer_word, answer_text};
 ghost use Rattle.call_text.specs.Reads.{Reads};
 ghost use Rattle.call_text.specs.Ranges.{IsAnswerTo};
-ghost use Rattle.call_text.specs.AnswerReading.{listed, tells, plain_replies, plain_answer, plain_of, answer_about, answer_of, answer_to};
+ghost use Rattle.call_text.specs.AnswerReading.{listed, is_reply, plain_replies, plain_answer, plain_of, answer_about, answer_of, answer_to};
 
 use crate::sets::{read_numbers, write_set};
 use crate::words::reply_text;
@@ -87,13 +87,13 @@ const PLAIN: [Reply; 19] = [
 
 /// The reply that a word tells. (A table of answers would be made anew at each call, in 7 KB; this one takes 19 bytes.)
 fn plain_reply(text: &[u8]) -> Option<Reply>
-    ensures { result ≡ find (tells text.now) plain_replies }
+    ensures { result ≡ find (is_reply text.now) plain_replies }
 {
-    PLAIN.iter().copied().find(|reply| tells(*reply, text))
+    PLAIN.iter().copied().find(|reply| is_reply(*reply, text))
 }
 
-fn tells(reply: Reply, text: &[u8]) -> bool
-    ensures { result ≡ tells text.now reply }
+fn is_reply(reply: Reply, text: &[u8]) -> bool
+    ensures { result ≡ is_reply text.now reply }
 {
     reply_text(reply).as_bytes() == text
 }

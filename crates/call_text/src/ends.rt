@@ -4,7 +4,7 @@ ghost use Rattle.call_text.specs.Words.{note_text, side_text};
 ghost use Rattle.call_text.specs.ReportText.{report_text};
 ghost use Rattle.call_text.specs.Reads.{Reads};
 ghost use Rattle.call_text.specs.Ranges.{IsReport};
-ghost use Rattle.call_text.specs.ReportReading.{is_note, note_of, is_side, side_of, plain_outcome, degraded_of, cause_of, noted_of, ending_of, plain_report, parts_of, report_of};
+ghost use Rattle.call_text.specs.ReportReading.{is_note, note_of, is_side, side_of, plain_outcome, degraded_of, cause_of, noted_of, closing_of, plain_report, parts_of, report_in};
 
 use crate::parts::behind;
 use crate::shortfalls::read_shortfalls;
@@ -85,7 +85,7 @@ fn read_noted(text: &[u8]) -> Option<PidNote>
 
 /// The cause and the note.
 fn read_ending(text: &[u8]) -> Option<(Option<u32>, PidNote)>
-    ensures { result ≡ ending_of text.now }
+    ensures { result ≡ closing_of text.now }
 {
     let rest = behind(text, b"cause")?;
     let (cause, rest) = cut(rest, b' ')?;
@@ -126,7 +126,7 @@ fn read_parts(text: &[u8]) -> Option<(Outcome, (Option<u32>, PidNote))>
 }
 
 fn read_whole(text: &[u8], ready: &Numbers) -> Option<Report>
-    ensures { result ≡ report_of ready.now text.now }
+    ensures { result ≡ report_in ready.now text.now }
 {
     let (outcome, (cause, note)) = read_parts(text)?;
     Some(Report {
@@ -142,7 +142,7 @@ fn read_whole(text: &[u8], ready: &Numbers) -> Option<Report>
 /// 4,294,967,295, and not all 0. A cause is such a number too: no run blames a call 0, so who
 /// compares the report with its run finds it wrong. Any bytes may come.
 pub fn read_report(text: &[u8], ready: &Numbers) -> Option<Report>
-    ensures exact { result ≡ report_of ready.now text.now }
+    ensures exact { result ≡ report_in ready.now text.now }
     ensures reads { Reads (IsReport ready.now) report_text text.now result }
 {
     read_whole(text, ready)

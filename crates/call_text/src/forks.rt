@@ -1,6 +1,6 @@
 //! Forks, read.
 ghost use Rattle.std.specs.Prelude.{◌≡◌};
-ghost use Rattle.call_text.specs.CallReading.{descriptors_of, named_of, fork_of};
+ghost use Rattle.call_text.specs.CallReading.{descriptors_of, named_of, fork_in};
 
 use crate::parts::{behind, read_generation, read_worker_number};
 use crate::sets::read_numbers;
@@ -35,7 +35,7 @@ fn read_named(text: &[u8]) -> Option<(u32, Option<DescriptorSet>)>
 
 /// What follows the word of a fork.
 pub(crate) fn read_fork(text: &[u8]) -> Option<Call>
-    ensures { result ≡ fork_of text.now }
+    ensures { result ≡ fork_in text.now }
 {
     let (generation, rest) = cut(text, b' ')?;
     let generation = read_generation(generation)?;

@@ -5,7 +5,7 @@ ghost use Rattle.listener_set.specs.Numbers.{AreNumbers};
 ghost use Rattle.plain_text.specs.Kept.{kept};
 ghost use Rattle.call_text.specs.SetText.{run_text, set_text};
 ghost use Rattle.call_text.specs.Reads.{Reads};
-ghost use Rattle.call_text.specs.SetReading.{is_comma, with_run, several_of, run_of, begun, with_part, with_parts, numbers_in, set_of};
+ghost use Rattle.call_text.specs.SetReading.{is_comma, with_run, several_of, run_in, begun, with_part, with_parts, numbers_in, set_of};
 
 use crate::parts::read_worker_number;
 use listener_set::{Numbers, WORKER_LIMIT};
@@ -64,7 +64,7 @@ fn read_several(first: &[u8], last: &[u8]) -> Option<(u32, u32)>
 
 /// The first and the last number of a run.
 fn read_run(text: &[u8]) -> Option<(u32, u32)>
-    ensures exact { result ≡ run_of text.now }
+    ensures exact { result ≡ run_in text.now }
     ensures within { IfSome result (λ r. r.1 < WORKER_LIMIT) }
 {
     match cut(text, b'-') {

@@ -3,7 +3,7 @@ ghost use Rattle.std.specs.Prelude.{◌≡◌};
 ghost use Rattle.call_text.specs.Reads.{Reads};
 ghost use Rattle.call_text.specs.Ranges.{IsNumber, IsCall, IsCallLine};
 ghost use Rattle.call_text.specs.CallText.{call_line};
-ghost use Rattle.call_text.specs.CallReading.{verb_text, is_verb, verb_of, about, bare_of, call_of, master_of, line_of};
+ghost use Rattle.call_text.specs.CallReading.{verb_text, is_verb, verb_of, about, bare_of, call_in, master_in, line_of};
 
 use crate::forks::read_fork;
 use crate::parts::{read_address, read_generation, read_path, read_paths, read_worker};
@@ -125,7 +125,7 @@ fn read_bare(text: &[u8]) -> Option<Call>
 
 /// A call without its master.
 fn read_order(text: &[u8]) -> Option<Call>
-    ensures { result ≡ call_of text.now }
+    ensures { result ≡ call_in text.now }
 {
     match cut(text, b' ') {
         Some((verb, rest)) => read_about(read_verb(verb)?, rest),
@@ -135,7 +135,7 @@ fn read_order(text: &[u8]) -> Option<Call>
 
 /// A master: `m` and the number of its image.
 pub(crate) fn read_master(text: &[u8]) -> Option<Actor>
-    ensures { result ≡ master_of text.now }
+    ensures { result ≡ master_in text.now }
 {
     let (kind, image) = text.split_first()?;
     if *kind != b'm' {

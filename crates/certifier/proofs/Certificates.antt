@@ -16,13 +16,13 @@ use Rattle.certifier.specs.declared.replay.Certificate.{Certificate}
 use Rattle.certifier.specs.Places.{Holds, IsLed}
 use Rattle.certifier.specs.Explained.{IsReady}
 use Rattle.certifier.specs.Certified.{HasEnacted}
-use Rattle.certifier.proofs.Explaining.{starts, begins}
+use Rattle.certifier.proofs.Explaining.{origin, begins}
 use Rattle.certifier.proofs.Complete.{IsDue}
 use Rattle.certifier.proofs.Matching.{whole, spares, certified}
 
 pub has-enacted : (first : State) (r : Record) (target : Target) (es : List Entry) (report : Report) →
     IsReady first.table r target → IsDue first.table r target → (result : Result Certificate Mismatch) →
-    IfOk result (λ it. Holds (handover_for r target) (heirs_of r target) (sides_of r target) (starts first.table r target) es report it.section) →
+    IfOk result (λ it. Holds (handover_for r target) (heirs_of r target) (sides_of r target) (origin first.table r target) es report it.section) →
     IfOk result (λ it. IsLed (handover_for r target) (heirs_of r target) (plan_length r target) (begins first.table r target it.section.turns) es it.kernel) →
     IfOk result (HasEnacted first r target es report)
 has-enacted first r target es report ready due (Err why) holds led = tt

@@ -118,12 +118,12 @@ explained-next handed heirs pattern n p (e ∷ es) last goes follows edges repla
 ---- Of a target
 
 -- where a transcript of the target begins
-abbrev pub starts : Table → Record → Target → Start
-starts t r target = record { trail = λ turns. begin (plan_tree r target turns) r.note; table = t; executing = r.generation.image ∷ [] }
+abbrev pub origin : Table → Record → Target → Start
+origin t r target = record { trail = λ turns. begin (plan_tree r target turns) r.note; table = t; executing = r.generation.image ∷ [] }
 
 -- the same under turns
 abbrev pub begins : Table → Record → Target → List Turn → Place
-begins t r target turns = place_at (starts t r target) turns
+begins t r target turns = place_at (origin t r target) turns
 
 module _ (t : Table) (r : Record) (target : Target) (turns : List Turn) (es : List Entry) where
   pub is-explained : AreNext (handover_for r target) (heirs_of r target) (begins t r target turns) es → IsExplainedBy t r target turns es

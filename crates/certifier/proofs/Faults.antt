@@ -58,9 +58,9 @@ uncounted-same call _ = refl
 abbrev pub IsFaultOf : Table → Answer → Stepped → Type 0
 IsFaultOf t a s = same_reply (reply_of [] s.answer) (reply_of [] a) ≡ true → s ≡ gives a t
 
-either : (b : Bool) (t : Table) (a : Answer) (x y : Stepped) → IsFaultOf t a x → IsFaultOf t a y → IsFaultOf t a (cond b x y)
-either true t a x y h k = h
-either false t a x y h k = k
+either_faulty : (b : Bool) (t : Table) (a : Answer) (x y : Stepped) → IsFaultOf t a x → IsFaultOf t a y → IsFaultOf t a (cond b x y)
+either_faulty true t a x y h k = h
+either_faulty false t a x y h k = k
 
 -- What a fault is that a fate gives: the fate's, which finds nobody gone, counts nobody, and by itself changes nothing either.
 pub record IsFault (handed : Handed) (image : ℕ) (c : Caller) (call : Call) (f : Fate) (t : Table) (a : Answer) : Type 0 where
@@ -85,28 +85,28 @@ module _ (handed : Handed) (image : ℕ) (c : Caller) (t : Table) where
       (with_new_socket t c.number (record { fd = lowest_free c.holds; socket = t.next_socket; address = ad }))) →
       IsFaultOf t a (gives answer.TooMany t) → IsFaultOf t a (opened c ad t)
   open-is ad a held new many =
-      either (is_held ad t.rows) t a (gives answer.InUse t)
+      either_faulty (is_held ad t.rows) t a (gives answer.InUse t)
       (cond (nat_lt (length c.holds) t.limits.descriptors) (gives (answer.Opened (lowest_free c.holds)) (with_new_socket t c.number (record { fd = lowest_free c.holds; socket = t.next_socket; address = ad }))) (gives answer.TooMany t))
       held
-      (either (nat_lt (length c.holds) t.limits.descriptors) t a (gives (answer.Opened (lowest_free c.holds)) (with_new_socket t c.number (record { fd = lowest_free c.holds; socket = t.next_socket; address = ad }))) (gives answer.TooMany t) new many)
+      (either_faulty (nat_lt (length c.holds) t.limits.descriptors) t a (gives (answer.Opened (lowest_free c.holds)) (with_new_socket t c.number (record { fd = lowest_free c.holds; socket = t.next_socket; address = ad }))) (gives answer.TooMany t) new many)
 
   fork-is : (g : Generation) (k : ℕ) (fds : Option (List ℕ)) (a : Answer) → IsFaultOf t a (gives answer.Again t) →
       IsFaultOf t a (gives answer.Forked (with_new_row t (λ n. Worker n c.number g k Starting (shared fds c.holds)))) →
       IsFaultOf t a (gives answer.Again t) → IsFaultOf t a (forked c g k fds t)
   fork-is g k fds a borne new full =
-      either (list_any (is_worker is_active c.number g k) t.rows) t a (gives answer.Again t)
+      either_faulty (list_any (is_worker is_active c.number g k) t.rows) t a (gives answer.Again t)
       (cond (has_process_room t) (gives answer.Forked (with_new_row t (λ n. Worker n c.number g k Starting (shared fds c.holds)))) (gives answer.Again t))
       borne
-      (either (has_process_room t) t a (gives answer.Forked (with_new_row t (λ n. Worker n c.number g k Starting (shared fds c.holds)))) (gives answer.Again t) new full)
+      (either_faulty (has_process_room t) t a (gives answer.Forked (with_new_row t (λ n. Worker n c.number g k Starting (shared fds c.holds)))) (gives answer.Again t) new full)
 
   spawn-is : (i : ℕ) (a : Answer) → IsFaultOf t a (gives answer.Again t) →
       IsFaultOf t a (gives answer.Spawned (with_new_row t (λ n. Master n c.number i true c.holds))) →
       IsFaultOf t a (gives answer.Again t) → IsFaultOf t a (spawned c i t)
   spawn-is i a there new full =
-      either (list_any (is_image i) t.rows) t a (gives answer.Again t)
+      either_faulty (list_any (is_image i) t.rows) t a (gives answer.Again t)
       (cond (has_process_room t) (gives answer.Spawned (with_new_row t (λ n. Master n c.number i true c.holds))) (gives answer.Again t))
       there
-      (either (has_process_room t) t a (gives answer.Spawned (with_new_row t (λ n. Master n c.number i true c.holds))) (gives answer.Again t) new full)
+      (either_faulty (has_process_room t) t a (gives answer.Spawned (with_new_row t (λ n. Master n c.number i true c.holds))) (gives answer.Again t) new full)
 
   ready-is : (g : Generation) (k : ℕ) → IsFaultOf t answer.Late (awaited c g k t)
   ready-is g k = waiting (list_any (is_worker is_active c.number g k) t.rows) _ _

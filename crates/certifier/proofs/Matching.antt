@@ -40,12 +40,12 @@ use Rattle.certifier.specs.Certified.{AreTurnsOf, IsBeginning, IsCertified, Enac
 use Rattle.certifier.proofs.Asking.{not-lost}
 use Rattle.certifier.proofs.Steps.{next-front}
 use Rattle.certifier.proofs.Turns.{trimmed-fewest}
-use Rattle.certifier.proofs.Explaining.{starts, begins, goes-through, next-follows, next-edges, next-replays, next-spares, is-explained, is-next}
+use Rattle.certifier.proofs.Explaining.{origin, begins, goes-through, next-follows, next-edges, next-replays, next-spares, is-explained, is-next}
 
 ---- The turns that entries show
 
 pub turns-of : (t : Table) (r : Record) (target : Target) (entries : List Entry) (turns : List Turn) →
-    AreShown (starts t r target) entries turns → AreTurnsOf r target entries turns
+    AreShown (origin t r target) entries turns → AreTurnsOf r target entries turns
 turns-of t r target entries turns shown = record {
   used = shown.used;
   fewest = λ others path. trimmed-fewest others turns (shown.used others path) shown.trimmed;
@@ -56,7 +56,7 @@ turns-of t r target entries turns shown = record {
 
 module _ (t : Table) (r : Record) (target : Target) (entries : List Entry) (ready : IsReady t r target) where
   pub begun : (section : Section) →
-      Shows (handover_for r target) (heirs_of r target) (starts t r target) entries section →
+      Shows (handover_for r target) (heirs_of r target) (origin t r target) entries section →
       IsBeginning t r target entries section
   begun section h =
       record {
@@ -66,7 +66,7 @@ module _ (t : Table) (r : Record) (target : Target) (entries : List Entry) (read
         shown = h.shown;
       }
 
-  pub unbegun : (why : Mismatch) → StopsBy (handover_for r target) (heirs_of r target) (starts t r target) entries why →
+  pub unbegun : (why : Mismatch) → StopsBy (handover_for r target) (heirs_of r target) (origin t r target) entries why →
       (why ≡ mismatch.Memory) ⊎ IsNoBeginning t r target entries why
   unbegun mismatch.Refused h = absurd h
   unbegun (mismatch.Step n) h = inr (record {
@@ -86,10 +86,10 @@ module _ (t : Table) (r : Record) (target : Target) (entries : List Entry) (read
 module _ (t : Table) (r : Record) (target : Target) (entries : List Entry) (report : Report) (ready : IsReady t r target) where
   ---- A transcript that holds
 
-  pub whole : (section : Section) → Holds (handover_for r target) (heirs_of r target) (sides_of r target) (starts t r target) entries report section →
+  pub whole : (section : Section) → Holds (handover_for r target) (heirs_of r target) (sides_of r target) (origin t r target) entries report section →
       IsWholeRun r target section.turns (moment_at section.pattern) t entries
       (place_under (handover_for r target) (heirs_of r target)
-      (starts t r target) section.turns entries).table report
+      (origin t r target) section.turns entries).table report
   whole section h =
       let handed = handover_for r target in
       let heirs = heirs_of r target in
@@ -109,7 +109,7 @@ module _ (t : Table) (r : Record) (target : Target) (entries : List Entry) (repo
 
   -- no executing master exits in its run
   pub spares : (section : Section) →
-      Holds (handover_for r target) (heirs_of r target) (sides_of r target) (starts t r target) entries report section →
+      Holds (handover_for r target) (heirs_of r target) (sides_of r target) (origin t r target) entries report section →
       refusal_of r target section.turns (moment_at section.pattern) t ≡ None
   spares section h =
       let handed = handover_for r target in
@@ -119,13 +119,13 @@ module _ (t : Table) (r : Record) (target : Target) (entries : List Entry) (repo
       ap (refused_among (r.generation.image ∷ []) heirs (moment_at section.pattern) 0) (whole section h).entries_are ∙ next-spares handed heirs (moment_at section.pattern) 0 p entries goes h.shows.next
 
   pub certified : (section : Section) →
-      Holds (handover_for r target) (heirs_of r target) (sides_of r target) (starts t r target) entries report section →
+      Holds (handover_for r target) (heirs_of r target) (sides_of r target) (origin t r target) entries report section →
       ActsApart r target section.turns entries → IsCertified t r target entries report section
   certified section h apart = record {
     ready = ready;
     shown = h.shows.shown;
     turns = turns-of t r target entries section.turns h.shows.turns;
-    last = (place_under (handover_for r target) (heirs_of r target) (starts t r target) section.turns entries).table;
+    last = (place_under (handover_for r target) (heirs_of r target) (origin t r target) section.turns entries).table;
     is_run = whole section h;
     spared = spares section h;
     apart = apart;
@@ -134,7 +134,7 @@ module _ (t : Table) (r : Record) (target : Target) (entries : List Entry) (repo
   ---- One that does not
 
   pub mismatched : (why : Mismatch) →
-      FailsBy (handover_for r target) (heirs_of r target) (sides_of r target) (starts t r target) entries report why →
+      FailsBy (handover_for r target) (heirs_of r target) (sides_of r target) (origin t r target) entries report why →
       (why ≡ mismatch.Memory) ⊎ IsMismatch t r target entries report why
   mismatched mismatch.Refused h = unbegun t r target entries ready mismatch.Refused h
   mismatched (mismatch.Step n) h = unbegun t r target entries ready (mismatch.Step n) h
@@ -238,7 +238,7 @@ none-unbegun t r target es ready all mismatch.Memory h = h
 -- none where the transcript holds
 none-fits : (t : Table) (r : Record) (target : Target) (es : List Entry) (report : Report) → IsReady t r target →
     (section : Section) → Holds (handover_for r target) (heirs_of r target) (sides_of r target)
-    (starts t r target) es report section → (why : Mismatch) → IsMismatch t r target es report why → ⊥
+    (origin t r target) es report section → (why : Mismatch) → IsMismatch t r target es report why → ⊥
 none-fits t r target es report ready section holds why h = fits why h
   where
     all : IsExplainedBy t r target section.turns es
@@ -328,8 +328,8 @@ module _ (t : Table) (r : Record) (target : Target) (fits : Mismatch → Type 0)
 
 -- what entries come to that are to begin a run
 pub answered-beginning : (t : Table) (r : Record) (target : Target) (es : List Entry) → IsReady t r target → (result : Result Section Mismatch) →
-    IfOk result (Shows (handover_for r target) (heirs_of r target) (starts t r target) es) →
-    IfErr result (StopsBy (handover_for r target) (heirs_of r target) (starts t r target) es) →
+    IfOk result (Shows (handover_for r target) (heirs_of r target) (origin t r target) es) →
+    IfErr result (StopsBy (handover_for r target) (heirs_of r target) (origin t r target) es) →
     IfOk result (IsBeginning t r target es) × IsExactly (IsNoBeginning t r target es) result
 answered-beginning t r target es ready (Ok section) shows stops =
     let is = begun t r target es ready section shows in (is, exact-held (IsNoBeginning t r target es) section (none-unbegun t r target es ready (section.turns, is.explained)))
@@ -349,8 +349,8 @@ complete-beginning t r target es section (Err why) exact is = elim (exact why) [
 -- what a transcript comes to
 pub answered : {T : Type 0} (section_in : T → Section) (t : Table) (r : Record) (target : Target) (es : List Entry)
     (report : Report) → IsReady t r target → (result : Result T Mismatch) →
-    IfOk result (λ it. Holds (handover_for r target) (heirs_of r target) (sides_of r target) (starts t r target) es report (section_in it)) →
-    IfErr result (FailsBy (handover_for r target) (heirs_of r target) (sides_of r target) (starts t r target) es report) →
+    IfOk result (λ it. Holds (handover_for r target) (heirs_of r target) (sides_of r target) (origin t r target) es report (section_in it)) →
+    IfErr result (FailsBy (handover_for r target) (heirs_of r target) (sides_of r target) (origin t r target) es report) →
     IsExact t r target es report result
 answered section_in t r target es report ready (Ok it) holds fails = exact-held (IsMismatch t r target es report) it (none-fits t r target es report ready (section_in it) holds)
 answered section_in t r target es report ready (Err why) holds fails =

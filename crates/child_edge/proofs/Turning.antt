@@ -3,9 +3,9 @@ use Rattle.std.proofs.Common.{◌≡◌, refl, sym, ap, ◌∙◌, ℕ, ◌+◌,
 use Rattle.std.proofs.Common.{map, get_or, set, take, drop, Option, subst, arith, if◌then◌else◌, codes}
 use Rattle.std.proofs.lemmas.List.{take_more, take_more_set, take_all, drop_all, drop-set-lt, take-append-drop}
 use Rattle.std.specs.List.{remove}
-use Rattle.child_family.specs.Told.{Told, Tells, Hearing, said, heard, stopped, awaited}
-use Rattle.child_family.specs.Talk.{says, hears, stops, awaits}
-use Rattle.child_family.proofs.Talking.{held-says, held-hears, held-stops, held-awaits}
+use Rattle.child_family.specs.Told.{Told, Tells, Hearing, said, heard, stopped_child, awaited_child}
+use Rattle.child_family.specs.Talk.{says, hears, stops_child, awaits_child}
+use Rattle.child_family.proofs.Talking.{held-says, held-hears, held-stops_child, held-awaits_child}
 use Rattle.child_workers.specs.declared.worker.Worker.{Worker}
 use Rattle.child_workers.specs.declared.who.Who.{Who}
 use Rattle.child_workers.specs.declared.who.Who.TheVariants.{IsReady}
@@ -27,12 +27,12 @@ pub goes-hears : (old new : Option (List Told)) (id : ℕ) (follows : Hearing �
     Tells old new (heard id h) → GoesOn old new (hears id follows) (follows h)
 goes-hears old new id follows r t = λ last a h. held-hears r t h
 
-pub goes-stops : (old new : Option (List Told)) (id : ℕ) (follows : Turn) → Tells old new (stopped id) → GoesOn old new (stops id follows) follows
-goes-stops old new id follows t = λ last a h. held-stops t h
+pub goes-stops_child : (old new : Option (List Told)) (id : ℕ) (follows : Turn) → Tells old new (stopped_child id) → GoesOn old new (stops_child id follows) follows
+goes-stops_child old new id follows t = λ last a h. held-stops_child t h
 
-pub goes-awaits : (old new : Option (List Told)) (id : ℕ) (follows : Bool → Turn) (ok : Bool) →
-    Tells old new (awaited id ok) → GoesOn old new (awaits id follows) (follows ok)
-goes-awaits old new id follows ok t = λ last a h. held-awaits ok t h
+pub goes-awaits_child : (old new : Option (List Told)) (id : ℕ) (follows : Bool → Turn) (ok : Bool) →
+    Tells old new (awaited_child id ok) → GoesOn old new (awaits_child id follows) (follows ok)
+goes-awaits_child old new id follows ok t = λ last a h. held-awaits_child ok t h
 
 pub goes-both : (old mid new : Option (List Told)) (a b c : Turn) → GoesOn old mid a b → GoesOn mid new b c → GoesOn old new a c
 goes-both old mid new a b c f g = λ last x h. f last x (g last x h)
@@ -68,18 +68,19 @@ says-pass who text ws i d now within other next =
 
 ---- Each is stopped
 
-pub stops-turn : (who : Who) (ws : List Worker) (i : ℕ) (d : Worker) (old new : Option (List Told)) → i < length ws →
-    means who (get_or ws i d) ≡ true → Tells old new (stopped (get_or ws i d).id) → (next : Turn) →
+pub stops_child-turn : (who : Who) (ws : List Worker) (i : ℕ) (d : Worker)
+    (old new : Option (List Told)) → i < length ws →
+    means who (get_or ws i d) ≡ true → Tells old new (stopped_child (get_or ws i d).id) → (next : Turn) →
     GoesOn old new (stops_each who (drop i ws) next) (stops_each who (drop (i + 1) ws) next)
-stops-turn who ws i d old new within meant t next =
+stops_child-turn who ws i d old new within meant t next =
     let w = get_or ws i d in
-    let is : stops_each who (drop i ws) next ≡ stops w.id (stops_each who (drop (i + 1) ws) next) = rw (at_place ws i d within, meant) refl in
-    goes-from old new _ _ _ is (goes-stops old new w.id (stops_each who (drop (i + 1) ws) next) t)
+    let is : stops_each who (drop i ws) next ≡ stops_child w.id (stops_each who (drop (i + 1) ws) next) = rw (at_place ws i d within, meant) refl in
+    goes-from old new _ _ _ is (goes-stops_child old new w.id (stops_each who (drop (i + 1) ws) next) t)
 
-pub stops-pass : (who : Who) (ws : List Worker) (i : ℕ) (d : Worker) (now : Option (List Told)) → i < length ws →
+pub stops_child-pass : (who : Who) (ws : List Worker) (i : ℕ) (d : Worker) (now : Option (List Told)) → i < length ws →
     means who (get_or ws i d) ≡ false → (next : Turn) →
     GoesOn now now (stops_each who (drop i ws) next) (stops_each who (drop (i + 1) ws) next)
-stops-pass who ws i d now within other next =
+stops_child-pass who ws i d now within other next =
     let is : stops_each who (drop i ws) next ≡ stops_each who (drop (i + 1) ws) next = rw (at_place ws i d within, other) refl in
     goes-from now now _ _ _ is (λ last a h. h)
 
@@ -90,7 +91,7 @@ counts-here : (who : Who) (ws : List Worker) (i : ℕ) (w : Worker) (b : Bool) (
     → counts_each who (take i ws) (drop i ws) next
     ≡ (if b then hears w.id (λ h. if is_line (codes "pong") h
     then counts_each who (take i ws ++ w ∷ []) (drop (i + 1) ws) next
-    else stops w.id (counts_each who (take i ws) (drop (i + 1) ws) next))
+    else stops_child w.id (counts_each who (take i ws) (drop (i + 1) ws) next))
     else counts_each who (take i ws ++ w ∷ []) (drop (i + 1) ws) next)
 counts-here who ws i w b next within is meant = rw (from_place ws i w within is, meant) refl
 
@@ -104,7 +105,7 @@ counts-pass who ws i w old new whole next within is other goes =
 pub counts-heard : (who : Who) (ws : List Worker) (i : ℕ) (w : Worker) (there : Bool) (old mid new : Option (List Told))
     (whole : Turn) (next : List Worker → Turn) → i < length ws → w ≡ get_or ws i w → means who w ≡ true →
     GoesOn old mid whole (counts_each who (take i ws) (drop i ws) next)
-    → ((yes no : Turn) → GoesOn mid new (hears w.id (λ h. if is_line (codes "pong") h then yes else stops w.id no)) (if there then yes else no))
+    → ((yes no : Turn) → GoesOn mid new (hears w.id (λ h. if is_line (codes "pong") h then yes else stops_child w.id no)) (if there then yes else no))
     → GoesOn old new whole (if there then counts_each who (take i ws ++ w ∷ []) (drop (i + 1) ws) next else counts_each who (take i ws) (drop (i + 1) ws) next)
 counts-heard who ws i w there old mid new whole next within is meant goes asked =
     goes-both old mid new _ _ _ (goes-into old mid _ _ _ (counts-here who ws i w true next within is meant) goes) (asked (counts_each who (take i ws ++ w ∷ []) (drop (i + 1) ws) next) (counts_each who (take i ws) (drop (i + 1) ws) next))
@@ -112,7 +113,7 @@ counts-heard who ws i w there old mid new whole next within is meant goes asked 
 pub counts-stay : (who : Who) (ws : List Worker) (i : ℕ) (w : Worker) (there : Bool) (old mid new : Option (List Told))
     (whole : Turn) (next : List Worker → Turn) → i < length ws → w ≡ get_or ws i w → means who w ≡ true → there ≡ true →
     GoesOn old mid whole (counts_each who (take i ws) (drop i ws) next)
-    → ((yes no : Turn) → GoesOn mid new (hears w.id (λ h. if is_line (codes "pong") h then yes else stops w.id no)) (if there then yes else no))
+    → ((yes no : Turn) → GoesOn mid new (hears w.id (λ h. if is_line (codes "pong") h then yes else stops_child w.id no)) (if there then yes else no))
     → GoesOn old new whole (counts_each who (take (i + 1) ws) (drop (i + 1) ws) next)
 counts-stay who ws i w there old mid new whole next within is meant stays goes asked =
     let on = counts-heard who ws i w there old mid new whole next within is meant goes asked in
@@ -121,7 +122,7 @@ counts-stay who ws i w there old mid new whole next within is meant stays goes a
 pub counts-out : (who : Who) (ws : List Worker) (i : ℕ) (w : Worker) (there : Bool) (old mid new : Option (List Told))
     (whole : Turn) (next : List Worker → Turn) → i < length ws → w ≡ get_or ws i w → means who w ≡ true →
     there ≡ false → GoesOn old mid whole (counts_each who (take i ws) (drop i ws) next)
-    → ((yes no : Turn) → GoesOn mid new (hears w.id (λ h. if is_line (codes "pong") h then yes else stops w.id no)) (if there then yes else no))
+    → ((yes no : Turn) → GoesOn mid new (hears w.id (λ h. if is_line (codes "pong") h then yes else stops_child w.id no)) (if there then yes else no))
     → GoesOn old new whole (counts_each who (take i (remove ws i)) (drop i (remove ws i)) next)
 counts-out who ws i w there old mid new whole next within is meant goes-away goes asked =
     let on = counts-heard who ws i w there old mid new whole next within is meant goes asked in
@@ -135,53 +136,57 @@ counts-end who ws i old new whole next past goes =
 
 ---- Each is waited for
 
-awaits-here : (who : Who) (ws : List Worker) (i : ℕ) (w : Worker) (b : Bool) (next : List Worker → Bool → Turn) →
+awaits_child-here : (who : Who) (ws : List Worker) (i : ℕ) (w : Worker) (b : Bool) (next : List Worker → Bool → Turn) →
     i < length ws → w ≡ get_or ws i w → means who w ≡ b
     → awaits_each who (take i ws) (drop i ws) next
     ≡ (if b then hears w.id (λ h. if is_going h
-    then awaits w.id (λ ok. awaits_each who (take i ws) (drop (i + 1) ws) next)
+    then awaits_child w.id (λ ok. awaits_each who (take i ws) (drop (i + 1) ws) next)
     else next (take i ws ++ w ∷ drop (i + 1) ws) true)
     else awaits_each who (take i ws ++ w ∷ []) (drop (i + 1) ws) next)
-awaits-here who ws i w b next within is meant = rw (from_place ws i w within is, meant) refl
+awaits_child-here who ws i w b next within is meant = rw (from_place ws i w within is, meant) refl
 
-pub awaits-pass : (who : Who) (ws : List Worker) (i : ℕ) (w : Worker) (old new : Option (List Told)) (whole : Turn)
+pub awaits_child-pass : (who : Who) (ws : List Worker) (i : ℕ) (w : Worker)
+    (old new : Option (List Told)) (whole : Turn)
     (next : List Worker → Bool → Turn) → i < length ws → w ≡ get_or ws i w → means who w ≡ false →
     GoesOn old new whole (awaits_each who (take i ws) (drop i ws) next) →
     GoesOn old new whole (awaits_each who (take (i + 1) ws) (drop (i + 1) ws) next)
-awaits-pass who ws i w old new whole next within is other goes =
-    goes-into old new _ _ _ (awaits-here who ws i w false next within is other ∙ ap (λ l. awaits_each who l (drop (i + 1) ws) next) (sym (up_to_place ws i w within is))) goes
+awaits_child-pass who ws i w old new whole next within is other goes =
+    goes-into old new _ _ _ (awaits_child-here who ws i w false next within is other ∙ ap (λ l. awaits_each who l (drop (i + 1) ws) next) (sym (up_to_place ws i w within is))) goes
 
-awaits-heard : (who : Who) (ws : List Worker) (i : ℕ) (w : Worker) (gone : Bool) (old mid new : Option (List Told))
+awaits_child-heard : (who : Who) (ws : List Worker) (i : ℕ) (w : Worker) (gone : Bool)
+    (old mid new : Option (List Told))
     (whole : Turn) (next : List Worker → Bool → Turn) → i < length ws → w ≡ get_or ws i w → means who w ≡ true →
     GoesOn old mid whole (awaits_each who (take i ws) (drop i ws) next)
-    → ((yes no : Turn) → GoesOn mid new (hears w.id (λ h. if is_going h then awaits w.id (λ ok. yes) else no)) (if gone then yes else no))
+    → ((yes no : Turn) → GoesOn mid new (hears w.id (λ h. if is_going h then awaits_child w.id (λ ok. yes) else no)) (if gone then yes else no))
     → GoesOn old new whole (if gone then awaits_each who (take i ws) (drop (i + 1) ws) next else next (take i ws ++ w ∷ drop (i + 1) ws) true)
-awaits-heard who ws i w gone old mid new whole next within is meant goes asked =
-    goes-both old mid new _ _ _ (goes-into old mid _ _ _ (awaits-here who ws i w true next within is meant) goes) (asked (awaits_each who (take i ws) (drop (i + 1) ws) next) (next (take i ws ++ w ∷ drop (i + 1) ws) true))
+awaits_child-heard who ws i w gone old mid new whole next within is meant goes asked =
+    goes-both old mid new _ _ _ (goes-into old mid _ _ _ (awaits_child-here who ws i w true next within is meant) goes) (asked (awaits_each who (take i ws) (drop (i + 1) ws) next) (next (take i ws ++ w ∷ drop (i + 1) ws) true))
 
-pub awaits-out : (who : Who) (ws : List Worker) (i : ℕ) (w : Worker) (gone : Bool) (old mid new : Option (List Told))
+pub awaits_child-out : (who : Who) (ws : List Worker) (i : ℕ) (w : Worker) (gone : Bool)
+    (old mid new : Option (List Told))
     (whole : Turn) (next : List Worker → Bool → Turn) → i < length ws → w ≡ get_or ws i w → means who w ≡ true →
     gone ≡ true → GoesOn old mid whole (awaits_each who (take i ws) (drop i ws) next)
-    → ((yes no : Turn) → GoesOn mid new (hears w.id (λ h. if is_going h then awaits w.id (λ ok. yes) else no)) (if gone then yes else no))
+    → ((yes no : Turn) → GoesOn mid new (hears w.id (λ h. if is_going h then awaits_child w.id (λ ok. yes) else no)) (if gone then yes else no))
     → GoesOn old new whole (awaits_each who (take i (remove ws i)) (drop i (remove ws i)) next)
-awaits-out who ws i w gone old mid new whole next within is meant left goes asked =
-    let on = awaits-heard who ws i w gone old mid new whole next within is meant goes asked in
+awaits_child-out who ws i w gone old mid new whole next within is meant left goes asked =
+    let on = awaits_child-heard who ws i w gone old mid new whole next within is meant goes asked in
     goes-into old new whole _ _ (ap (λ b. if b then awaits_each who (take i ws) (drop (i + 1) ws) next else next (take i ws ++ w ∷ drop (i + 1) ws) true) left ∙ (ap (λ l. awaits_each who l (drop (i + 1) ws) next) (sym (take-removed ws i within)) ∙ ap (λ l. awaits_each who (take i (remove ws i)) l next) (sym (drop-removed ws i within)))) on
 
-pub awaits-late : (who : Who) (ws : List Worker) (i : ℕ) (w : Worker) (gone : Bool) (old mid new : Option (List Told))
+pub awaits_child-late : (who : Who) (ws : List Worker) (i : ℕ) (w : Worker) (gone : Bool)
+    (old mid new : Option (List Told))
     (whole : Turn) (next : List Worker → Bool → Turn) → i < length ws → w ≡ get_or ws i w → means who w ≡ true →
     gone ≡ false → GoesOn old mid whole (awaits_each who (take i ws) (drop i ws) next)
-    → ((yes no : Turn) → GoesOn mid new (hears w.id (λ h. if is_going h then awaits w.id (λ ok. yes) else no)) (if gone then yes else no))
+    → ((yes no : Turn) → GoesOn mid new (hears w.id (λ h. if is_going h then awaits_child w.id (λ ok. yes) else no)) (if gone then yes else no))
     → GoesOn old new whole (next ws true)
-awaits-late who ws i w gone old mid new whole next within is meant late goes asked =
-    let on = awaits-heard who ws i w gone old mid new whole next within is meant goes asked in
+awaits_child-late who ws i w gone old mid new whole next within is meant late goes asked =
+    let on = awaits_child-heard who ws i w gone old mid new whole next within is meant goes asked in
     let same : take i ws ++ w ∷ drop (i + 1) ws ≡ ws = ap (λ l. take i ws ++ l) (sym (from_place ws i w within is)) ∙ take-append-drop i ws in
     goes-into old new whole _ _ (ap (λ b. if b then awaits_each who (take i ws) (drop (i + 1) ws) next else next (take i ws ++ w ∷ drop (i + 1) ws) true) late ∙ ap (λ l. next l true) same) on
 
-pub awaits-end : (who : Who) (ws : List Worker) (i : ℕ) (old new : Option (List Told)) (whole : Turn)
+pub awaits_child-end : (who : Who) (ws : List Worker) (i : ℕ) (old new : Option (List Told)) (whole : Turn)
     (next : List Worker → Bool → Turn) → length ws ≤ i →
     GoesOn old new whole (awaits_each who (take i ws) (drop i ws) next) → GoesOn old new whole (next ws false)
-awaits-end who ws i old new whole next past goes =
+awaits_child-end who ws i old new whole next past goes =
     goes-into old new whole _ _ (ap (λ l. awaits_each who (take i ws) l next) (drop_all i ws past) ∙ ap (λ l. next l false) (take_all i ws past)) goes
 
 ---- Each beats

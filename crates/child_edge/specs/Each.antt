@@ -1,6 +1,6 @@
 -- What is asked of several children, or by several lines.
 use Rattle.std.specs.Prelude.{ℕ, Bool, true, false, List, [], ◌∷◌, ◌++◌, Option, Some, None, codes, if◌then◌else◌}
-use Rattle.child_family.specs.Talk.{Talk, says, hears, stops, awaits}
+use Rattle.child_family.specs.Talk.{Talk, says, hears, stops_child, awaits_child}
 use Rattle.child_workers.specs.declared.worker.Worker.{Worker}
 use Rattle.child_workers.specs.declared.who.Who.{Who}
 use Rattle.child_workers.specs.Workers.{means, with_number_of}
@@ -25,7 +25,7 @@ says_unless id (text ∷ texts) otherwise rest = says id text (λ ok. if ok then
 -- each worker that is meant is stopped, in order
 abbrev pub stops_each : {A : Type 0} → Who → List Worker → Talk A → Talk A
 stops_each who [] rest = rest
-stops_each who (w ∷ ws) rest = if means who w then stops w.id (stops_each who ws rest) else stops_each who ws rest
+stops_each who (w ∷ ws) rest = if means who w then stops_child w.id (stops_each who ws rest) else stops_each who ws rest
 
 -- Each worker that is meant is heard, in order. One that says `pong` stays; any other is stopped at once, and is no worker any
 -- more. What follows is told who is left; `before` is who is left of those before.
@@ -33,7 +33,7 @@ abbrev pub counts_each : {A : Type 0} → Who → List Worker → List Worker �
 counts_each who before [] rest = rest before
 counts_each who before (w ∷ ws) rest =
     if means who w
-    then hears w.id (λ h. if is_line (codes "pong") h then counts_each who (before ++ w ∷ []) ws rest else stops w.id (counts_each who before ws rest))
+    then hears w.id (λ h. if is_line (codes "pong") h then counts_each who (before ++ w ∷ []) ws rest else stops_child w.id (counts_each who before ws rest))
     else counts_each who (before ++ w ∷ []) ws rest
 
 -- Each worker that is meant is heard, in order. One that says `gone`, or nothing more, is waited for, and is no worker any more.
@@ -42,7 +42,7 @@ abbrev pub awaits_each : {A : Type 0} → Who → List Worker → List Worker �
 awaits_each who before [] rest = rest before false
 awaits_each who before (w ∷ ws) rest =
     if means who w
-    then hears w.id (λ h. if is_going h then awaits w.id (λ ok. awaits_each who before ws rest) else rest (before ++ w ∷ ws) true)
+    then hears w.id (λ h. if is_going h then awaits_child w.id (λ ok. awaits_each who before ws rest) else rest (before ++ w ∷ ws) true)
     else awaits_each who (before ++ w ∷ []) ws rest
 
 -- a worker with the start that it named in its last beat, if it beat now

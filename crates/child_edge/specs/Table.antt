@@ -17,7 +17,8 @@ use Rattle.child_family.specs.Told.{Hearing, line, too_long, ended}
 use Rattle.child_family.specs.declared.role.Role.TheVariants as role
 use Rattle.child_family.specs.declared.role.StartFault.{StartFault}
 use Rattle.child_family.specs.declared.role.StartFault.TheVariants as fault
-use Rattle.child_family.specs.Talk.{Talk, ends, starts, says, hears, stops, writes, renames, removes}
+use Rattle.child_family.specs.Talk.{Talk, ends, starts_child, says, hears, stops_child}
+use Rattle.child_family.specs.Talk.{writes_file, renames_file, removes_file}
 use Rattle.child_workers.specs.declared.worker.Worker.{Worker}
 use Rattle.child_workers.specs.declared.who.Who.TheVariants.{Any, Serving, ReadyOf, Named, ServingNamed, StartingNamed, ReadyNamed, IsReady}
 use Rattle.child_workers.specs.declared.worker.Stage.TheVariants.{Starting, Ready, Draining}
@@ -90,7 +91,7 @@ forked s g nr fds (Err fault.NoImage) = answers s answer.Again
 abbrev pub forking : State → Generation → ℕ → Option (List ℕ) → Turn
 forking s g nr fds =
     if nat_lt s.starts 4294967295
-    then starts (role.Worker g nr (s.starts + 1)) (forked (record s { starts = s.starts + 1 }) g nr fds)
+    then starts_child (role.Worker g nr (s.starts + 1)) (forked (record s { starts_child = s.starts + 1 }) g nr fds)
     else answers s answer.Again
 
 -- what was heard of a worker that starts
@@ -100,7 +101,7 @@ readied s g nr w (line said) =
     then answers (with_workers s (moved_first (StartingNamed g nr) Ready s.workers)) answer.IsReady
     else answers s answer.Late
 readied s g nr w too_long = answers s answer.Late
-readied s g nr w ended = stops w.id (answers (with_workers s (without_first (StartingNamed g nr) s.workers)) answer.Gone)
+readied s g nr w ended = stops_child w.id (answers (with_workers s (without_first (StartingNamed g nr) s.workers)) answer.Gone)
 
 abbrev pub ready_or_gone : Bool → Answer
 ready_or_gone ready = if ready then answer.IsReady else answer.Gone
@@ -147,11 +148,11 @@ spawned s image (Err fault.NoImage) = answers s answer.NoImage
 -- there is one child master at most
 abbrev pub spawning : State → ℕ → Option ChildMaster → Turn
 spawning s image (Some master) = answers s answer.Again
-spawning s image None = starts (role.Master image) (spawned s image)
+spawning s image None = starts_child (role.Master image) (spawned s image)
 
 -- a child master that does not answer is stopped
 abbrev pub ended_master : State → ℕ → Turn
-ended_master s id = stops id (answers (alone s) answer.Gone)
+ended_master s id = stops_child id (answers (alone s) answer.Gone)
 
 abbrev pub living : State → ℕ → Option ChildMaster → Turn
 living s image None = answers s answer.Gone
@@ -164,7 +165,7 @@ living s image (Some master) =
 
 abbrev pub terminating : State → ℕ → Option ChildMaster → Turn
 terminating s image None = answers s answer.Fine
-terminating s image (Some master) = if master.image == image then stops master.id (answers (alone s) answer.Fine) else answers s answer.Fine
+terminating s image (Some master) = if master.image == image then stops_child master.id (answers (alone s) answer.Fine) else answers s answer.Fine
 
 abbrev pub leaving : State → Turn
 leaving s = stops_each Any s.workers (answers (record s { workers = []; left = true }) answer.Fine)
@@ -185,9 +186,9 @@ own_turn s (Census g) = counting s g
 own_turn s (AwaitGone g nr) = awaiting s g nr
 own_turn s (SpawnMaster image) = spawning s image s.child
 own_turn s Adopt = answers s (adopted_or_refused s.adopted)
-own_turn s (WritePid path) = writes path (pid_text s.pid) (λ ok. answers s (fine_or_fault ok))
-own_turn s (MovePid from to) = renames from to (λ ok. answers s (fine_or_fault ok))
-own_turn s (RemovePid path) = removes path (λ ok. answers s (fine_or_fault ok))
+own_turn s (WritePid path) = writes_file path (pid_text s.pid) (λ ok. answers s (fine_or_fault ok))
+own_turn s (MovePid from to) = renames_file from to (λ ok. answers s (fine_or_fault ok))
+own_turn s (RemovePid path) = removes_file path (λ ok. answers s (fine_or_fault ok))
 own_turn s (Alive image) = living s image s.child
 own_turn s Leave = leaving s
 own_turn s (Usr1 g nr) = says_each (ServingNamed g nr) (codes "usr1") s.workers (answers s answer.Fine)
@@ -198,7 +199,7 @@ own_turn s (Ask question) = answers s answer.Back
 
 -- a child master whose pipe fails, or that says something else, is stopped
 abbrev pub gives_up : State → ℕ → Turn
-gives_up s id = stops id (answers (alone s) answer.MasterGone)
+gives_up s id = stops_child id (answers (alone s) answer.MasterGone)
 
 -- the answer that a child master was heard to give, one that the call lists
 abbrev pub answer_heard : Call → Hearing → Option Answer
@@ -258,7 +259,7 @@ exchanged_tick id now otherwise read = says id (tick_line now) (λ ok. if ok the
 
 -- a child master whose pipe fails, or that counts nobody, is stopped, and nobody beat
 abbrev pub beats_nobody : State → ℕ → Turn
-beats_nobody s id = stops id (answers (alone s) (answer.Counted []))
+beats_nobody s id = stops_child id (answers (alone s) (answer.Counted []))
 
 -- the count of a child master is passed back
 abbrev pub passing_tick : State → ℕ → Option ChildMaster → Turn

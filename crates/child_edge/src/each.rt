@@ -1,7 +1,7 @@
 //! What is asked of several workers.
 ghost use Rattle.std.specs.Prelude.{◌≡◌, ◌≤◌, ◌-◌, ℕ, Bool, List, [], vec_len, vec_capacity, codes, if◌then◌else◌};
 ghost use Rattle.child_family.specs.Told.{Hearing, Tells, heard};
-ghost use Rattle.child_family.specs.Talk.{hears, stops, awaits};
+ghost use Rattle.child_family.specs.Talk.{hears, stops_child, awaits_child};
 ghost use Rattle.child_family.specs.Lines.{is_line, is_going, beat_of};
 ghost use Rattle.child_edge.specs.Each.{says_each, stops_each, counts_each, awaits_each, beats_each, beaten, with_beat};
 ghost use Rattle.child_edge.specs.Table.{Turn};
@@ -38,7 +38,7 @@ pub(crate) fn stop_each<F: Family>(family: &mut F, workers: &[Worker], who: Who)
 /// Whether a child says `pong`; one that says anything else, or nothing more, is stopped.
 fn is_there<F: Family>(family: &mut F, id: u32) -> bool
     ensures { (yes no : Turn)
-        → GoesOn (F.told family.old) (F.told family.new) (hears id (λ h. if is_line (codes "pong") h then yes else stops id no)) (if result then yes else no) }
+        → GoesOn (F.told family.old) (F.told family.new) (hears id (λ h. if is_line (codes "pong") h then yes else stops_child id no)) (if result then yes else no) }
 {
     let mut line = Line::new();
     let is_there = match family.hear(id, &mut line) {
@@ -72,7 +72,7 @@ pub(crate) fn count_each<F: Family>(family: &mut F, workers: &mut Vec<Worker>, w
 /// Whether a child says `gone`, or nothing more; it is then waited for.
 fn is_gone<F: Family>(family: &mut F, id: u32) -> bool
     ensures { (yes no : Turn)
-        → GoesOn (F.told family.old) (F.told family.new) (hears id (λ h. if is_going h then awaits id (λ ok. yes) else no)) (if result then yes else no) }
+        → GoesOn (F.told family.old) (F.told family.new) (hears id (λ h. if is_going h then awaits_child id (λ ok. yes) else no)) (if result then yes else no) }
 {
     let mut line = Line::new();
     let is_going = match family.hear(id, &mut line) {

@@ -2,7 +2,7 @@
 ghost use Rattle.std.specs.Prelude.{◌≡◌, IsTrue};
 ghost use Rattle.call_replies.specs.Replies.{is_listed};
 ghost use Rattle.vocabulary.specs.declared.calls.Call.TheVariants.{WritePid, MovePid, RemovePid};
-ghost use Rattle.child_family.specs.Talk.{writes, renames, removes};
+ghost use Rattle.child_family.specs.Talk.{writes_file, renames_file, removes_file};
 ghost use Rattle.child_family.specs.Lines.{pid_text};
 ghost use Rattle.child_edge.specs.State.{state_of};
 ghost use Rattle.child_edge.specs.Table.{answers, fine_or_fault};
@@ -26,7 +26,7 @@ fn fine_or_fault(is_fine: bool) -> Answer
 /// Writes the edge's process number to a file.
 pub(crate) fn write_pid<F: Family>(family: &mut F, state: &EdgeState, path: &FilePath) -> Answer
     ensures turn { GoesOn (F.told family.old) (F.told family.new)
-        (writes path.now (pid_text state.now.pid) (λ ok. answers (state_of state.now) (fine_or_fault ok))) (answers (state_of state.now) result) }
+        (writes_file path.now (pid_text state.now.pid) (λ ok. answers (state_of state.now) (fine_or_fault ok))) (answers (state_of state.now) result) }
     ensures listed { IsTrue (is_listed (WritePid path.now) result) }
 {
     let text = pid_text(state.pid);
@@ -41,7 +41,7 @@ pub(crate) fn move_pid<F: Family>(
     to: &FilePath,
 ) -> Answer
     ensures turn { GoesOn (F.told family.old) (F.told family.new)
-        (renames from.now to.now (λ ok. answers (state_of state.now) (fine_or_fault ok))) (answers (state_of state.now) result) }
+        (renames_file from.now to.now (λ ok. answers (state_of state.now) (fine_or_fault ok))) (answers (state_of state.now) result) }
     ensures listed { IsTrue (is_listed (MovePid from.now to.now) result) }
 {
     fine_or_fault(family.rename_file(from, to))
@@ -50,7 +50,7 @@ pub(crate) fn move_pid<F: Family>(
 /// Removes a file.
 pub(crate) fn remove_pid<F: Family>(family: &mut F, state: &EdgeState, path: &FilePath) -> Answer
     ensures turn { GoesOn (F.told family.old) (F.told family.new)
-        (removes path.now (λ ok. answers (state_of state.now) (fine_or_fault ok))) (answers (state_of state.now) result) }
+        (removes_file path.now (λ ok. answers (state_of state.now) (fine_or_fault ok))) (answers (state_of state.now) result) }
     ensures listed { IsTrue (is_listed (RemovePid path.now) result) }
 {
     fine_or_fault(family.remove_file(path))

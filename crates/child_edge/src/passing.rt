@@ -8,7 +8,7 @@ ghost use Rattle.call_text.specs.SetReading.{set_of};
 ghost use Rattle.plain_text.specs.Cuts.{after_prefix};
 ghost use Rattle.plain_text.specs.Lines.{lines_of};
 ghost use Rattle.child_family.specs.Told.{Hearing, Tells, said, heard};
-ghost use Rattle.child_family.specs.Talk.{stops};
+ghost use Rattle.child_family.specs.Talk.{stops_child};
 ghost use Rattle.child_edge.specs.State.{state_of};
 ghost use Rattle.child_edge.specs.Each.{says_unless};
 ghost use Rattle.child_edge.specs.Table.{Turn, alone, answers, answer_heard, lines_of_call, read_or, exchanged, passing, count_in, count_or, exchanged_tick, passing_tick};
@@ -91,7 +91,7 @@ fn exchange<F: Family>(
 
 /// Stops a child master, and forgets it.
 fn give_up<F: Family>(family: &mut F, state: &mut EdgeState, id: u32)
-    ensures turn { (a : Answered) → GoesOn (F.told family.old) (F.told family.new) (stops id (answers (alone (state_of state.old)) a)) (answers (state_of state.new) a) }
+    ensures turn { (a : Answered) → GoesOn (F.told family.old) (F.told family.new) (stops_child id (answers (alone (state_of state.old)) a)) (answers (state_of state.new) a) }
     ensures workers { state.new.workers ≡ state.old.workers }
 {
     family.stop(id);

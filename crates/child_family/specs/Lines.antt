@@ -4,7 +4,7 @@ use Rattle.std.specs.Fmt.{decimal}
 use Rattle.listener_set.specs.declared.generation.Generation.{Generation}
 use Rattle.listener_set.specs.GenerationText.{generation_text}
 use Rattle.plain_text.specs.Cuts.{after_prefix}
-use Rattle.plain_text.specs.NumberText.{number_of}
+use Rattle.plain_text.specs.NumberText.{number_in}
 use Rattle.child_family.specs.Told.{Hearing, line, too_long, ended}
 
 abbrev pub worker_line : Generation → ℕ → ℕ → List ℕ
@@ -33,7 +33,7 @@ is_going ended = true
 
 -- the start that a beat at this moment names: `beat NOW START`
 abbrev pub beat_start : ℕ → List ℕ → Option ℕ
-beat_start now said = option_and_then number_of (after_prefix (codes "beat " ++ decimal now ++ 32 ∷ []) said)
+beat_start now said = option_and_then number_in (after_prefix (codes "beat " ++ decimal now ++ 32 ∷ []) said)
 
 abbrev pub beat_of : ℕ → Hearing → Option ℕ
 beat_of now (line said) = beat_start now said

@@ -21,14 +21,14 @@ heard_of Ended text = ended
 
 -- one call, with its answer
 pub data Told : Type 0 where
-  started : Role → Result ℕ StartFault → Told
+  started_child : Role → Result ℕ StartFault → Told
   said : ℕ → List ℕ → Bool → Told
   heard : ℕ → Hearing → Told
-  stopped : ℕ → Told
-  awaited : ℕ → Bool → Told
-  wrote : List ℕ → List ℕ → Bool → Told
-  renamed : List ℕ → List ℕ → Bool → Told
-  removed : List ℕ → Bool → Told
+  stopped_child : ℕ → Told
+  awaited_child : ℕ → Bool → Told
+  wrote_file : List ℕ → List ℕ → Bool → Told
+  renamed_file : List ℕ → List ℕ → Bool → Told
+  removed_file : List ℕ → Bool → Told
 
 -- Where the family tells its calls, it told them before too, and this one after those. One that could not keep a call in mind
 -- tells none from then on.

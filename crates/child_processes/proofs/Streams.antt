@@ -40,8 +40,8 @@ Within bs = (at : ℕ) × (at < length bs) × (newline_in bs ≡ Some at) × ((x
 abbrev Without : List ℕ → Type 0
 Without bs = (newline_in bs ≡ None) × ((xs : List ℕ) → newline_in (bs ++ xs) ≡ option_map (λ n. length bs + n) (newline_in xs))
 
-either : (bs : List ℕ) → Within bs ⊎ Without bs
-either bs =
+within_or_without : (bs : List ℕ) → Within bs ⊎ Without bs
+within_or_without bs =
     elim (cases_lt (place bs) (length bs)) [
       | inl lt ↦ inl (
         place bs,
@@ -64,7 +64,7 @@ behind_more bs more (Some j) =
 again : (bs : List ℕ) (d : Bool) (more : List ℕ) → due (dropped (record { bytes = bs; drops = d })) more ≡ due (record { bytes = bs; drops = d }) more
 again bs false more = refl
 again bs true more =
-    elim (either bs) [
+    elim (within_or_without bs) [
       | inl w ↦
           ap (λ o. due (behind_drop bs o) more) w.2
           ∙ sym (drop-append-le (w.0 + 1) bs more (omega (arith, w.1)))
@@ -152,7 +152,7 @@ first_told bs true more h c small e =
     let no : none ≡ Some h = sym (ap (λ b. told_first (record { bytes = b; drops = true })) (c refl)) ∙ e in
     absurd cc
 first_told bs false more h c small e =
-    elim (either bs) [
+    elim (within_or_without bs) [
       | inl w ↦ first_some bs w.0 more h small w.1 w.2 (w.3 more) e
       | inr w ↦ first_none bs more h w.0 (w.1 more) e
     ]

@@ -5,15 +5,15 @@ use Rattle.std.specs.Prelude.{codes, bytes_eq, option_map}
 use Rattle.std.specs.Fmt.{decimal}
 use Rattle.listener_set.specs.declared.generation.Generation.{Generation}
 use Rattle.listener_set.specs.GenerationText.{generation_text}
-use Rattle.plain_text.specs.NumberText.{number_of, number64_of}
+use Rattle.plain_text.specs.NumberText.{number_in, number64_of}
 use Rattle.plain_text.specs.Cuts.{cut}
 use Rattle.plain_text.proofs.NumberTextLemmas.{decimal-number64_of, number64_of-decimal}
 use Rattle.plain_text.proofs.CutTexts.{lacks, cut_found, cut_at}
 use Rattle.call_text.specs.CallText.{worker_text}
 use Rattle.call_text.specs.Reads.{Reads}
 use Rattle.call_text.specs.Ranges.{IsNumber, IsWorkerNumber, IsGeneration}
-use Rattle.call_text.specs.Reading.{joined, generation_of, worker_number}
-use Rattle.call_text.proofs.Readers.{IsReader, reads, mapped, joined_reads, number_reads, worker_number_reads, same_bytes}
+use Rattle.call_text.specs.Reading.{both_of, generation_of, worker_number}
+use Rattle.call_text.proofs.Readers.{IsReader, reads, mapped, both_reads, number_reads, worker_number_reads, same_bytes}
 use Rattle.call_text.proofs.PartTexts.{number_lacks, generation_lacks, generation_reads, address_reads}
 use Rattle.child_programs.specs.WorkerLines.{WorkerLine, Named, Listener, Go, Ping, Tick, Usr1, Close, Quit}
 use Rattle.child_programs.specs.WorkerLines.{worker_line_text, IsWorkerLine, named_from, bare_of, about, line_from}
@@ -27,18 +27,18 @@ moment_reads = record {
 }
 
 nr_start_reads : IsReader (λ (p : ℕ × ℕ). IsWorkerNumber p.0 × IsNumber p.1)
-    (λ (p : ℕ × ℕ). decimal p.0 ++ 32 ∷ decimal p.1) (joined 32 worker_number number_of)
+    (λ (p : ℕ × ℕ). decimal p.0 ++ 32 ∷ decimal p.1) (both_of 32 worker_number number_in)
 nr_start_reads =
-    joined_reads IsWorkerNumber IsNumber decimal decimal worker_number number_of 32 (λ nr lt. let less : nr < 1024 = lt in number_lacks 32 nr refl (omega arith)) worker_number_reads number_reads
+    both_reads IsWorkerNumber IsNumber decimal decimal worker_number number_in 32 (λ nr lt. let less : nr < 1024 = lt in number_lacks 32 nr refl (omega arith)) worker_number_reads number_reads
 
 abbrev Parts : Type 0
 Parts = Generation × (ℕ × ℕ)
 
 parts_reads : IsReader (λ (p : Parts). IsGeneration p.0 × (IsWorkerNumber p.1.0 × IsNumber p.1.1))
     (λ (p : Parts). generation_text p.0 ++ 32 ∷ (decimal p.1.0 ++ 32 ∷ decimal p.1.1))
-    (joined 32 generation_of (joined 32 worker_number number_of))
+    (both_of 32 generation_of (both_of 32 worker_number number_in))
 parts_reads =
-    joined_reads IsGeneration (λ (p : ℕ × ℕ). IsWorkerNumber p.0 × IsNumber p.1) generation_text (λ (p : ℕ × ℕ). decimal p.0 ++ 32 ∷ decimal p.1) generation_of (joined 32 worker_number number_of) 32
+    both_reads IsGeneration (λ (p : ℕ × ℕ). IsWorkerNumber p.0 × IsNumber p.1) generation_text (λ (p : ℕ × ℕ). decimal p.0 ++ 32 ∷ decimal p.1) generation_of (both_of 32 worker_number number_in) 32
     (generation_lacks 32 refl refl) generation_reads nr_start_reads
 
 -- the text of a name, by its parts

@@ -2,9 +2,9 @@
 use Rattle.std.specs.Prelude.{⊤, ℕ, ◌<◌, ◌^◌, List, Option, Some, None, option_map, bytes_eq, codes, if◌then◌else◌}
 use Rattle.definitions.specs.Table.{Generation}
 use Rattle.listener_set.specs.AddressText.{IsAddress}
-use Rattle.plain_text.specs.NumberText.{number_of, number64_of}
+use Rattle.plain_text.specs.NumberText.{number_in, number64_of}
 use Rattle.plain_text.specs.Cuts.{cut}
-use Rattle.call_text.specs.Reading.{joined, generation_of, worker_number, address_of}
+use Rattle.call_text.specs.Reading.{both_of, generation_of, worker_number, address_of}
 use Rattle.call_text.specs.Ranges.{IsNumber, IsWorker}
 use Rattle.child_family.specs.Lines.{worker_line, listener_line, close_line, tick_line}
 pub use Rattle.child_programs.specs.declared.worker_lines.WorkerLine.{WorkerLine}
@@ -39,7 +39,7 @@ abbrev pub named_from : Generation × (ℕ × ℕ) → WorkerLine
 named_from p = Named p.0 p.1.0 p.1.1
 
 abbrev pub named_of : List ℕ → Option WorkerLine
-named_of text = option_map named_from (joined 32 generation_of (joined 32 worker_number number_of) text)
+named_of text = option_map named_from (both_of 32 generation_of (both_of 32 worker_number number_in) text)
 
 -- a line of one word
 abbrev pub bare_of : List ℕ → Option WorkerLine

@@ -20,24 +20,24 @@ is_ready Ready = true
 is_ready Draining = false
 
 -- not told to quit
-abbrev pub is_serving : Stage → Bool
-is_serving Starting = true
-is_serving Ready = true
-is_serving Draining = false
+abbrev pub is_serving_stage : Stage → Bool
+is_serving_stage Starting = true
+is_serving_stage Ready = true
+is_serving_stage Draining = false
 
-abbrev pub bears : Generation → ℕ → Worker → Bool
-bears g nr w = same_generation w.generation g && (w.nr == nr)
+abbrev pub has_name : Generation → ℕ → Worker → Bool
+has_name g nr w = same_generation w.generation g && (w.nr == nr)
 
 -- whether a worker is among those that are meant
 abbrev pub means : Who → Worker → Bool
 means Any w = true
-means Serving w = is_serving w.stage
+means Serving w = is_serving_stage w.stage
 means IsReady w = is_ready w.stage
 means (ReadyOf g) w = is_ready w.stage && same_generation w.generation g
-means (Named g nr) w = bears g nr w
-means (ServingNamed g nr) w = is_serving w.stage && bears g nr w
-means (StartingNamed g nr) w = is_starting w.stage && bears g nr w
-means (ReadyNamed g nr) w = is_ready w.stage && bears g nr w
+means (Named g nr) w = has_name g nr w
+means (ServingNamed g nr) w = is_serving_stage w.stage && has_name g nr w
+means (StartingNamed g nr) w = is_starting w.stage && has_name g nr w
+means (ReadyNamed g nr) w = is_ready w.stage && has_name g nr w
 
 ---- The list of workers: upwards in number, and those of one number by their start
 

@@ -1,6 +1,6 @@
 //! Which workers are meant.
 ghost use Rattle.std.specs.Prelude.{◌≡◌};
-ghost use Rattle.child_workers.specs.Workers.{means, is_starting, is_ready, is_serving, bears};
+ghost use Rattle.child_workers.specs.Workers.{means, is_starting, is_ready, is_serving_stage, has_name};
 
 use crate::worker::{Stage, Worker};
 use listener_set::Generation;
@@ -36,8 +36,8 @@ fn is_ready(stage: Stage) -> bool
     }
 }
 
-fn is_serving(stage: Stage) -> bool
-    ensures { result ≡ is_serving stage }
+fn is_serving_stage(stage: Stage) -> bool
+    ensures { result ≡ is_serving_stage stage }
 {
     match stage {
         Stage::Starting | Stage::Ready => true,
@@ -45,8 +45,8 @@ fn is_serving(stage: Stage) -> bool
     }
 }
 
-fn bears(generation: Generation, nr: u32, worker: &Worker) -> bool
-    ensures { result ≡ bears generation nr worker.now }
+fn has_name(generation: Generation, nr: u32, worker: &Worker) -> bool
+    ensures { result ≡ has_name generation nr worker.now }
 {
     worker.generation == generation && worker.nr == nr
 }
@@ -58,20 +58,20 @@ impl Who {
     {
         match self {
             Who::Any => true,
-            Who::Serving => is_serving(worker.stage),
+            Who::Serving => is_serving_stage(worker.stage),
             Who::IsReady => is_ready(worker.stage),
             Who::ReadyOf(generation) => {
                 is_ready(worker.stage) && worker.generation == *generation
             }
-            Who::Named(generation, nr) => bears(*generation, *nr, worker),
+            Who::Named(generation, nr) => has_name(*generation, *nr, worker),
             Who::ServingNamed(generation, nr) => {
-                is_serving(worker.stage) && bears(*generation, *nr, worker)
+                is_serving_stage(worker.stage) && has_name(*generation, *nr, worker)
             }
             Who::StartingNamed(generation, nr) => {
-                is_starting(worker.stage) && bears(*generation, *nr, worker)
+                is_starting(worker.stage) && has_name(*generation, *nr, worker)
             }
             Who::ReadyNamed(generation, nr) => {
-                is_ready(worker.stage) && bears(*generation, *nr, worker)
+                is_ready(worker.stage) && has_name(*generation, *nr, worker)
             }
         }
     }

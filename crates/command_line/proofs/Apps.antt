@@ -25,8 +25,8 @@ ends_with old last argument known rule is says made =
     (subst (λ (app : App). IfOk last (λ new. app_of new ≡ with_rule app (rule_of argument))) is made)
 
 -- by a subcommand that is known, if it was made
-pub joined : {E : Type 0} (old new : Command) (given : Result Command E) (whole part : App) → app_of old ≡ whole → IfOk given (λ made. app_of made ≡ part) → ((known : App) → IfOk given (λ made. app_of made ≡ known) → app_of new ≡ with_subcommand (app_of old) known.top) → app_of new ≡ with_subcommand whole part.top
-joined old new given whole part is says made = made part says ∙ ap (λ (app : App). with_subcommand app part.top) is
+pub combined : {E : Type 0} (old new : Command) (given : Result Command E) (whole part : App) → app_of old ≡ whole → IfOk given (λ made. app_of made ≡ part) → ((known : App) → IfOk given (λ made. app_of made ≡ known) → app_of new ≡ with_subcommand (app_of old) known.top) → app_of new ≡ with_subcommand whole part.top
+combined old new given whole part is says made = made part says ∙ ap (λ (app : App). with_subcommand app part.top) is
 
 pub ends_joined : {E F : Type 0} (old : Command) (given : Result Command E) (last : Result Command F) (whole part : App) → app_of old ≡ whole → IfOk given (λ made. app_of made ≡ part) → IfOk last (λ new. (known : App) → IfOk given (λ made. app_of made ≡ known) → app_of new ≡ with_subcommand (app_of old) known.top) → IfOk last (λ new. app_of new ≡ with_subcommand whole part.top)
 ends_joined old given (Ok new) whole part is says made = made part says ∙ ap (λ (app : App). with_subcommand app part.top) is

@@ -11,8 +11,8 @@ use Rattle.std.proofs.lemmas.Bool.Decides.{nat_tests}
 use Rattle.std.proofs.lemmas.List.{length-drop, take_at}
 use Rattle.std.proofs.Math.Seq.{drop-append-add}
 use Rattle.std.proofs.lemmas.List.Sums.{split_at_first, passes_at_first}
-use Rattle.plain_text.specs.NumberText.{number_of, number64_of}
-use Rattle.plain_text.proofs.NumberTextLemmas.{both, decimal-number_of, decimal-number64_of, number_of-decimal, number64_of-decimal, digits-decimal}
+use Rattle.plain_text.specs.NumberText.{number_in, number64_of}
+use Rattle.plain_text.proofs.NumberTextLemmas.{both, decimal-number_in, decimal-number64_of, number_in-decimal, number64_of-decimal, digits-decimal}
 use Rattle.control_words.specs.declared.words.Word.{Word}
 use Rattle.control_words.specs.declared.words.Word.TheVariants.{Hup, Quit, Int, Term, Usr1, Usr2, Usr2Attended, Winch, Ttin, Ttou, Beat, Tick}
 use Rattle.control_words.specs.declared.refusal.WordRefusal.{WordRefusal}
@@ -46,7 +46,7 @@ beat_in-written nr now small fits =
     rw (
       before_digits (decimal nr) (decimal now) digits,
       after_digits (decimal nr) (decimal now) digits,
-      number_of-decimal nr (omega arith),
+      number_in-decimal nr (omega arith),
       number64_of-decimal now fits,
       below_limit nr small,
     ) refl
@@ -84,20 +84,20 @@ number_nonempty (c ∷ cs) n e = omega arith
 -- the numbers of a word behind its name are what is read of them
 beat_written : (numbers : List ℕ) (word : Word) → beat_in numbers ≡ Some word → (codes "beat" ++ 32 ∷ numbers ≡ word_text word) × IsWord word
 beat_written numbers word h =
-    at (number_of (before_first is_space numbers)) (number64_of (after_first is_space numbers)) refl refl h
+    at (number_in (before_first is_space numbers)) (number64_of (after_first is_space numbers)) refl refl h
   where
     below : (nr now : ℕ) (b : Bool) → ltb nr 1024 ≡ b → cond b (Some (Beat nr now)) None ≡ Some word → (nr < 1024) × (Beat nr now ≡ word)
     below nr now true e h = (grind (arith, nat_tests), cc)
     below nr now false e h = cc
 
-    at : (nr now : Option ℕ) → number_of (before_first is_space numbers) ≡ nr →
+    at : (nr now : Option ℕ) → number_in (before_first is_space numbers) ≡ nr →
         number64_of (after_first is_space numbers) ≡ now → beat_of nr now ≡ Some word →
         (codes "beat" ++ 32 ∷ numbers ≡ word_text word) × IsWord word
     at None now e f h = cc
     at (Some nr) None e f h = cc
     at (Some nr) (Some now) e f h =
         let is = below nr now (ltb nr 1024) refl h in
-        let first = decimal-number_of (before_first is_space numbers) nr e in
+        let first = decimal-number_in (before_first is_space numbers) nr e in
         let second = decimal-number64_of (after_first is_space numbers) now f in
         let line = line_of numbers (number_nonempty (after_first is_space numbers) now f) in
         subst (λ w. (codes "beat" ++ 32 ∷ numbers ≡ word_text w) × IsWord w) is.1

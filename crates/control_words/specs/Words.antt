@@ -3,7 +3,7 @@ use Rattle.std.specs.Prelude.{⊤, ℕ, ◌+◌, ◌<◌, ◌^◌, ◌==◌, zer
 use Rattle.std.specs.Prelude.{Option, Some, None, Result, Ok, Err, find, bytes_eq, codes, if◌then◌else◌}
 use Rattle.std.specs.Fmt.{decimal}
 use Rattle.std.specs.List.{before_first, after_first}
-use Rattle.plain_text.specs.NumberText.{number_of, number64_of}
+use Rattle.plain_text.specs.NumberText.{number_in, number64_of}
 use Rattle.vocabulary.specs.Settings.{Settings}
 use Rattle.definitions.specs.Master.{Record}
 use Rattle.vocabulary.specs.declared.targets.Target.{Target}
@@ -60,7 +60,7 @@ beat_of None now = None
 
 -- a beat by its two numbers, which a space parts
 abbrev pub beat_in : List ℕ → Option Word
-beat_in numbers = beat_of (number_of (before_first is_space numbers)) (number64_of (after_first is_space numbers))
+beat_in numbers = beat_of (number_in (before_first is_space numbers)) (number64_of (after_first is_space numbers))
 
 abbrev pub tick_of : Option ℕ → Option Word
 tick_of (Some now) = Some (Tick now)

@@ -64,7 +64,7 @@ abbrev pub descriptors_at : List Listener → List Address → List ℕ
 descriptors_at ls addresses =
     map (λ (l : Listener). l.descriptor) (filter (λ (l : Listener). has addresses l.address) ls)
 
--- of each group the descriptors: it takes the next so many addresses
+-- the descriptors of each group: the groups divide the addresses in order
 abbrev pub descriptors_by : List Group → List Address → List Listener → List (List ℕ)
 descriptors_by [] addresses ls = []
 descriptors_by (g ∷ gs) addresses ls =
@@ -154,12 +154,12 @@ abbrev pub record_from : Option Record → Report → ℕ → Option Record
 record_from None report pid = None
 record_from (Some r) report pid = then_some (keeps_rules (reported r report pid)) (reported r report pid)
 
--- The record after a plan for a target: the service that the report names, with its ready numbers and its note. There
--- is none after a stop or where the run was lost, nor where the result would break the rules of a record.
+-- The record after a plan for a target: the service that the report names, with its ready numbers and its note. No
+-- record is left after a stop or a lost run, nor where the result would break the rules of a record.
 abbrev pub record_after : Record → Target → Report → ℕ → Option Record
 record_after r t report pid = record_from (named_record report.outcome r t) report pid
 
----- Who reigns then
+---- The master that reigns then
 
 -- the process number of the live master of a service's image
 abbrev pub master_of : Option Record → Table → Option ℕ

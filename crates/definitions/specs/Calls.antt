@@ -97,7 +97,7 @@ drop_where test p = if test p then None else Some p
 
 ---- Descriptors
 
--- the lowest free descriptor from fd on; so many are looked at, and if none of them is free the next one is
+-- the lowest free descriptor of the n from fd on, or the next one after them
 abbrev pub free_from : ℕ → ℕ → List Hold → ℕ
 free_from zero fd hs = fd
 free_from (suc n) fd hs = if list_any (λ h. h.fd == fd) hs then free_from n (fd + 1) hs else fd
@@ -156,8 +156,8 @@ is_of_image image rows (Worker n q g k s hs) = list_any (λ p. is_image image p 
 is_of_image image rows _ = false
 
 -- What an old master tells a new one: its process number, the generation that is to run, its listeners in ascending
--- descriptors, the addresses that are wanted, the groups of workers, each of which takes the next so many of these
--- addresses, and the pid file.
+-- descriptors, the addresses that are wanted, the groups of workers, which divide these addresses in order, and the
+-- pid file.
 pub record Handover : Type 0 where
   pub old_pid : ℕ
   pub generation : Generation
@@ -166,7 +166,7 @@ pub record Handover : Type 0 where
   pub groups : List Group
   pub pid_file : Option FilePath
 
--- What a new master is handed: a handover, or nothing that is one.
+-- What a new master is handed: a handover, or something that is not one.
 abbrev pub Handed : Type 0
 Handed = Option Handover
 
@@ -196,7 +196,7 @@ without_file path files = filter (λ f. not (bytes_eq f.path path)) files
 
 -- What a live caller of this image is answered where no fate interferes, and the table then; it was handed `handed`.
 abbrev pub own_step : Handed → ℕ → Caller → Call → Table → Stepped
--- A new socket of the address, unless somebody holds the address or the caller has as many descriptors as it may.
+-- A new socket of the address, unless a process holds the address or the caller is at its limit of descriptors.
 own_step handed image c (OpenAt a) t =
     let hold : Hold = record { fd = lowest_free c.holds; socket = t.next_socket; address = a } in
     let holding = each_row (change (λ p. is_master p && (number_of p == c.number)) (with_holds (put_hold hold))) t in

@@ -151,14 +151,14 @@ pub record IsStart (t : Table) (r : Record) : Type 0 where
 
 ---- Which patterns are refused
 
--- Among those who exit is the master of one of the images.
+-- One of the processes that exit is the master of one of the images.
 abbrev pub names_any : List ℕ → List Name → Bool
 names_any images [] = false
 names_any images (name.Master i ∷ es) = is_in images i || names_any images es
 names_any images (e ∷ es) = names_any images es
 
--- Of these calls, which follow the n-th, the first at whose moment an executing master exits. Those who leave are
--- executing up to and at their Leave, and their heirs from it on.
+-- Of these calls, which follow the n-th, the first at whose moment an executing master exits. A master that leaves is
+-- executing up to and at its Leave, and its heir from then on.
 abbrev pub refused_among : List ℕ → List ℕ → Pattern → ℕ → List Entry → Option ℕ
 refused_among executing heirs pattern n [] = None
 refused_among executing heirs pattern n (e ∷ entries) =

@@ -21,7 +21,7 @@ pub use vocabulary.declared.plans.Sides.{Sides}
 pub use vocabulary.declared.targets.Target.{Target}
 pub use vocabulary.declared.targets.Target.TheVariants.{Workers, Mend, Reopen, Reload, Upgrade, Attended, Stop}
 
----- Groups of workers: each takes the next so many addresses and worker numbers of a configuration
+---- Groups of workers: they divide the addresses and the worker numbers of a configuration, in order
 
 -- the call that starts a worker of a crew: with the descriptors of its group, or with no set if there is one group
 abbrev pub fork_of : Crew → ℕ → Call
@@ -32,7 +32,7 @@ pub record Layout : Type 0 where
   pub groups : List Group
   pub listens : ℕ → Address → Bool
 
--- the addresses of a group, by its place: each takes the next so many
+-- the addresses of a group, by its place: the groups divide them in order
 abbrev pub addresses_of_group : List Group → List Address → ℕ → List Address
 addresses_of_group [] addresses place = []
 addresses_of_group (g ∷ gs) addresses zero = take g.addresses addresses
@@ -52,7 +52,7 @@ listeners_under (Some fds) ls = filter (λ (l : Listener). is_in fds l.descripto
 abbrev pub served : Layout → List ℕ → Address → ℕ
 served layout numbers a = count_by (λ k. layout.listens (group_of layout.groups k) a) numbers
 
--- what an address is short by, where each group is short by so many
+-- what an address is short by, given what each group is short by
 abbrev pub short_at : Layout → List ℕ → Address → ℕ
 short_at layout shortfalls a =
     sum_by (λ place. if layout.listens place a then get_or shortfalls place 0 else 0)
@@ -113,7 +113,7 @@ IsRunning m crew holds _ = ⊤
 abbrev pub oldbin : FilePath → FilePath
 oldbin path = path ++ codes ".oldbin"
 
--- The files are as the note says. A master whose file stands at the path with the suffix may have a stale file at the
+-- The files are as the note says. Where a master's file is at the path with the suffix, a stale file may be at the
 -- path.
 abbrev pub FilesAre : PidNote → Option FilePath → ℕ → List File → Type 0
 FilesAre InPlace (Some path) pid files = (owner_at path files ≡ Some pid) × (owner_at (oldbin path) files ≡ None)

@@ -51,7 +51,7 @@ on replies rest more = Branch replies None rest more
 abbrev pub then_edge : Tree → Branches
 then_edge rest = on (reply.Fine ∷ []) rest Nothing
 
--- whether the worker is ready or gone is no matter
+-- the worker may be ready or gone
 abbrev pub await_any_edges : Tree → Tree → Branches
 await_any_edges next late = on (reply.IsReady ∷ reply.Gone ∷ []) next (on (reply.Late ∷ []) late Nothing)
 
@@ -193,7 +193,7 @@ reload_tree by old new ready retries held wanted n =
 
 ---- Stop
 
--- whether a file stands at the path with the suffix
+-- whether a file is at the path with the suffix
 abbrev pub has_oldbin : PidNote → Bool
 has_oldbin AtOldbin = true
 has_oldbin OldbinLeft = true
@@ -292,8 +292,8 @@ abbrev pub new_part : Crew → List Address → List Address → ℕ → Tree
 new_part crew held wanted n =
     tries_all crew.generation.image (new_calls crew held wanted n) (Ends JoinReady) (Ends JoinBack)
 
--- The old master meanwhile mends its own workers: it counts those that were ready, and starts what is lacking, so
--- many rounds; what the last count says is no matter.
+-- The old master meanwhile mends its own workers: it counts those that were ready, and starts what is lacking, for a
+-- number of rounds. What the last count says does not matter.
 abbrev pub old_part : ℕ → Crew → List ℕ → ℕ → Tree
 old_part by crew ready zero =
     Does by (Make (Census crew.generation)) ready (on (reply.Full ∷ reply.Short ∷ []) (Ends Join) Nothing)

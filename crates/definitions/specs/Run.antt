@@ -1,7 +1,7 @@
 -- Plans as trees, and the run of a tree on a table under a pattern.
 --
--- Our own. Other masters go on after a failure as their code happens to; a plan has an edge for every reply. One moment
--- is: some children exit, and then one call by one master takes effect.
+-- Our own. Other masters go on after a failure as their code happens to; a plan has an edge for every reply. In one
+-- moment some children exit, and then one call by one master takes effect.
 
 use Rattle.vocabulary.specs as vocabulary
 use Rattle.definitions.specs as above
@@ -93,7 +93,7 @@ call_of (KillLacking g) lacking = Kill g (get_or lacking 0 0)
 
 ---- Moments
 
--- What happens at one call: who exits before it, and how it is made to fail.
+-- What happens at one call: which processes exit before it, and how it is made to fail.
 pub record Moment : Type 0 where
   pub exits : List Name
   pub fate : Option Fate
@@ -194,7 +194,7 @@ pub record Ran : Type 0 where
   pub ending : Ending
   pub last : Progress
 
--- `run_with` is the run of a tree; `goes_with` goes on behind the first of these edges that has the reply. What a call
+-- `run_with` is the run of a tree; `goes_with` goes on after the first of these edges that has the reply. What a call
 -- is handed is the same throughout.
 abbrev mutual
   pub run_with : Handed → Tree → Pattern → Progress → Ran
@@ -220,7 +220,7 @@ abbrev mutual
 
 ---- What is reported: what the calls and their answers tell, and nothing else
 
--- the outcome of a run that ends so, by the groups of its side and what the last count lacked
+-- the outcome of a run with this ending, by the groups of its side and what the last count lacked
 abbrev pub outcome_of : Sides → Ending → List ℕ → Outcome
 outcome_of sides (At Done) lacking = outcome.Done
 outcome_of sides (At RolledBack) lacking = outcome.RolledBack

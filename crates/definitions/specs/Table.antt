@@ -1,4 +1,4 @@
--- The table of processes: who runs, what each holds, which files are there, and the service of a table.
+-- The table of processes: which run, what each holds, which files exist, and the service of a table.
 --
 -- After POSIX, as far as masters need it: a process has a number and a parent, a descriptor leads to a socket, and an
 -- address is taken as long as a process holds a socket of it. The service is our own notion.
@@ -25,7 +25,7 @@ FilePath = List ℕ
 abbrev pub same_generation : Generation → Generation → Bool
 same_generation g h = (g.image == h.image) && (g.config == h.config)
 
--- A descriptor, the socket behind it, and the address of that socket.
+-- A descriptor, its socket, and the address of that socket.
 pub record Hold : Type 0 where
   pub fd : ℕ
   pub socket : ℕ
@@ -44,7 +44,7 @@ pub record File : Type 0 where
   pub path : FilePath
   pub owner : ℕ
 
--- The rows stand in ascending process number, since a new one has the next number. Each path has one file.
+-- The rows are in ascending process number, since a new one has the next number. Each path has one file.
 pub record Table : Type 0 where
   pub rows : List Process
   pub files : List File
@@ -125,7 +125,7 @@ abbrev pub owner_at : FilePath → List File → Option ℕ
 owner_at path [] = None
 owner_at path (f ∷ files) = if bytes_eq f.path path then Some f.owner else owner_at path files
 
----- What every table that the kernel makes keeps by itself, since it uses no process number again
+---- What is true of every table that the kernel makes, since it uses no process number again
 
 -- A worker that drains or has exited holds nothing; of a master, or of somebody else's process, nothing is asked.
 abbrev pub IsQuiet : Process → Type 0
@@ -152,8 +152,8 @@ pub record IsFormed (t : Table) : Type 0 where
 
 ---- The service
 
--- Which addresses are served, and by how many workers of each generation. It is what clients can tell: a worker that
--- drains serves nobody new, and does not count. A map by extension: each key goes to the count of each generation.
+-- Which addresses are served, and by how many workers of each generation. It is what clients can observe: a worker
+-- that drains accepts no new client, and does not count. It maps each key to the count of each generation.
 abbrev pub Service : Type 0
 Service = Address → Option (Generation → ℕ)
 
@@ -169,7 +169,7 @@ service t a =
     then Some (λ g. count_by (is_serving a (λ h. same_generation h g)) t.rows)
     else None
 
--- At each of these addresses so many of one generation.
+-- At each of these addresses its count of workers, all of one generation.
 abbrev pub serving : List Address → Generation → (Address → ℕ) → Service
 serving addresses g count a =
     if has addresses a then Some (λ h. if same_generation h g then count a else 0) else None

@@ -143,7 +143,7 @@ come-step r target turns t pattern n heirs by order set branches p m come is =
 ---- Any rest of a plan
 
 -- The call of the entry is made in the moment: what follows of the trail, of the table and of the run.
-pub record Goes (r : Record) (target : Target) (rest : Option Tree) (p : Progress) (m : Moment) (e : Entry) : Type 0 where
+pub record GoesOn (r : Record) (target : Target) (rest : Option Tree) (p : Progress) (m : Moment) (e : Entry) : Type 0 where
   pub trail : advance (trail_at rest p) e ≡ trail_at (rest_after (follow rest e.answer)) (moved (handover_for r target) rest m p)
   pub onto : rest_after (follow rest e.answer) ≡ rest_moved (handover_for r target) rest m p
   pub table : (moved (handover_for r target) rest m p).table ≡ (step_with (handover_for r target) e.by e.call m.fate (after_exits m.exits p.table)).table
@@ -156,7 +156,7 @@ pub record Goes (r : Record) (target : Target) (rest : Option Tree) (p : Progres
       (moved (handover_for r target) rest m p)).entries
 
 pub goes : (r : Record) (target : Target) (rest : Option Tree) (p : Progress) (m : Moment) (e : Entry) → Asks rest p.lacked e →
-    e.answer ≡ (step_with (handover_for r target) e.by e.call m.fate (after_exits m.exits p.table)).answer → Goes r target rest p m e
+    e.answer ≡ (step_with (handover_for r target) e.by e.call m.fate (after_exits m.exits p.table)).answer → GoesOn r target rest p m e
 goes r target None p m e asks answer = absurd asks
 goes r target (Some (Ends end)) p m e asks answer = absurd asks
 goes r target (Some (Does by order set branches)) p m e asks answer =
@@ -166,7 +166,7 @@ goes r target (Some (Does by order set branches)) p m e asks answer =
     (after_exits m.exits p.table) in
     let same : e ≡ entry_in handed by order set branches p m = λ i.
     record { by = asks.0 i; call = asks.1 i; answer = (answer ∙ ap (λ (s : Stepped). s.answer) mine) i } in
-    subst (λ (x : Entry). Goes r target (Some (Does by order set branches)) p m x) (sym same) (record {
+    subst (λ (x : Entry). GoesOn r target (Some (Does by order set branches)) p m x) (sym same) (record {
       trail = trail-behind handed by order set branches p m;
       onto = refl;
       table = further-table handed by order set branches p m;

@@ -26,9 +26,9 @@ outcome-of sides None lacking o h = h
 outcome-of sides (Some (Ends end)) lacking o h = h
 outcome-of sides (Some (Does by order set branches)) lacking o h = absurd h
 
-pub reported : (handed : Handed) (sides : Sides) (t : Trail) (q : Pattern) (p : Progress) (ran : Ran) (report : Report) →
+pub reports_it : (handed : Handed) (sides : Sides) (t : Trail) (q : Pattern) (p : Progress) (ran : Ran) (report : Report) →
     IsOver t.rest → trail_at t.rest p ≡ t → EndsAlike ran (rest_run handed t.rest q p) → Reports sides t report → report ≡ report_of sides ran
-reported handed sides t q p ran report over trail alike is =
+reports_it handed sides t q p ran report over trail alike is =
     let ending = sym (ending-of handed t.rest q p over) ∙ sym alike.ending in
     let last : p ≡ ran.last = sym (last-of handed t.rest q p over) ∙ sym alike.last in
     let lacking : (lacked_last t.lacked) ≡ (lacked_last ran.last.lacked) = ap (λ (x : Trail). lacked_last x.lacked) (sym trail) ∙ ap (λ (x : Progress). lacked_last x.lacked) last in

@@ -21,7 +21,7 @@ use Rattle.explorer.specs.declared.events.Tried.{Tried}
 use Rattle.explorer.specs.declared.position.Position.{Position}
 use Rattle.explorer.specs.Events.{pattern_of, met, waiting}
 use Rattle.explorer.specs.Positions.{rest_run, HasCome, IsSameUpTo, IsFit, IsAt, IsLater, moved, open_now}
-use Rattle.explorer.proofs.Coming.{Goes, goes, met-step}
+use Rattle.explorer.proofs.Coming.{GoesOn, goes, met-step}
 
 -- the entry of the call that was due
 abbrev pub entry_of : Due → Answer → Entry
@@ -48,7 +48,7 @@ later before due m course kernel waits answer fit asks moment is =
     let handed = handover_for before.state.now before.target.now in
     let stepped : (p : Progress) → IsAt before p → record { answer = answer; table = kernel.table } ≡ step_with handed due.by due.call m.fate (after_exits m.exits p.table) =
     λ p at. is.step ∙ (λ i. step_with (at.handed i) due.by due.call m.fate (after_exits m.exits (sym at.table i))) in
-    let on : (p : Progress) → IsAt before p → Goes before.state.now before.target.now T.rest p m e =
+    let on : (p : Progress) → IsAt before p → GoesOn before.state.now before.target.now T.rest p m e =
     λ p at. goes before.state.now before.target.now T.rest p m e (subst (λ ks. Asks T.rest ks e) (sym (ap (λ (t : Trail). t.lacked) at.trail)) (asks answer)) (ap (λ (s : Stepped). s.answer) (stepped p at)) in
     let trails : (p : Progress) → IsAt before p → trail_on course ≡ advance (trail_at T.rest p) e =
     λ p at. is.trail ∙ ap (λ (t : Trail). advance t e) (sym at.trail) in

@@ -26,53 +26,53 @@ Rises t = IsAscending 0 t.rows t.next_process
 
 ---- Rows that leave, or stay with their numbers
 
-abbrev IsSame : Process → Process → Type 0
-IsSame p p' = number_of p' ≡ number_of p
+abbrev HasSameNumber : Process → Process → Type 0
+HasSameNumber p p' = number_of p' ≡ number_of p
 
-still : {ps qs : List Process} → Becomes IsSame ps qs → (a b next : ℕ) → a ≤ b → IsAscending b ps next → IsAscending a qs next
+still : {ps qs : List Process} → Becomes HasSameNumber ps qs → (a b next : ℕ) → a ≤ b → IsAscending b ps next → IsAscending a qs next
 still Becomes.over a b next le h = omega (arith, le, h)
 still (Becomes.leaves {p} {ps} {qs} r) a b next le h = still r a (number_of p + 1) next (omega (arith, le, h.0)) h.1
 still (Becomes.stays {p} {p'} {ps} {qs} same r) a b next le h =
     (omega (arith, le, h.0, same), subst (λ n. IsAscending (n + 1) qs next) (sym same) (still r (number_of p + 1) (number_of p + 1) next (omega arith) h.1))
 
 module _ (next : ℕ) (rows : List Process) (h : IsAscending 0 rows next) where
-  each : (f : Process → Option Process) → ((p : Process) → IfSome (f p) (IsSame p)) → IsAscending 0 (filter_map f rows) next
-  each f says = still (Becomes-filter_map IsSame f says rows) 0 0 next (omega arith) h
+  each : (f : Process → Option Process) → ((p : Process) → IfSome (f p) (HasSameNumber p)) → IsAscending 0 (filter_map f rows) next
+  each f says = still (Becomes-filter_map HasSameNumber f says rows) 0 0 next (omega arith) h
 
-  changed : (test : Process → Bool) (f : Process → Process) → ((p : Process) → IsSame p (f p)) → IsAscending 0 (filter_map (change test f) rows) next
-  changed test f same = each (change test f) (says-change IsSame (λ p. refl) test f (λ p t. same p))
+  changed : (test : Process → Bool) (f : Process → Process) → ((p : Process) → HasSameNumber p (f p)) → IsAscending 0 (filter_map (change test f) rows) next
+  changed test f same = each (change test f) (says-change HasSameNumber (λ p. refl) test f (λ p t. same p))
 
   dropped : (test : Process → Bool) → IsAscending 0 (filter_map (drop_where test) rows) next
-  dropped test = each (drop_where test) (says-dropped IsSame (λ p. refl) test)
+  dropped test = each (drop_where test) (says-dropped HasSameNumber (λ p. refl) test)
 
-same-exited : (p : Process) → IsSame p (made_exited p)
+same-exited : (p : Process) → HasSameNumber p (made_exited p)
 same-exited (Worker n q g k s hs) = refl
 same-exited (Master n q i live hs) = refl
 same-exited (Foreign n hs) = refl
 
-same-ready : (p : Process) → IsSame p (made_ready p)
+same-ready : (p : Process) → HasSameNumber p (made_ready p)
 same-ready (Worker n q g k s hs) = refl
 same-ready (Master n q i live hs) = refl
 same-ready (Foreign n hs) = refl
 
-same-draining : (p : Process) → IsSame p (made_draining p)
+same-draining : (p : Process) → HasSameNumber p (made_draining p)
 same-draining (Worker n q g k s hs) = refl
 same-draining (Master n q i live hs) = refl
 same-draining (Foreign n hs) = refl
 
-same-holds : (f : List Hold → List Hold) (p : Process) → IsSame p (with_holds f p)
+same-holds : (f : List Hold → List Hold) (p : Process) → HasSameNumber p (with_holds f p)
 same-holds f (Worker n q g k s hs) = refl
 same-holds f (Master n q i live hs) = refl
 same-holds f (Foreign n hs) = refl
 
-kept : (b : Bool) (p p' : Process) → IsSame p p' → IfSome (then_some b p') (IsSame p)
+kept : (b : Bool) (p p' : Process) → HasSameNumber p p' → IfSome (then_some b p') (HasSameNumber p)
 kept true p p' same = same
 kept false p p' same = tt
 
-same-without : (gone : ℕ) (lives : ℕ → Bool) (p : Process) → IfSome (without_exited gone lives p) (IsSame p)
+same-without : (gone : ℕ) (lives : ℕ → Bool) (p : Process) → IfSome (without_exited gone lives p) (HasSameNumber p)
 same-without gone lives (Worker n q g k s hs) = at (q == gone)
   where
-    at : (b : Bool) → IfSome (cond b None (Some (Worker n q g k s hs))) (IsSame (Worker n q g k s hs))
+    at : (b : Bool) → IfSome (cond b None (Some (Worker n q g k s hs))) (HasSameNumber (Worker n q g k s hs))
     at true = tt
     at false = refl
 same-without gone lives (Foreign n hs) = refl
@@ -80,11 +80,11 @@ same-without gone lives (Master n q i live hs) = at (n == gone)
   where
     at : (b : Bool) →
         IfSome (cond b (then_some (lives q) (Master n q i false [])) (Some (Master n (cond (q == gone) 1 q) i live hs)))
-        (IsSame (Master n q i live hs))
+        (HasSameNumber (Master n q i live hs))
     at true = kept (lives q) (Master n q i live hs) (Master n q i false []) refl
     at false = refl
 
-same-left : (m : ℕ) (p : Process) → IfSome (without_master m p) (IsSame p)
+same-left : (m : ℕ) (p : Process) → IfSome (without_master m p) (HasSameNumber p)
 same-left m p = same-without m (λ parent. false) p
 
 ---- Exits
@@ -99,7 +99,7 @@ module _ (next : ℕ) where
   exits-one : (e : Name) (rows : List Process) → IsAscending 0 rows next → IsAscending 0 (exited e rows) next
   exits-one (name.Worker g k) rows h = changed next rows h (is_named is_active g k) made_exited same-exited
   exits-one (name.Draining g k) rows h =
-      still (Becomes-first_changed IsSame (λ p. refl) (is_named is_draining g k) made_exited (λ p t. same-exited p) rows) 0 0 next (omega arith) h
+      still (Becomes-first_changed HasSameNumber (λ p. refl) (is_named is_draining g k) made_exited (λ p t. same-exited p) rows) 0 0 next (omega arith) h
   exits-one (name.Master image) rows h = master-exits (live_master image rows) rows h
 
   exits-all : (es : List Name) (rows : List Process) → IsAscending 0 rows next → IsAscending 0 (all_exited es rows) next

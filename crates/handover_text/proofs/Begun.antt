@@ -11,7 +11,7 @@ use Rattle.std.proofs.lemmas.Bool.Decides.{eqb_tells}
 use Rattle.std.proofs.lemmas.List.{append-nil, length-append, length-replicate, length-map}
 use Rattle.std.proofs.lemmas.List.Sums.{sum_by_push}
 use Rattle.std.proofs.lemmas.Map.Steps.{le-length_from_below}
-use Rattle.plain_text.specs.NumberText.{number_of, number_within}
+use Rattle.plain_text.specs.NumberText.{number_in, number_within}
 use Rattle.listener_set.specs.PathText.{is_path}
 use Rattle.listener_set.specs.AddressList.{has}
 use Rattle.worker_groups.specs.declared.groups.Group.{Group}
@@ -28,7 +28,7 @@ use Rattle.handover_text.specs.Spelling.{HandoverVersion, One, Two, line_of, ver
 use Rattle.handover_text.specs.Spelling.{workers_line, group_line, pid_file_line, group_lines}
 use Rattle.handover_text.specs.Reading.{Reached, AtVersion, AtOldPid, AtGeneration, AtFirstListener, AtListeners}
 use Rattle.handover_text.specs.Reading.{AtWants, AtGroup, AtPidFile, AtEnd, Over, Read, nothing_read, is_space}
-use Rattle.handover_text.specs.Reading.{is_address, listener_read, one_more, joined, with_old_pid, with_generation}
+use Rattle.handover_text.specs.Reading.{is_address, listener_read, one_more, extended, with_old_pid, with_generation}
 use Rattle.handover_text.specs.Reading.{with_listener, with_want, with_groups, with_workers, can_begin, with_group}
 use Rattle.handover_text.specs.Reading.{read_wanted, read_behind, read_pid_file, read_end, read_if, read_line}
 use Rattle.handover_text.specs.Reading.{then_read, read_rest, read_pieces, reading}
@@ -319,7 +319,7 @@ module _ (n : ℕ) where
 
   workers-name : (h : Handover) (o : Option ℕ) → IfFault n (with_workers n h o)
   workers-name h None = refl
-  workers-name h (Some w) = groups-name AtPidFile h (joined [] (record { addresses = length h.want; workers = w }))
+  workers-name h (Some w) = groups-name AtPidFile h (extended [] (record { addresses = length h.want; workers = w }))
 
   group-names : (h : Handover) (o : Option ℕ) → IfFault n (with_group n h o)
   group-names h None = refl
@@ -342,11 +342,11 @@ module _ (n : ℕ) where
   pub line-names : (place : Reached) (h : Handover) (line : List ℕ) → IfFault n (read_line n place h line)
   line-names AtVersion h line = either (bytes_eq line (codes "handover 1")) _ _ tt (either (bytes_eq line (codes "handover 2")) _ _ tt tt)
   line-names (AtOldPid version) h line = if-fault n (after_prefix (codes "old-pid ") line) _ _ (λ rest. pid-names version h (number_within 1 4294967295 rest)) refl
-  line-names (AtGeneration version) h line = if-fault n (after_prefix (codes "generation ") line) _ _ (λ rest. generation-names version h (number_of (before_first is_space rest)) (number_of (after_first is_space rest))) refl
+  line-names (AtGeneration version) h line = if-fault n (after_prefix (codes "generation ") line) _ _ (λ rest. generation-names version h (number_in (before_first is_space rest)) (number_in (after_first is_space rest))) refl
   line-names (AtFirstListener version) h line = if-fault n (after_prefix (codes "listener ") line) _ _ (λ rest. listener-names version h (listener_read rest)) refl
   line-names (AtListeners version) h line = if-fault n (after_prefix (codes "listener ") line) _ _ (λ rest. listener-names version h (listener_read rest)) (wanted-names version h line)
   line-names AtWants h line = if-fault n (after_prefix (codes "want ") line) _ _ (λ rest. want-names AtWants h rest) (if-fault n (after_prefix (codes "workers ") line) _ _ (λ rest. workers-name h (number_within 0 1024 rest)) refl)
-  line-names (AtGroup g) h line = if-fault n (after_prefix (codes "want ") line) _ _ (λ rest. want-names (AtGroup (one_more g)) h rest) (behind-names h (joined h.groups g) line)
+  line-names (AtGroup g) h line = if-fault n (after_prefix (codes "want ") line) _ _ (λ rest. want-names (AtGroup (one_more g)) h rest) (behind-names h (extended h.groups g) line)
   line-names AtPidFile h line = file-names One h line
   line-names (AtEnd version) h line = end-names version h line
   line-names (Over version) h line = tt

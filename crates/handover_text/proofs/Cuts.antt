@@ -19,11 +19,11 @@ use Rattle.handover_text.proofs.Taken.{reading-spelling, spellings_apart}
 ---- The pieces of a text and of what it begins
 
 -- the last piece goes on
-abbrev joined : List (List ℕ) → List (List ℕ) → List (List ℕ)
-joined [] zs = zs
-joined (x ∷ []) [] = x ∷ []
-joined (x ∷ []) (z ∷ zs) = (x ++ z) ∷ zs
-joined (x ∷ y ∷ more) zs = x ∷ joined (y ∷ more) zs
+abbrev run_on : List (List ℕ) → List (List ℕ) → List (List ℕ)
+run_on [] zs = zs
+run_on (x ∷ []) [] = x ∷ []
+run_on (x ∷ []) (z ∷ zs) = (x ++ z) ∷ zs
+run_on (x ∷ y ∷ more) zs = x ∷ run_on (y ∷ more) zs
 
 split_cases : (P : List (List ℕ) → Type 0) (text : List ℕ) →
     ((piece : List ℕ) (pieces : List (List ℕ)) → slice_split is_newline text ≡ piece ∷ pieces → P (piece ∷ pieces)) →
@@ -34,25 +34,25 @@ split_cases P text some = at (slice_split is_newline text) refl (length-slice_sp
     at [] e n = absurd (omega (arith, n))
     at (piece ∷ pieces) e n = some piece pieces e
 
-onto_joined : (c : ℕ) (x : List ℕ) (xs zs : List (List ℕ)) → onto_first c (joined (x ∷ xs) zs) ≡ joined (onto_first c (x ∷ xs)) zs
-onto_joined c x [] [] = refl
-onto_joined c x [] (z ∷ zs) = refl
-onto_joined c x (y ∷ ys) zs = refl
+onto_run_on : (c : ℕ) (x : List ℕ) (xs zs : List (List ℕ)) → onto_first c (run_on (x ∷ xs) zs) ≡ run_on (onto_first c (x ∷ xs)) zs
+onto_run_on c x [] [] = refl
+onto_run_on c x [] (z ∷ zs) = refl
+onto_run_on c x (y ∷ ys) zs = refl
 
-pieces_joined : (a b : List ℕ) → slice_split is_newline (a ++ b) ≡ joined (slice_split is_newline a) (slice_split is_newline b)
-pieces_joined [] b = split_cases (λ zs. zs ≡ joined ([] ∷ []) zs) b (λ piece pieces e. refl)
-pieces_joined (c ∷ cs) b =
-    let rest = pieces_joined cs b in
-    split_cases (λ xs. slice_split is_newline (cs ++ b) ≡ joined xs (slice_split is_newline b) → cond (is_newline c) ([] ∷ slice_split is_newline (cs ++ b)) (onto_first c (slice_split is_newline (cs ++ b))) ≡ joined (cond (is_newline c) ([] ∷ xs) (onto_first c xs)) (slice_split is_newline b)) cs
+pieces_run_on : (a b : List ℕ) → slice_split is_newline (a ++ b) ≡ run_on (slice_split is_newline a) (slice_split is_newline b)
+pieces_run_on [] b = split_cases (λ zs. zs ≡ run_on ([] ∷ []) zs) b (λ piece pieces e. refl)
+pieces_run_on (c ∷ cs) b =
+    let rest = pieces_run_on cs b in
+    split_cases (λ xs. slice_split is_newline (cs ++ b) ≡ run_on xs (slice_split is_newline b) → cond (is_newline c) ([] ∷ slice_split is_newline (cs ++ b)) (onto_first c (slice_split is_newline (cs ++ b))) ≡ run_on (cond (is_newline c) ([] ∷ xs) (onto_first c xs)) (slice_split is_newline b)) cs
     (λ x xs e same. at (is_newline c) x xs same)
     rest
   where
     at : (newline : Bool) (x : List ℕ) (xs : List (List ℕ)) →
-        slice_split is_newline (cs ++ b) ≡ joined (x ∷ xs) (slice_split is_newline b) →
+        slice_split is_newline (cs ++ b) ≡ run_on (x ∷ xs) (slice_split is_newline b) →
         cond newline ([] ∷ slice_split is_newline (cs ++ b)) (onto_first c (slice_split is_newline (cs ++ b)))
-        ≡ joined (cond newline ([] ∷ x ∷ xs) (onto_first c (x ∷ xs))) (slice_split is_newline b)
+        ≡ run_on (cond newline ([] ∷ x ∷ xs) (onto_first c (x ∷ xs))) (slice_split is_newline b)
     at true x xs same = ap (λ ys. [] ∷ ys) same
-    at false x xs same = ap (onto_first c) same ∙ onto_joined c x xs (slice_split is_newline b)
+    at false x xs same = ap (onto_first c) same ∙ onto_run_on c x xs (slice_split is_newline b)
 
 ---- Refusals that stay
 
@@ -73,7 +73,7 @@ kept_itself refusal.Cut = tt
 kept_itself refusal.Trailing = refl
 
 rest_kept : (n : ℕ) (place : Reached) (h : Handover) (rest : List ℕ) (zs : List (List ℕ)) →
-    IsKept (read_rest place h rest) (read_pieces n place h (joined (rest ∷ []) zs))
+    IsKept (read_rest place h rest) (read_pieces n place h (run_on (rest ∷ []) zs))
 rest_kept n AtVersion h rest zs = tt
 rest_kept n (AtOldPid version) h rest zs = tt
 rest_kept n (AtGeneration version) h rest zs = tt
@@ -89,14 +89,14 @@ rest_kept n (Over version) h (c ∷ cs) (z ∷ []) = refl
 rest_kept n (Over version) h (c ∷ cs) (z ∷ y ∷ zs) = refl
 
 line_joined : (n : ℕ) (place : Reached) (h : Handover) (line next : List ℕ) (more zs : List (List ℕ)) →
-    read_pieces n place h (line ∷ joined (next ∷ more) zs)
-    ≡ then_read (read_line n place h line) (λ place' h'. read_pieces (n + 1) place' h' (joined (next ∷ more) zs))
+    read_pieces n place h (line ∷ run_on (next ∷ more) zs)
+    ≡ then_read (read_line n place h line) (λ place' h'. read_pieces (n + 1) place' h' (run_on (next ∷ more) zs))
 line_joined n place h line next [] [] = refl
 line_joined n place h line next [] (z ∷ zs) = refl
 line_joined n place h line next (y ∷ more) zs = refl
 
 pieces_kept : (n : ℕ) (place : Reached) (h : Handover) (rest : List ℕ) (pieces zs : List (List ℕ)) →
-    IsKept (read_pieces n place h (rest ∷ pieces)) (read_pieces n place h (joined (rest ∷ pieces) zs))
+    IsKept (read_pieces n place h (rest ∷ pieces)) (read_pieces n place h (run_on (rest ∷ pieces) zs))
 pieces_kept n place h rest [] zs = rest_kept n place h rest zs
 pieces_kept n place h line (next ∷ more) zs =
     subst (IsKept (read_pieces n place h (line ∷ next ∷ more))) (sym (line_joined n place h line next more zs))
@@ -104,16 +104,16 @@ pieces_kept n place h line (next ∷ more) zs =
   where
     at : (r : Read) → ((place' : Reached) (h' : Handover) →
         IsKept (read_pieces (n + 1) place' h' (next ∷ more))
-        (read_pieces (n + 1) place' h' (joined (next ∷ more) zs))) →
+        (read_pieces (n + 1) place' h' (run_on (next ∷ more) zs))) →
         IsKept (then_read r (λ place' h'. read_pieces (n + 1) place' h' (next ∷ more)))
-        (then_read r (λ place' h'. read_pieces (n + 1) place' h' (joined (next ∷ more) zs)))
+        (then_read r (λ place' h'. read_pieces (n + 1) place' h' (run_on (next ∷ more) zs)))
     at (Err e) later = kept_itself e
     at (Ok state) later = later state.0 state.1
 
 pub reading_kept : (a b : List ℕ) → IsKept (reading a) (reading (a ++ b))
 reading_kept a b =
-    subst (λ pieces. IsKept (reading a) (read_pieces 1 AtVersion nothing_read pieces)) (sym (pieces_joined a b))
-    (split_cases (λ xs. IsKept (read_pieces 1 AtVersion nothing_read xs) (read_pieces 1 AtVersion nothing_read (joined xs (slice_split is_newline b)))) a
+    subst (λ pieces. IsKept (reading a) (read_pieces 1 AtVersion nothing_read pieces)) (sym (pieces_run_on a b))
+    (split_cases (λ xs. IsKept (read_pieces 1 AtVersion nothing_read xs) (read_pieces 1 AtVersion nothing_read (run_on xs (slice_split is_newline b)))) a
     (λ x xs e. pieces_kept 1 AtVersion nothing_read x xs (slice_split is_newline b)))
 
 -- A text that ends before its end is a cut.

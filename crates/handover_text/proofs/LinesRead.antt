@@ -7,11 +7,11 @@ use Rattle.std.proofs.lemmas.Option.{none-some, same_Some}
 use Rattle.std.proofs.lemmas.List.Sums.{list_all-from_AllPass}
 use Rattle.std.specs.Char.{is_ascii_graphic}
 use Rattle.listener_set.specs.PathText.{is_path, IsFilePath}
-use Rattle.plain_text.specs.NumberText.{number_of, number_within}
+use Rattle.plain_text.specs.NumberText.{number_in, number_within}
 use Rattle.listener_set.specs.AddressText.{reading, check, accepted}
 use Rattle.listener_set.specs.declared.address.AddressRefusal.{AddressRefusal}
 use Rattle.listener_set.specs.AddressList.{has}
-use Rattle.plain_text.proofs.NumberTextLemmas.{decimal-number_of, decimal-number_within}
+use Rattle.plain_text.proofs.NumberTextLemmas.{decimal-number_in, decimal-number_within}
 use Rattle.vocabulary.specs.declared.table.Listener.{Listener}
 use Rattle.definitions.specs.After.{listens_on}
 use Rattle.definitions.specs.Calls.{Handover}
@@ -21,8 +21,8 @@ use Rattle.master_listeners.specs.Listeners.{is_above}
 
 ---- Values
 
-pub number_most : (text : List ℕ) (n : ℕ) → number_of text ≡ Some n → n ≤ 4294967295
-number_most text n e = let lt = (decimal-number_of text n e).1 in omega (arith, lt)
+pub number_most : (text : List ℕ) (n : ℕ) → number_in text ≡ Some n → n ≤ 4294967295
+number_most text n e = let lt = (decimal-number_in text n e).1 in omega (arith, lt)
 
 -- what the listener of a line is
 pub listener_bounds : (rest : List ℕ) (l : Listener) → listener_read rest ≡ Some l → (3 ≤ l.descriptor) × (l.descriptor < 67) × (is_address l.address ≡ true)

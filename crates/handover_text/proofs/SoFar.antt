@@ -11,11 +11,11 @@ use Rattle.std.proofs.lemmas.List.Folds.{list_all-append}
 use Rattle.std.proofs.lemmas.List.Sums.{fails_before_first, sum_by_push}
 use Rattle.std.proofs.lemmas.List.Splits.{slice_split_first, slice_split_none, length-slice_split}
 use Rattle.std.proofs.lemmas.List.Quantifiers.{all_pairs_push}
-use Rattle.plain_text.specs.NumberText.{number_of, number_within}
+use Rattle.plain_text.specs.NumberText.{number_in, number_within}
 use Rattle.plain_text.proofs.NumberTextLemmas.{decimal-number_within}
 use Rattle.listener_set.specs.PathText.{is_path, begins_with_slash}
 use Rattle.listener_set.specs.AddressList.{has}
-use Rattle.listener_set.proofs.AddressLists.{has_address}
+use Rattle.listener_set.proofs.AddressLists.{has_this_address}
 use Rattle.vocabulary.specs.declared.handover.HandoverRefusal.{HandoverRefusal}
 use Rattle.vocabulary.specs.declared.table.Listener.{Listener}
 use Rattle.definitions.specs.After.{listens_on}
@@ -24,7 +24,7 @@ use Rattle.handover_text.specs.Spelling.{HandoverVersion, One, Two}
 use Rattle.handover_text.specs.Reading.{Reached, AtVersion, AtOldPid, AtGeneration, AtFirstListener, AtListeners}
 use Rattle.handover_text.specs.Reading.{AtWants, AtGroup, AtPidFile, AtEnd, Over, Read, nothing_read, then_read}
 use Rattle.handover_text.specs.Reading.{read_rest, read_pieces, reading, is_space, is_address, listener_read, one_more}
-use Rattle.handover_text.specs.Reading.{joined, with_old_pid, with_generation, with_listener, with_want, with_groups}
+use Rattle.handover_text.specs.Reading.{extended, with_old_pid, with_generation, with_listener, with_want, with_groups}
 use Rattle.handover_text.specs.Reading.{with_workers, can_begin, with_group, with_pid_file, read_wanted, read_behind}
 use Rattle.handover_text.specs.Reading.{read_pid_file, read_end, read_if, read_line}
 use Rattle.master_listeners.specs.Listeners.{is_above}
@@ -50,9 +50,10 @@ if_read : (P : Reached → Handover → Type 0) (o : Option (List ℕ)) (read : 
 if_read P None read otherwise some none = none
 if_read P (Some rest) read otherwise some none = some rest
 
--- a group that is joined keeps the rules
-pub joined-some : (gs : List Group) (g : Group) (groups : List Group) → joined gs g ≡ Some groups → (groups ≡ gs ++ g ∷ []) × (group_refused gs g ≡ None)
-joined-some gs g groups e = go (group_refused gs g) refl e
+-- a group that may be added keeps the rules
+pub extended-some : (gs : List Group) (g : Group) (groups : List Group) → extended gs g ≡ Some groups →
+    (groups ≡ gs ++ g ∷ []) × (group_refused gs g ≡ None)
+extended-some gs g groups e = go (group_refused gs g) refl e
   where
     go : (o : Option GroupRefusal) → group_refused gs g ≡ o →
         (if is_none o then Some (gs ++ g ∷ []) else None) ≡ Some groups → (groups ≡ gs ++ g ∷ []) × (o ≡ None)
@@ -138,7 +139,7 @@ module _ (n : ℕ) (h : Handover) (parts : AreParts h) where
     listed = parts.listed;
     listened = parts.listened;
     wanted = list_all-append is_address h.want (a ∷ []) ∙ and_from _ _ parts.wanted (and_from _ _ address refl);
-    distinct = all_pairs_push (λ x y. x ≢ y) h.want a parts.distinct (λ k d lt e. both_ways (has h.want a) new ((has_address h.want a (has h.want a) refl).1 (k, lt, get_or_default h.want k a d lt ∙ e)));
+    distinct = all_pairs_push (λ x y. x ≢ y) h.want a parts.distinct (λ k d lt e. both_ways (has h.want a) new ((has_this_address h.want a (has h.want a) refl).1 (k, lt, get_or_default h.want k a d lt ∙ e)));
     most = omega (arith, length-append h.want (a ∷ []), room);
     path = parts.path;
   }
@@ -155,13 +156,14 @@ module _ (n : ℕ) (h : Handover) (parts : AreParts h) where
       (λ refused. tt)
 
   -- all addresses are of one group
-  single-read : (w : ℕ) (o : Option (List Group)) → joined [] (record { addresses = length h.want; workers = w }) ≡ o →
+  single-read : (w : ℕ) (o : Option (List Group)) →
+      extended [] (record { addresses = length h.want; workers = w }) ≡ o →
       h.groups ≡ [] → 1 ≤ h.old_pid → 1 ≤ length h.listeners → h.pid_file ≡ None →
       n ≤ 4 + length h.listeners + length h.groups + length h.want → IfRead Next (with_groups n AtPidFile h o)
   single-read w None e none pid listener no_path count = tt
   single-read w (Some groups) e none pid listener no_path count =
       let g : Group = record { addresses = length h.want; workers = w } in
-      let is = joined-some [] g groups e in
+      let is = extended-some [] g groups e in
       let same : groups ≡ g ∷ [] = is.0 in record {
         parts = record { old_pid = parts.old_pid; image = parts.image; config = parts.config; listed = parts.listed; listened = parts.listened; wanted = parts.wanted; distinct = parts.distinct; most = parts.most; path = parts.path };
         count = omega (arith, count, ap length none, ap length same);
@@ -173,7 +175,7 @@ module _ (n : ℕ) (h : Handover) (parts : AreParts h) where
 
   workers_read : (o : Option ℕ) → IsReadTo n AtWants h → IfRead Next (with_workers n h o)
   workers_read None s = tt
-  workers_read (Some w) s = single-read w (joined [] (record { addresses = length h.want; workers = w })) refl s.groups s.pid s.listener s.no_path s.count
+  workers_read (Some w) s = single-read w (extended [] (record { addresses = length h.want; workers = w })) refl s.groups s.pid s.listener s.no_path s.count
 
   group_read : (o : Option ℕ) → (h.groups ≡ []) ⊎ AreGroups h.groups → addresses_in h.groups ≡ length h.want →
       1 ≤ h.old_pid → 1 ≤ length h.listeners → h.pid_file ≡ None →
@@ -225,17 +227,17 @@ module _ (n : ℕ) (h : Handover) (parts : AreParts h) where
       (end_read version line asked pid listener (omega (arith, count)))
 
 -- a group that was begun takes its place
-pub closed-asked : (h : Handover) (g : Group) (groups : List Group) → IsBegun g h → joined h.groups g ≡ Some groups →
+pub closed-asked : (h : Handover) (g : Group) (groups : List Group) → IsBegun g h → extended h.groups g ≡ Some groups →
     (AreGroups groups) × (addresses_in groups ≡ length h.want) × (length groups ≡ length h.groups + 1)
 closed-asked h g groups begun e =
-    let is = joined-some h.groups g groups e in
+    let is = extended-some h.groups g groups e in
     let fits = fits-where h.groups g is.1 in (
       subst AreGroups (sym is.0) (⊎_elim (λ none. subst (λ gs. AreGroups (gs ++ g ∷ [])) (sym none) (sole-groups g (ap (λ gs. group_refused gs g) (sym none) ∙ is.1))) (λ some. groups-more h.groups g some fits) begun.before),
       ap addresses_in is.0 ∙ sum_by_push (λ (x : Group). x.addresses) h.groups g ∙ begun.counts,
       ap length is.0 ∙ length-append h.groups (g ∷ []),
     )
 
-behind_read : (n : ℕ) (h : Handover) (g : Group) (line : List ℕ) (o : Option (List Group)) → joined h.groups g ≡ o →
+behind_read : (n : ℕ) (h : Handover) (g : Group) (line : List ℕ) (o : Option (List Group)) → extended h.groups g ≡ o →
     IsReadTo n (AtGroup g) h → IfRead (IsReadTo (n + 1)) (read_behind n h o line)
 behind_read n h g line None e s = tt
 behind_read n h g line (Some groups) e s =
@@ -261,7 +263,7 @@ line_read n (AtOldPid version) h line s =
     tt
 line_read n (AtGeneration version) h line s =
     if_read (IsReadTo (n + 1)) (after_prefix (codes "generation ") line) _ _
-    (λ rest. generation_read n h s.parts version (number_of (before_first is_space rest)) (number_of (after_first is_space rest)) (number_most (before_first is_space rest)) (number_most (after_first is_space rest)) s)
+    (λ rest. generation_read n h s.parts version (number_in (before_first is_space rest)) (number_in (after_first is_space rest)) (number_most (before_first is_space rest)) (number_most (after_first is_space rest)) s)
     tt
 line_read n (AtFirstListener version) h line s =
     if_read (IsReadTo (n + 1)) (after_prefix (codes "listener ") line) _ _
@@ -297,7 +299,7 @@ line_read n (AtGroup g) h line s =
       groups = record { before = s.groups.before; counts = omega (arith, s.groups.counts, length-append h.want (rest ∷ [])); few = s.groups.few; workers = s.groups.workers };
       no_path = s.no_path;
     }))
-    (behind_read n h g line (joined h.groups g) refl s)
+    (behind_read n h g line (extended h.groups g) refl s)
 line_read n AtPidFile h line s = file_read n h s.parts One line s.groups s.pid s.listener s.count
 line_read n (AtEnd version) h line s = end_read n h s.parts version line s.groups s.pid s.listener s.count
 line_read n (Over version) h line s = tt

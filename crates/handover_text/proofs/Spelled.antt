@@ -12,10 +12,10 @@ use Rattle.std.proofs.lemmas.Option.{none-some}
 use Rattle.std.proofs.lemmas.Bool.Decides.{eqb_tells}
 use Rattle.std.proofs.lemmas.List.{flat_map_more, append-nil, drop_all, take_all, take-append-le, drop-append-le, length-append, length-drop}
 use Rattle.std.proofs.lemmas.List.Splits.{join_with_byte-slice_split}
-use Rattle.plain_text.specs.NumberText.{number_of, number_within}
+use Rattle.plain_text.specs.NumberText.{number_in, number_within}
 use Rattle.listener_set.specs.PathText.{is_path}
 use Rattle.listener_set.specs.AddressList.{has}
-use Rattle.plain_text.proofs.NumberTextLemmas.{decimal-number_of, decimal-number_within}
+use Rattle.plain_text.proofs.NumberTextLemmas.{decimal-number_in, decimal-number_within}
 use Rattle.vocabulary.specs.declared.handover.HandoverRefusal.{HandoverRefusal}
 use Rattle.vocabulary.specs.declared.table.Listener.{Listener}
 use Rattle.definitions.specs.After.{listens_on}
@@ -24,7 +24,7 @@ use Rattle.handover_text.specs.Spelling.{HandoverVersion, One, Two, line_of, ver
 use Rattle.handover_text.specs.Spelling.{workers_line, group_line, pid_file_line, group_lines, wanted_lines, spelled}
 use Rattle.handover_text.specs.Reading.{Reached, AtVersion, AtOldPid, AtGeneration, AtFirstListener, AtListeners}
 use Rattle.handover_text.specs.Reading.{AtWants, AtGroup, AtPidFile, AtEnd, Over, Read, nothing_read, is_space}
-use Rattle.handover_text.specs.Reading.{is_address, listener_if, listener_read, one_more, joined, with_old_pid}
+use Rattle.handover_text.specs.Reading.{is_address, listener_if, listener_read, one_more, extended, with_old_pid}
 use Rattle.handover_text.specs.Reading.{with_generation, with_listener, with_want, with_groups, with_workers, can_begin}
 use Rattle.handover_text.specs.Reading.{with_group, with_pid_file, read_wanted, read_behind, read_pid_file, read_end}
 use Rattle.handover_text.specs.Reading.{read_if, read_line, then_read, read_rest, read_pieces, reading}
@@ -34,7 +34,7 @@ use Rattle.definitions.specs.Table.{Address}
 use Rattle.worker_groups.specs.declared.groups.Group.{Group}
 use Rattle.worker_groups.specs.Groups.{addresses_in, workers_in}
 use Rattle.handover_text.specs.Ranges.{IsTold, IsReadTo, IsSpelling}
-use Rattle.handover_text.proofs.SoFar.{IfRead, line_read, nothing_in_range, joined-some}
+use Rattle.handover_text.proofs.SoFar.{IfRead, line_read, nothing_in_range, extended-some}
 
 ---- A line by its parts
 
@@ -73,12 +73,12 @@ listener_spelled rest l e = at (number_within 3 66 (before_first is_space rest))
         ∙ ap (λ front. front ++ 32 ∷ after_first is_space rest) (decimal-number_within 3 66 (before_first is_space rest) fd number).0
         ∙ ap (λ (m : Listener). decimal m.descriptor ++ 32 ∷ m.address) same
 
-generation_spelled : (rest : List ℕ) (i c : ℕ) → number_of (before_first is_space rest) ≡ Some i →
-    number_of (after_first is_space rest) ≡ Some c → rest ≡ decimal i ++ 32 ∷ decimal c
+generation_spelled : (rest : List ℕ) (i c : ℕ) → number_in (before_first is_space rest) ≡ Some i →
+    number_in (after_first is_space rest) ≡ Some c → rest ≡ decimal i ++ 32 ∷ decimal c
 generation_spelled rest i c image config =
-    spaced rest (λ none. none-some c (ap number_of (sym none) ∙ config))
-    ∙ ap (λ front. front ++ 32 ∷ after_first is_space rest) (decimal-number_of (before_first is_space rest) i image).0
-    ∙ ap (λ back. decimal i ++ 32 ∷ back) (decimal-number_of (after_first is_space rest) c config).0
+    spaced rest (λ none. none-some c (ap number_in (sym none) ∙ config))
+    ∙ ap (λ front. front ++ 32 ∷ after_first is_space rest) (decimal-number_in (before_first is_space rest) i image).0
+    ∙ ap (λ back. decimal i ++ 32 ∷ back) (decimal-number_in (after_first is_space rest) c config).0
 
 -- a line that is read if it has a prefix, which the reader then knows
 if_prefixed : (P : Reached → Handover → Type 0) (p line : List ℕ) (read : List ℕ → Read) (otherwise : Read) →
@@ -203,11 +203,12 @@ module _ (n : ℕ) (h : Handover) (line text : List ℕ) where
       (λ taken. went)
       (λ refused. tt)
 
-  single_went : (w : ℕ) (o : Option (List Group)) → joined [] (record { addresses = length h.want; workers = w }) ≡ o →
+  single_went : (w : ℕ) (o : Option (List Group)) →
+      extended [] (record { addresses = length h.want; workers = w }) ≡ o →
       line ≡ codes "workers " ++ decimal w → so_far AtWants h ≡ text → IfRead Went (with_groups n AtPidFile h o)
   single_went w None e spelled start = tt
   single_went w (Some groups) e spelled start =
-      let is = joined-some [] (record { addresses = length h.want; workers = w }) groups e in
+      let is = extended-some [] (record { addresses = length h.want; workers = w }) groups e in
       let total : workers_in groups ≡ w = ap workers_in is.0 ∙ omega arith in
       ap (λ k. to_wants One h ++ (flat_map want_line h.want ++ workers_line k)) total
       ∙ sym (append_assoc (to_wants One h) (flat_map want_line h.want) (workers_line w))
@@ -215,7 +216,7 @@ module _ (n : ℕ) (h : Handover) (line text : List ℕ) where
 
   workers_went : (o : Option ℕ) → ((w : ℕ) → o ≡ Some w → line ≡ codes "workers " ++ decimal w) → so_far AtWants h ≡ text → IfRead Went (with_workers n h o)
   workers_went None spelled start = tt
-  workers_went (Some w) spelled start = single_went w (joined [] (record { addresses = length h.want; workers = w })) refl (spelled w refl) start
+  workers_went (Some w) spelled start = single_went w (extended [] (record { addresses = length h.want; workers = w })) refl (spelled w refl) start
 
   group_went : (o : Option ℕ) → ((w : ℕ) → o ≡ Some w → line ≡ codes "group " ++ decimal w) → to_pid_file Two h ≡ text → IfRead Went (with_group n h o)
   group_went None spelled start = tt
@@ -253,11 +254,11 @@ number_line_is : (p line rest : List ℕ) (least most n : ℕ) → line ≡ p ++
 number_line_is p line rest least most n is read = is ∙ ap (λ r. p ++ r) (decimal-number_within least most rest n read).0
 
 behind_went : (n : ℕ) (h : Handover) (g : Group) (line text : List ℕ) (o : Option (List Group)) →
-    joined h.groups g ≡ o → h.pid_file ≡ None → so_far (AtGroup g) h ≡ text →
+    extended h.groups g ≡ o → h.pid_file ≡ None → so_far (AtGroup g) h ≡ text →
     IfRead (IsText (text ++ line_of line)) (read_behind n h o line)
 behind_went n h g line text None e none start = tt
 behind_went n h g line text (Some groups) e none start =
-    let is = (joined-some h.groups g groups e).0 in
+    let is = (extended-some h.groups g groups e).0 in
     let h' : Handover = record h { groups = groups } in
     let begun : to_pid_file Two h' ≡ text = ap (λ gs. to_wants Two h ++ group_lines gs h.want) is ∙ start in
     if_prefixed (IsText (text ++ line_of line)) (codes "group ") line _ _
@@ -278,7 +279,7 @@ line_went n (AtOldPid version) h line text s start =
     tt
 line_went n (AtGeneration version) h line text s start =
     if_prefixed (IsText (text ++ line_of line)) (codes "generation ") line _ _
-    (λ rest is. generation_went n h line text version (number_of (before_first is_space rest)) (number_of (after_first is_space rest)) (λ i c image config. is ∙ ap (λ r. codes "generation " ++ r) (generation_spelled rest i c image config)) start s.listener)
+    (λ rest is. generation_went n h line text version (number_in (before_first is_space rest)) (number_in (after_first is_space rest)) (λ i c image config. is ∙ ap (λ r. codes "generation " ++ r) (generation_spelled rest i c image config)) start s.listener)
     tt
 line_went n (AtFirstListener version) h line text s start =
     if_prefixed (IsText (text ++ line_of line)) (codes "listener ") line _ _
@@ -313,7 +314,7 @@ line_went n (AtGroup g) h line text s start =
     (ap (λ t. to_wants Two h ++ t) (group-more h.groups g h.want rest s.groups.counts)
     ∙ sym (append_assoc (to_wants Two h) (group_lines (h.groups ++ g ∷ []) h.want) (want_line rest))
     ∙ then_line n h line text (so_far (AtGroup g) h) (want_line rest) start (ap line_of (sym is))))
-    (behind_went n h g line text (joined h.groups g) refl s.no_path start)
+    (behind_went n h g line text (extended h.groups g) refl s.no_path start)
 line_went n AtPidFile h line text s start = file_went n h line text One start s.no_path
 line_went n (AtEnd version) h line text s start = end_went n h line text version start
 line_went n (Over version) h line text s start = tt

@@ -14,12 +14,12 @@ use Rattle.std.proofs.lemmas.List.Folds.{list_all-append}
 use Rattle.std.proofs.lemmas.List.Sums.{AllPass-from_list_all, list_all-from_AllPass, sum_by-append, sum_by-cons}
 use Rattle.std.proofs.lemmas.List.Splits.{slice_split_at}
 use Rattle.std.proofs.Math.Seq.{get_or-append_seam}
-use Rattle.plain_text.specs.NumberText.{number_of, number_within}
+use Rattle.plain_text.specs.NumberText.{number_in, number_within}
 use Rattle.listener_set.specs.AddressText.{reading as address_reading, check, accepted}
 use Rattle.listener_set.specs.declared.address.AddressRefusal.{AddressRefusal}
 use Rattle.listener_set.specs.PathText.{is_path, begins_with_slash}
 use Rattle.listener_set.specs.AddressList.{AreDistinct, has}
-use Rattle.plain_text.proofs.NumberTextLemmas.{number_of-decimal, number_within-decimal}
+use Rattle.plain_text.proofs.NumberTextLemmas.{number_in-decimal, number_within-decimal}
 use Rattle.listener_set.proofs.AddressGrammar.{graphic_from_reading, digit_apart, decimal_all, before_first-at, after_first-at}
 use Rattle.vocabulary.specs.declared.handover.HandoverRefusal.TheVariants as refusal
 use Rattle.vocabulary.specs.declared.table.Listener.{Listener}
@@ -29,7 +29,7 @@ use Rattle.handover_text.specs.Spelling.{HandoverVersion, One, Two, line_of, ver
 use Rattle.handover_text.specs.Spelling.{workers_line, group_line, pid_file_line, group_lines, wanted_lines, spelled}
 use Rattle.handover_text.specs.Reading.{Reached, AtVersion, AtOldPid, AtGeneration, AtFirstListener, AtListeners}
 use Rattle.handover_text.specs.Reading.{AtWants, AtGroup, AtPidFile, AtEnd, Over, nothing_read, passes, is_space}
-use Rattle.handover_text.specs.Reading.{is_address, listener_if, listener_read, one_more, joined, with_old_pid}
+use Rattle.handover_text.specs.Reading.{is_address, listener_if, listener_read, one_more, extended, with_old_pid}
 use Rattle.handover_text.specs.Reading.{with_generation, with_listener, with_want, with_groups, with_workers, can_begin}
 use Rattle.handover_text.specs.Reading.{with_group, read_behind, read_pid_file, read_if, read_line, then_read}
 use Rattle.handover_text.specs.Reading.{read_pieces, reading}
@@ -85,10 +85,10 @@ generation-decimal : (n : ℕ) (version : HandoverVersion) (h : Handover) (i c :
     read_line n (AtGeneration version) h (codes "generation " ++ decimal i ++ 32 ∷ decimal c)
     ≡ with_generation n version h (Some i) (Some c)
 generation-decimal n version h i c image config =
-    ap (λ t. with_generation n version h (number_of t) (number_of (after_first is_space (decimal i ++ 32 ∷ decimal c)))) (before_first-at is_space (decimal i) 32 (decimal c) (apart i image) refl)
-    ∙ ap (λ t. with_generation n version h (number_of (decimal i)) (number_of t)) (after_first-at is_space (decimal i) 32 (decimal c) (apart i image) refl)
-    ∙ ap (λ o. with_generation n version h o (number_of (decimal c))) (number_of-decimal i (omega arith))
-    ∙ ap (λ o. with_generation n version h (Some i) o) (number_of-decimal c (omega arith))
+    ap (λ t. with_generation n version h (number_in t) (number_in (after_first is_space (decimal i ++ 32 ∷ decimal c)))) (before_first-at is_space (decimal i) 32 (decimal c) (apart i image) refl)
+    ∙ ap (λ t. with_generation n version h (number_in (decimal i)) (number_in t)) (after_first-at is_space (decimal i) 32 (decimal c) (apart i image) refl)
+    ∙ ap (λ o. with_generation n version h o (number_in (decimal c))) (number_in-decimal i (omega arith))
+    ∙ ap (λ o. with_generation n version h (Some i) o) (number_in-decimal c (omega arith))
 
 listener-decimal : (l : Listener) → 3 ≤ l.descriptor → l.descriptor < 67 → is_address l.address ≡ true →
     listener_read (decimal l.descriptor ++ 32 ∷ l.address) ≡ Some l
@@ -104,17 +104,17 @@ listener-decimal l low high address =
 ---- Line by line
 
 -- the reading of a text goes on as that of another text at another place
-pub record Goes (place : Reached) (h : Handover) (text : List ℕ) (place' : Reached) (h' : Handover) (text' : List ℕ) : Type 0 where
+pub record Takes (place : Reached) (h : Handover) (text : List ℕ) (place' : Reached) (h' : Handover) (text' : List ℕ) : Type 0 where
   pub on : (n : ℕ) → (k : ℕ) × (read_pieces n place h (slice_split is_newline text) ≡ read_pieces k place' h' (slice_split is_newline text'))
 
-goes_then : {p : Reached} {h : Handover} {text : List ℕ} {p' : Reached} {h' : Handover} {text' : List ℕ} {p'' : Reached} {h'' : Handover} {text'' : List ℕ} → Goes p h text p' h' text' → Goes p' h' text' p'' h'' text'' → Goes p h text p'' h'' text''
+goes_then : {p : Reached} {h : Handover} {text : List ℕ} {p' : Reached} {h' : Handover} {text' : List ℕ} {p'' : Reached} {h'' : Handover} {text'' : List ℕ} → Takes p h text p' h' text' → Takes p' h' text' p'' h'' text'' → Takes p h text p'' h'' text''
 goes_then f g = record { on = λ n. let x = f.on n in let y = g.on x.0 in (y.0, x.1 ∙ y.1) }
 
-stays : (p : Reached) (h : Handover) (text : List ℕ) → Goes p h text p h text
+stays : (p : Reached) (h : Handover) (text : List ℕ) → Takes p h text p h text
 stays p h text = record { on = λ n. (n, refl) }
 
 goes_line : (place : Reached) (h : Handover) (line more : List ℕ) (place' : Reached) (h' : Handover) → IsLine line →
-    ((n : ℕ) → read_line n place h line ≡ Ok (place', h')) → Goes place h (line_of line ++ more) place' h' more
+    ((n : ℕ) → read_line n place h line ≡ Ok (place', h')) → Takes place h (line_of line ++ more) place' h' more
 goes_line place h line more place' h' is reads = record {
   on = λ n. (
     n + 1,
@@ -173,17 +173,17 @@ module _ (t : Handover) where
 
   pub listeners_go : (version : HandoverVersion) (done ls : List Listener) (more : List ℕ) →
       AreListedFrom 3 (done ++ ls) → list_all (λ (l : Listener). is_address l.address) ls ≡ true →
-      Goes (AtListeners version) (at_listeners done) (flat_map listener_line ls ++ more) (AtListeners version)
+      Takes (AtListeners version) (at_listeners done) (flat_map listener_line ls ++ more) (AtListeners version)
       (at_listeners (done ++ ls)) more
-  listeners_go version done [] more listed addresses = subst (λ ks. Goes (AtListeners version) (at_listeners done) more (AtListeners version) (at_listeners ks) more) (sym (append-nil done)) (stays (AtListeners version) (at_listeners done) more)
+  listeners_go version done [] more listed addresses = subst (λ ks. Takes (AtListeners version) (at_listeners done) more (AtListeners version) (at_listeners ks) more) (sym (append-nil done)) (stays (AtListeners version) (at_listeners done) more)
   listeners_go version done (l ∷ ls) more listed addresses =
       let h = listed_before 3 done l ls listed in
       let tests = and_parts (is_address l.address) _ addresses in
       let again = append_assoc done (l ∷ []) ls in
       let first = goes_line (AtListeners version) (at_listeners done) (codes "listener " ++ decimal l.descriptor ++ 32 ∷ l.address) (flat_map listener_line ls ++ more) (AtListeners version) (at_listeners (done ++ l ∷ [])) (line-listener l h.1 tests.0) (λ n. listener_ok n version done l ls listed tests.0) in
       let rest = listeners_go version (done ++ l ∷ []) ls more (subst (AreListedFrom 3) (sym again) listed) tests.1 in
-      subst (λ text. Goes (AtListeners version) (at_listeners done) text (AtListeners version) (at_listeners (done ++ l ∷ ls)) more) (sym (append_assoc (listener_line l) (flat_map listener_line ls) more))
-      (subst (λ ks. Goes (AtListeners version) (at_listeners done) (listener_line l ++ (flat_map listener_line ls ++ more)) (AtListeners version) (at_listeners ks) more) again (goes_then first rest))
+      subst (λ text. Takes (AtListeners version) (at_listeners done) text (AtListeners version) (at_listeners (done ++ l ∷ ls)) more) (sym (append_assoc (listener_line l) (flat_map listener_line ls) more))
+      (subst (λ ks. Takes (AtListeners version) (at_listeners done) (listener_line l ++ (flat_map listener_line ls ++ more)) (AtListeners version) (at_listeners ks) more) again (goes_then first rest))
 
   want_ok : (n : ℕ) (place : Reached) (gs : List Group) (done : List (List ℕ)) (a : List ℕ) (more : List (List ℕ)) →
       AreDistinct (done ++ a ∷ more) → length (done ++ a ∷ more) ≤ 64 → is_address a ≡ true →
@@ -198,11 +198,11 @@ module _ (t : Handover) where
       read_line n (place k) h (codes "want " ++ a) ≡ with_want n (place (k + 1)) h a) where
     pub wants_go : (k : ℕ) (done ws rest : List (List ℕ)) (more : List ℕ) → AreDistinct (done ++ (ws ++ rest)) →
         length (done ++ (ws ++ rest)) ≤ 64 → list_all is_address ws ≡ true →
-        Goes (place k) (at_asked gs done) (flat_map want_line ws ++ more) (place (k + length ws))
+        Takes (place k) (at_asked gs done) (flat_map want_line ws ++ more) (place (k + length ws))
         (at_asked gs (done ++ ws)) more
     wants_go k done [] rest more distinct most addresses =
-        subst (λ j. Goes (place k) (at_asked gs done) more (place j) (at_asked gs (done ++ [])) more) (omega arith)
-        (subst (λ ks. Goes (place k) (at_asked gs done) more (place k) (at_asked gs ks) more) (sym (append-nil done)) (stays (place k) (at_asked gs done) more))
+        subst (λ j. Takes (place k) (at_asked gs done) more (place j) (at_asked gs (done ++ [])) more) (omega arith)
+        (subst (λ ks. Takes (place k) (at_asked gs done) more (place k) (at_asked gs ks) more) (sym (append-nil done)) (stays (place k) (at_asked gs done) more))
     wants_go k done (a ∷ ws) rest more distinct most addresses =
         let tests = and_parts (is_address a) _ addresses in
         let again = append_assoc done (a ∷ []) ws in
@@ -213,10 +213,10 @@ module _ (t : Handover) where
         want_ok n (place (k + 1)) gs done a (ws ++ rest) distinct most tests.0) in
         let behind = wants_go (k + 1) (done ++ a ∷ []) ws rest more (subst AreDistinct (sym all) distinct) (rw all most) tests.1 in
         let counted : k + 1 + length ws ≡ k + length (a ∷ ws) = omega arith in
-        subst (λ text. Goes (place k) (at_asked gs done) text (place (k + length (a ∷ ws)))
+        subst (λ text. Takes (place k) (at_asked gs done) text (place (k + length (a ∷ ws)))
         (at_asked gs (done ++ a ∷ ws)) more) (sym (append_assoc (want_line a) (flat_map want_line ws) more))
-        (subst (λ j. Goes (place k) (at_asked gs done) (want_line a ++ (flat_map want_line ws ++ more)) (place j) (at_asked gs (done ++ a ∷ ws)) more) counted
-        (subst (λ ks. Goes (place k) (at_asked gs done) (want_line a ++ (flat_map want_line ws ++ more))
+        (subst (λ j. Takes (place k) (at_asked gs done) (want_line a ++ (flat_map want_line ws ++ more)) (place j) (at_asked gs (done ++ a ∷ ws)) more) counted
+        (subst (λ ks. Takes (place k) (at_asked gs done) (want_line a ++ (flat_map want_line ws ++ more))
         (place (k + 1 + length ws)) (at_asked gs ks) more) again (goes_then first behind)))
 
   ---- Groups
@@ -243,8 +243,8 @@ module _ (t : Handover) where
   can-begin : (ds : List Group) (g : Group) → length ds < 16 → Fits ds g → can_begin ds g.workers ≡ true
   can-begin ds g few fits = and_from _ _ (lt-ltb (length ds) 16 few) (le-leb (workers_in ds + g.workers) 1024 fits.workers)
 
-  joined-fits : (ds : List Group) (g : Group) → Fits ds g → joined ds g ≡ Some (ds ++ g ∷ [])
-  joined-fits ds g fits = ap (λ o. if is_none o then Some (ds ++ g ∷ []) else None) (none-where ds g fits)
+  extended-fits : (ds : List Group) (g : Group) → Fits ds g → extended ds g ≡ Some (ds ++ g ∷ [])
+  extended-fits ds g fits = ap (λ o. if is_none o then Some (ds ++ g ∷ []) else None) (none-where ds g fits)
 
   line-group : (w : ℕ) → w ≤ 1024 → IsLine (codes "group " ++ decimal w)
   line-group w most = line-append (codes "group ") (decimal w) refl (line-decimal w (omega (arith, most)))
@@ -263,13 +263,13 @@ module _ (t : Handover) where
       length (dw ++ (ws ++ rest)) ≤ 64 → list_all is_address ws ≡ true →
       ((n : ℕ) → read_line n place from (codes "group " ++ decimal g.workers)
       ≡ with_group n (at_asked ds dw) (number_within 0 1024 (decimal g.workers))) →
-      Goes place from (group_line g.workers ++ (flat_map want_line ws ++ more)) (AtGroup g)
+      Takes place from (group_line g.workers ++ (flat_map want_line ws ++ more)) (AtGroup g)
       (at_asked ds (dw ++ ws)) more
   group_goes place from ds dw ws rest g more few fits counted distinct most addresses reads =
       let begun : Group = record { addresses = 0; workers = g.workers } in
       let first = goes_line place from (codes "group " ++ decimal g.workers) (flat_map want_line ws ++ more) (AtGroup begun) (at_asked ds dw) (line-group g.workers (omega (arith, fits.workers))) (λ n. reads n ∙ begins n ds dw g few fits) in
       let behind = wants_go (λ k. AtGroup (record { addresses = k; workers = g.workers })) ds (λ n k h a. refl) 0 dw ws rest more distinct most addresses in
-      subst (λ k. Goes place from (group_line g.workers ++ (flat_map want_line ws ++ more)) (AtGroup (record { addresses = k; workers = g.workers })) (at_asked ds (dw ++ ws)) more) (omega (arith, counted)) (goes_then first behind)
+      subst (λ k. Takes place from (group_line g.workers ++ (flat_map want_line ws ++ more)) (AtGroup (record { addresses = k; workers = g.workers })) (at_asked ds (dw ++ ws)) more) (omega (arith, counted)) (goes_then first behind)
 
   -- The last group, where the addresses of all groups were read.
   record GoesOn (place : Reached) (from : Handover) (groups : List Group) (want : List (List ℕ)) (text more : List ℕ) : Type 0 where
@@ -277,7 +277,7 @@ module _ (t : Handover) where
     last : Group
     are : before ++ last ∷ [] ≡ groups
     fits : Fits before last
-    goes : Goes place from text (AtGroup last) (at_asked before want) more
+    goes : Takes place from text (AtGroup last) (at_asked before want) more
 
   groups_go : (gs ds : List Group) (g : Group) (dw ws : List (List ℕ)) (more : List ℕ) → AreGroups (ds ++ g ∷ gs) →
       addresses_in gs ≡ length ws → AreDistinct (dw ++ ws) → length (dw ++ ws) ≤ 64 → list_all is_address ws ≡ true →
@@ -289,7 +289,7 @@ module _ (t : Handover) where
         last = g;
         are = refl;
         fits = fits-part ds g [] are;
-        goes = subst (λ ks. Goes (AtGroup g) (at_asked ds dw) more (AtGroup g) (at_asked ds ks) more) (sym (ap (λ ks. dw ++ ks) none ∙ append-nil dw)) (stays (AtGroup g) (at_asked ds dw) more);
+        goes = subst (λ ks. Takes (AtGroup g) (at_asked ds dw) more (AtGroup g) (at_asked ds ks) more) (sym (ap (λ ks. dw ++ ks) none ∙ append-nil dw)) (stays (AtGroup g) (at_asked ds dw) more);
       }
     where
       length-nil : (xs : List (List ℕ)) → length xs ≡ 0 → xs ≡ []
@@ -306,7 +306,7 @@ module _ (t : Handover) where
       let all : list_all is_address own && list_all is_address others ≡ true = sym (list_all-append is_address own others) ∙ (ap (list_all is_address) parts ∙ addresses) in
       let tests = and_parts (list_all is_address own) (list_all is_address others) all in
       let own_counts : length own ≡ x.addresses = length-take-le x.addresses ws room in
-      let first = group_goes (AtGroup g) (at_asked ds dw) (ds ++ g ∷ []) dw own others x (group_lines gs others ++ more) (few-part (ds ++ g ∷ []) x gs are') (fits-part (ds ++ g ∷ []) x gs are') own_counts (rw parts distinct) (rw parts most) tests.0 (λ n. ap (λ o. read_behind n (at_asked ds dw) o (codes "group " ++ decimal x.workers)) (joined-fits ds g (fits-part ds g (x ∷ gs) are))) in
+      let first = group_goes (AtGroup g) (at_asked ds dw) (ds ++ g ∷ []) dw own others x (group_lines gs others ++ more) (few-part (ds ++ g ∷ []) x gs are') (fits-part (ds ++ g ∷ []) x gs are') own_counts (rw parts distinct) (rw parts most) tests.0 (λ n. ap (λ o. read_behind n (at_asked ds dw) o (codes "group " ++ decimal x.workers)) (extended-fits ds g (fits-part ds g (x ∷ gs) are))) in
       let joint : (dw ++ own) ++ others ≡ dw ++ ws = append_assoc dw own others ∙ ap (λ ks. dw ++ ks) parts in
       let behind = groups_go gs (ds ++ g ∷ []) x (dw ++ own) others more are' (omega (arith, counts, sum, length-drop x.addresses ws)) (subst AreDistinct (sym joint) distinct) (rw joint most) tests.1 in
       record {
@@ -315,8 +315,8 @@ module _ (t : Handover) where
         are = behind.are ∙ again;
         fits = behind.fits;
         goes =
-            subst (λ text. Goes (AtGroup g) (at_asked ds dw) text (AtGroup behind.last) (at_asked behind.before (dw ++ ws)) more) (sym (append_assoc (group_line x.workers ++ flat_map want_line own) (group_lines gs others) more ∙ append_assoc (group_line x.workers) (flat_map want_line own) (group_lines gs others ++ more)))
-            (subst (λ ks. Goes (AtGroup g) (at_asked ds dw) (group_line x.workers ++ (flat_map want_line own ++ (group_lines gs others ++ more))) (AtGroup behind.last) (at_asked behind.before ks) more) joint (goes_then first behind.goes));
+            subst (λ text. Takes (AtGroup g) (at_asked ds dw) text (AtGroup behind.last) (at_asked behind.before (dw ++ ws)) more) (sym (append_assoc (group_line x.workers ++ flat_map want_line own) (group_lines gs others) more ∙ append_assoc (group_line x.workers) (flat_map want_line own) (group_lines gs others ++ more)))
+            (subst (λ ks. Takes (AtGroup g) (at_asked ds dw) (group_line x.workers ++ (flat_map want_line own ++ (group_lines gs others ++ more))) (AtGroup behind.last) (at_asked behind.before ks) more) joint (goes_then first behind.goes));
       }
 
 ---- The whole text
@@ -325,21 +325,21 @@ module _ (version : HandoverVersion) (t : Handover) (h : IsHandover t) where
   abbrev at_generation : Handover
   at_generation = record { old_pid = t.old_pid; generation = nothing_read.generation; listeners = []; want = []; groups = []; pid_file = None }
 
-  version_goes : (more : List ℕ) → Goes AtVersion nothing_read (version_line version ++ more) (AtOldPid version) nothing_read more
+  version_goes : (more : List ℕ) → Takes AtVersion nothing_read (version_line version ++ more) (AtOldPid version) nothing_read more
   version_goes more = at version
     where
-      at : (v : HandoverVersion) → Goes AtVersion nothing_read (version_line v ++ more) (AtOldPid v) nothing_read more
+      at : (v : HandoverVersion) → Takes AtVersion nothing_read (version_line v ++ more) (AtOldPid v) nothing_read more
       at One = goes_line AtVersion nothing_read (codes "handover 1") more (AtOldPid One) nothing_read refl (λ n. refl)
       at Two = goes_line AtVersion nothing_read (codes "handover 2") more (AtOldPid Two) nothing_read refl (λ n. refl)
 
-  old_pid_goes : (more : List ℕ) → Goes (AtOldPid version) nothing_read (old_pid_line t.old_pid ++ more) (AtGeneration version) at_generation more
+  old_pid_goes : (more : List ℕ) → Takes (AtOldPid version) nothing_read (old_pid_line t.old_pid ++ more) (AtGeneration version) at_generation more
   old_pid_goes more =
       goes_line (AtOldPid version) nothing_read (codes "old-pid " ++ decimal t.old_pid) more (AtGeneration version) at_generation
       (line-append (codes "old-pid ") (decimal t.old_pid) refl (line-decimal t.old_pid h.parts.old_pid))
       (λ n. ap (with_old_pid n version nothing_read) (number_within-decimal 1 4294967295 t.old_pid h.in_range.old_pid h.parts.old_pid (omega (arith, h.parts.old_pid))))
 
   generation_goes : (more : List ℕ) →
-      Goes (AtGeneration version) at_generation (generation_line t.generation.image t.generation.config ++ more)
+      Takes (AtGeneration version) at_generation (generation_line t.generation.image t.generation.config ++ more)
       (AtFirstListener version) (at_listeners t []) more
   generation_goes more =
       goes_line (AtGeneration version) at_generation (codes "generation " ++ decimal t.generation.image ++ 32 ∷ decimal t.generation.config) more (AtFirstListener version) (at_listeners t [])
@@ -348,18 +348,18 @@ module _ (version : HandoverVersion) (t : Handover) (h : IsHandover t) where
 
   -- the first listener, and those behind it
   listeners_goes : (more : List ℕ) →
-      Goes (AtFirstListener version) (at_listeners t []) (flat_map listener_line t.listeners ++ more)
+      Takes (AtFirstListener version) (at_listeners t []) (flat_map listener_line t.listeners ++ more)
       (AtListeners version) (at_asked t [] []) more
   listeners_goes more = at t.listeners h.in_range.listens h.parts.listed h.parts.listened
     where
       at : (ls : List Listener) → 1 ≤ length ls → AreListedFrom 3 ls →
           list_all (λ (l : Listener). is_address l.address) ls ≡ true →
-          Goes (AtFirstListener version) (at_listeners t []) (flat_map listener_line ls ++ more) (AtListeners version)
+          Takes (AtFirstListener version) (at_listeners t []) (flat_map listener_line ls ++ more) (AtListeners version)
           (at_listeners t ls) more
       at [] some listed addresses = absurd (omega (arith, some))
       at (l ∷ ls) some listed addresses =
           let tests = and_parts (is_address l.address) _ addresses in
-          subst (λ text. Goes (AtFirstListener version) (at_listeners t []) text (AtListeners version) (at_listeners t (l ∷ ls)) more) (sym (append_assoc (listener_line l) (flat_map listener_line ls) more))
+          subst (λ text. Takes (AtFirstListener version) (at_listeners t []) text (AtListeners version) (at_listeners t (l ∷ ls)) more) (sym (append_assoc (listener_line l) (flat_map listener_line ls) more))
           (goes_then
           (goes_line (AtFirstListener version) (at_listeners t []) (codes "listener " ++ decimal l.descriptor ++ 32 ∷ l.address) (flat_map listener_line ls ++ more) (AtListeners version) (at_listeners t (l ∷ [])) (line-listener t l listed.1 tests.0) (λ n. listener_ok t n version [] l ls listed tests.0))
           (listeners_go t version (l ∷ []) ls more listed tests.1))
@@ -371,10 +371,10 @@ module _ (version : HandoverVersion) (t : Handover) (h : IsHandover t) where
   end_goes : (place : Reached) (from : Handover) (more : List ℕ) →
       ((n : ℕ) (line : List ℕ) → after_prefix (codes "want ") line ≡ None → after_prefix (codes "group ") line ≡ None →
       read_line n place from line ≡ read_pid_file n version (with_path None) line) →
-      Goes place from (pid_file_line t.pid_file ++ (line_of (codes "end") ++ more)) (Over version) t more
+      Takes place from (pid_file_line t.pid_file ++ (line_of (codes "end") ++ more)) (Over version) t more
   end_goes place from more reads = at t.pid_file h.parts.path
     where
-      at : (o : Option (List ℕ)) → is_path_if o ≡ true → Goes place from (pid_file_line o ++ (line_of (codes "end") ++ more)) (Over version) (with_path o) more
+      at : (o : Option (List ℕ)) → is_path_if o ≡ true → Takes place from (pid_file_line o ++ (line_of (codes "end") ++ more)) (Over version) (with_path o) more
       at None path = goes_line place from (codes "end") more (Over version) (with_path None) refl (λ n. reads n (codes "end") refl refl)
       at (Some p) path =
           goes_then
@@ -386,7 +386,7 @@ apart_four a b c d = simp append_assoc refl
 
 -- Version 1: the addresses, and the workers of a single group.
 asked_one : (t : Handover) (h : IsHandover t) → length t.groups ≡ 1 → (more : List ℕ) →
-    Goes (AtListeners One) (at_asked t [] [])
+    Takes (AtListeners One) (at_asked t [] [])
     (wanted_lines One t.groups t.want ++ (pid_file_line t.pid_file ++ (line_of (codes "end") ++ more)))
     (Over One) t more
 asked_one t h sole more = at t.groups refl sole t.want refl
@@ -395,7 +395,7 @@ asked_one t h sole more = at t.groups refl sole t.want refl
     to_end = pid_file_line t.pid_file ++ (line_of (codes "end") ++ more)
 
     at : (gs : List Group) → gs ≡ t.groups → length gs ≡ 1 → (ws : List (List ℕ)) → ws ≡ t.want →
-        Goes (AtListeners One) (at_asked t [] []) (wanted_lines One gs ws ++ to_end) (Over One) t more
+        Takes (AtListeners One) (at_asked t [] []) (wanted_lines One gs ws ++ to_end) (Over One) t more
     at [] is one ws same = absurd (omega (arith, one))
     at (g ∷ x ∷ gs) is one ws same = absurd (omega (arith, one))
     at (g ∷ []) is one [] same =
@@ -413,17 +413,17 @@ asked_one t h sole more = at t.groups refl sole t.want refl
         let first = goes_line (AtListeners One) (at_asked t [] []) (codes "want " ++ a) (flat_map want_line ws ++ (workers_line g.workers ++ to_end)) AtWants (at_asked t [] (a ∷ [])) (line-append (codes "want ") a refl (line-address a tests.0)) (λ n. want_ok t n AtWants [] [] a ws distinct most tests.0) in
         let behind = wants_go t (λ k. AtWants) [] (λ n k h' b. refl) 0 (a ∷ []) ws [] (workers_line g.workers ++ to_end) (subst AreDistinct (sym whole) distinct) (subst (λ ks. length ks ≤ 64) (sym whole) most) tests.1 in
         let whole_group : record { addresses = length (a ∷ ws); workers = g.workers } ≡ g = ap (λ k. record { addresses = k; workers = g.workers }) (sym counts) in
-        let joins : joined [] (record { addresses = length (a ∷ ws); workers = g.workers }) ≡ Some (g ∷ []) = ap (joined []) whole_group ∙ joined-fits t [] g fits in
+        let joins : extended [] (record { addresses = length (a ∷ ws); workers = g.workers }) ≡ Some (g ∷ []) = ap (extended []) whole_group ∙ extended-fits t [] g fits in
         let workers = goes_line AtWants (at_asked t [] (a ∷ ws)) (codes "workers " ++ decimal g.workers) to_end AtPidFile (at_asked t (g ∷ []) (a ∷ ws)) (line-append (codes "workers ") (decimal g.workers) refl (line-decimal g.workers (omega (arith, fits.workers))))
         (λ n. ap (with_workers n (at_asked t [] (a ∷ ws))) (number_within-decimal 0 1024 g.workers (omega arith) (omega (arith, fits.workers)) (omega (arith, fits.workers))) ∙ ap (with_groups n AtPidFile (at_asked t [] (a ∷ ws))) joins) in
         let last = end_goes One t h AtPidFile (at_asked t (g ∷ []) (a ∷ ws)) more (λ n line w gr i. read_pid_file n One (at_asked t (is i) (same i)) line) in
-        subst (λ text. Goes (AtListeners One) (at_asked t [] []) text (Over One) t more)
+        subst (λ text. Takes (AtListeners One) (at_asked t [] []) text (Over One) t more)
         (sym (ap (λ k. (flat_map want_line (a ∷ ws) ++ workers_line k) ++ to_end) total ∙ apart_four (want_line a) (flat_map want_line ws) (workers_line g.workers) to_end))
         (goes_then first (goes_then behind (goes_then workers last)))
 
 -- Version 2: groups, each with its addresses.
 asked_two : (t : Handover) (h : IsHandover t) (more : List ℕ) →
-    Goes (AtListeners Two) (at_asked t [] [])
+    Takes (AtListeners Two) (at_asked t [] [])
     (wanted_lines Two t.groups t.want ++ (pid_file_line t.pid_file ++ (line_of (codes "end") ++ more)))
     (Over Two) t more
 asked_two t h more = at t.groups refl
@@ -431,7 +431,7 @@ asked_two t h more = at t.groups refl
     to_end : List ℕ
     to_end = pid_file_line t.pid_file ++ (line_of (codes "end") ++ more)
 
-    at : (gs : List Group) → gs ≡ t.groups → Goes (AtListeners Two) (at_asked t [] []) (group_lines gs t.want ++ to_end) (Over Two) t more
+    at : (gs : List Group) → gs ≡ t.groups → Takes (AtListeners Two) (at_asked t [] []) (group_lines gs t.want ++ to_end) (Over Two) t more
     at [] is = absurd (omega (arith, h.groups.some, ap length is))
     at (g ∷ gs) is =
         let are : AreGroups (g ∷ gs) = subst AreGroups (sym is) h.groups in
@@ -447,7 +447,7 @@ asked_two t h more = at t.groups refl
         let behind = groups_go t gs [] g own others to_end are (omega (arith, counts, sum, length-drop g.addresses t.want)) (rw parts h.parts.distinct) (rw parts h.parts.most) tests.1 in
         let last = end_goes Two t h (AtGroup behind.last) (at_asked t behind.before (own ++ others)) more
         (λ n line want group. ends n line behind.before behind.last (own ++ others) (behind.are ∙ is) parts behind.fits want group) in
-        subst (λ text. Goes (AtListeners Two) (at_asked t [] []) text (Over Two) t more)
+        subst (λ text. Takes (AtListeners Two) (at_asked t [] []) text (Over Two) t more)
         (sym (append_assoc (group_line g.workers ++ flat_map want_line own) (group_lines gs others) to_end ∙ append_assoc (group_line g.workers) (flat_map want_line own) (group_lines gs others ++ to_end)))
         (goes_then first (goes_then behind.goes last))
       where
@@ -456,13 +456,13 @@ asked_two t h more = at t.groups refl
             after_prefix (codes "group ") line ≡ None →
             read_line n (AtGroup last) (at_asked t before want) line ≡ read_pid_file n Two (with_path Two t h None) line
         ends n line before last want are same fits no_want no_group =
-            ap (λ o. read_if o (with_want n (AtGroup (one_more last)) (at_asked t before want)) (read_behind n (at_asked t before want) (joined before last) line)) no_want
-            ∙ ap (λ o. read_behind n (at_asked t before want) o line) (joined-fits t before last fits)
+            ap (λ o. read_if o (with_want n (AtGroup (one_more last)) (at_asked t before want)) (read_behind n (at_asked t before want) (extended before last) line)) no_want
+            ∙ ap (λ o. read_behind n (at_asked t before want) o line) (extended-fits t before last fits)
             ∙ ap (λ o. read_if o (λ rest. with_group n (at_asked t (before ++ last ∷ []) want) (number_within 0 1024 rest)) (read_pid_file n Two (at_asked t (before ++ last ∷ []) want) line)) no_group
             ∙ (λ i. read_pid_file n Two (at_asked t (are i) (same i)) line)
 
 asked : (version : HandoverVersion) (t : Handover) (h : IsHandover t) → IsTold version t → (more : List ℕ) →
-    Goes (AtListeners version) (at_asked t [] [])
+    Takes (AtListeners version) (at_asked t [] [])
     (wanted_lines version t.groups t.want ++ (pid_file_line t.pid_file ++ (line_of (codes "end") ++ more)))
     (Over version) t more
 asked One t h tells more = asked_one t h tells more
@@ -470,7 +470,7 @@ asked Two t h tells more = asked_two t h more
 
 module _ (version : HandoverVersion) (t : Handover) (h : IsHandover t) (tells : IsTold version t) where
   -- A spelling leads to the end, whatever follows it.
-  pub spelling_goes : (more : List ℕ) → Goes AtVersion nothing_read (spelled version t ++ more) (Over version) t more
+  pub spelling_goes : (more : List ℕ) → Takes AtVersion nothing_read (spelled version t ++ more) (Over version) t more
   spelling_goes more =
       let to_end : List ℕ = line_of (codes "end") ++ more in
       let to_pid_file : List ℕ = pid_file_line t.pid_file ++ to_end in
@@ -478,7 +478,7 @@ module _ (version : HandoverVersion) (t : Handover) (h : IsHandover t) (tells : 
       let to_listeners : List ℕ = flat_map listener_line t.listeners ++ to_wants in
       let to_generation : List ℕ = generation_line t.generation.image t.generation.config ++ to_listeners in
       let to_old_pid : List ℕ = old_pid_line t.old_pid ++ to_generation in
-      subst (λ text. Goes AtVersion nothing_read text (Over version) t more)
+      subst (λ text. Takes AtVersion nothing_read text (Over version) t more)
       (sym (apart_all (version_line version) (old_pid_line t.old_pid)
       (generation_line t.generation.image t.generation.config) (flat_map listener_line t.listeners)
       (wanted_lines version t.groups t.want) (pid_file_line t.pid_file) (line_of (codes "end")) more))

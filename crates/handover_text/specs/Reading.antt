@@ -9,7 +9,7 @@ use Rattle.std.specs.List.{list_any, before_first, after_first, slice_split}
 use Rattle.worker_groups.specs.declared.groups.Group.{Group}
 use Rattle.worker_groups.specs.Groups.{workers_in, group_refused}
 use Rattle.std.specs.Result.{result_ok}
-use Rattle.plain_text.specs.NumberText.{number_of, number_within}
+use Rattle.plain_text.specs.NumberText.{number_in, number_within}
 use Rattle.plain_text.specs.Cuts.{after_prefix}
 use Rattle.listener_set.specs.AddressText.{check}
 use Rattle.listener_set.specs.declared.address.AddressRefusal.{AddressRefusal}
@@ -106,8 +106,8 @@ with_want n place h a =
     else Err (refusal.Line n)
 
 -- the groups with one more behind them, where it keeps the rules of groups
-abbrev pub joined : List Group → Group → Option (List Group)
-joined groups g = if is_none (group_refused groups g) then Some (groups ++ g ∷ []) else None
+abbrev pub extended : List Group → Group → Option (List Group)
+extended groups g = if is_none (group_refused groups g) then Some (groups ++ g ∷ []) else None
 
 abbrev pub with_groups : ℕ → Reached → Handover → Option (List Group) → Read
 with_groups n place h None = Err (refusal.Line n)
@@ -117,7 +117,7 @@ with_groups n place h (Some groups) = Ok (place, record h { groups = groups })
 abbrev pub with_workers : ℕ → Handover → Option ℕ → Read
 with_workers n h None = Err (refusal.Line n)
 with_workers n h (Some workers) =
-    with_groups n AtPidFile h (joined [] (record { addresses = length h.want; workers = workers }))
+    with_groups n AtPidFile h (extended [] (record { addresses = length h.want; workers = workers }))
 
 -- whether a group of so many workers can begin behind others: they are fewer than 16, and all their workers are at
 -- most 1024
@@ -184,7 +184,7 @@ read_line n (AtOldPid version) h line =
 read_line n (AtGeneration version) h line =
     read_if (after_prefix (codes "generation ") line)
     (λ rest.
-    with_generation n version h (number_of (before_first is_space rest)) (number_of (after_first is_space rest)))
+    with_generation n version h (number_in (before_first is_space rest)) (number_in (after_first is_space rest)))
     (Err (refusal.Line n))
 read_line n (AtFirstListener version) h line = read_listener n version h line (Err (refusal.Line n))
 read_line n (AtListeners version) h line = read_listener n version h line (read_wanted n version h line)
@@ -192,7 +192,7 @@ read_line n AtWants h line =
     read_want n AtWants h line
     (read_if (after_prefix (codes "workers ") line) (λ rest. with_workers n h (number_within 0 1024 rest))
     (Err (refusal.Line n)))
-read_line n (AtGroup g) h line = read_want n (AtGroup (one_more g)) h line (read_behind n h (joined h.groups g) line)
+read_line n (AtGroup g) h line = read_want n (AtGroup (one_more g)) h line (read_behind n h (extended h.groups g) line)
 read_line n AtPidFile h line = read_pid_file n One h line
 read_line n (AtEnd version) h line = read_end n version h line
 read_line n (Over version) h line = Err refusal.Trailing

@@ -1,6 +1,6 @@
 //! Groups that are read one after another.
 ghost use Rattle.std.specs.Prelude.{◌≡◌, []};
-ghost use Rattle.handover_text.specs.Reading.{joined, can_begin};
+ghost use Rattle.handover_text.specs.Reading.{extended, can_begin};
 ghost use Rattle.handover_text.specs.Reader.{groups_in};
 
 use listener_set::{MOST_LISTENERS, WORKER_LIMIT};
@@ -8,7 +8,7 @@ use worker_groups::{Group, Groups, MOST_GROUPS};
 
 /// The first group, where it keeps the rules of groups.
 fn first(group: Group) -> Option<Groups>
-    ensures { result ≡ joined [] group }
+    ensures { result ≡ extended [] group }
 {
     let Group { addresses, workers } = group;
     if addresses == 0 || addresses > MOST_LISTENERS as u32 || workers > WORKER_LIMIT {
@@ -18,8 +18,8 @@ fn first(group: Group) -> Option<Groups>
 }
 
 /// The groups with one more behind them, where it keeps the rules of groups.
-pub(crate) fn joined(groups: Option<Groups>, group: Group) -> Option<Groups>
-    ensures { result ≡ joined (groups_in groups) group }
+pub(crate) fn extended(groups: Option<Groups>, group: Group) -> Option<Groups>
+    ensures { result ≡ extended (groups_in groups) group }
 {
     let Some(mut groups) = groups else {
         return first(group);

@@ -1,13 +1,13 @@
 //! Reading a handover line by line.
 ghost use Rattle.std.specs.Prelude.{◌≡◌, ◌≤◌, ℕ, codes};
 ghost use Rattle.plain_text.specs.NumberText.{number_within};
-ghost use Rattle.handover_text.specs.Reading.{AtVersion, AtOldPid, AtGeneration, AtFirstListener, AtListeners, AtWants, AtGroup, AtPidFile, AtEnd, Over, nothing_read, read_version, with_old_pid, with_generation, with_listener, with_want, with_workers, with_group, with_pid_file, one_more, joined, read_end, read_line, read_wanted, read_behind, read_pid_file, listener_read, read_rest};
+ghost use Rattle.handover_text.specs.Reading.{AtVersion, AtOldPid, AtGeneration, AtFirstListener, AtListeners, AtWants, AtGroup, AtPidFile, AtEnd, Over, nothing_read, read_version, with_old_pid, with_generation, with_listener, with_want, with_workers, with_group, with_pid_file, one_more, extended, read_end, read_line, read_wanted, read_behind, read_pid_file, listener_read, read_rest};
 ghost use Rattle.handover_text.specs.Ranges.{IsReadTo};
 ghost use Rattle.handover_text.specs.Reader.{read_to, place_of};
 
 use crate::Handover;
 use crate::fields::{read_listener, read_workers};
-use crate::groups::{can_begin, joined};
+use crate::groups::{can_begin, extended};
 use listener_set::{Address, FilePath, Generation, ListenerSet, MOST_LISTENERS};
 use master_listeners::Listeners;
 use plain_text::{after_prefix, around, read_count, read_number};
@@ -173,7 +173,7 @@ impl HandoverReader {
             return Err(HandoverRefusal::Line(number));
         };
         let addresses = self.want.len() as u32;
-        let Some(groups) = joined(None, Group { addresses, workers }) else {
+        let Some(groups) = extended(None, Group { addresses, workers }) else {
             return Err(HandoverRefusal::Line(number));
         };
         self.groups = Some(groups);
@@ -306,9 +306,9 @@ impl HandoverReader {
 
     /// A line behind the last address of a group.
     fn read_behind(&mut self, number: u32, group: Group, line: &[u8]) -> Result<(), HandoverRefusal>
-        ensures { read_to result self.new ≡ read_behind number self.old.1 (joined self.old.1.groups group) line.now }
+        ensures { read_to result self.new ≡ read_behind number self.old.1 (extended self.old.1.groups group) line.now }
     {
-        let Some(groups) = joined(self.groups, group) else {
+        let Some(groups) = extended(self.groups, group) else {
             return Err(HandoverRefusal::Line(number));
         };
         self.groups = Some(groups);

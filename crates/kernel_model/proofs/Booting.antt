@@ -60,13 +60,13 @@ taken-first (suc n) k lt = list_any-append (λ (p : ℕ × ℕ). nat_eq p.0 (3 +
     at true e ih = or-true _ (nat_eq (3 + n) (3 + k) || false) (ih (grind (arith, nat_tests)))
     at false e ih = or-last (list_any (λ (p : ℕ × ℕ). nat_eq p.0 (3 + k)) (first_pairs n)) (nat_eq (3 + n) (3 + k)) (grind (arith, nat_tests))
 
-free-run : (used : List ℕ) (m fd : ℕ) → ((k : ℕ) → k < m → is_in used (fd + k) ≡ true) → pairs.free_from m fd used ≡ fd + m
+free-run : (used : List ℕ) (m fd : ℕ) → ((k : ℕ) → k < m → is_in used (fd + k) ≡ true) → pairs.unused_from m fd used ≡ fd + m
 free-run used zero fd taken = omega arith
 free-run used (suc m) fd taken =
     let here : is_in used fd ≡ true = subst (λ d. is_in used d ≡ true) (let e : fd + 0 ≡ fd = omega arith in e) (taken 0 (omega arith)) in
     rw here (free-run used m (fd + 1) (λ k lt. subst (λ d. is_in used d ≡ true) (let e : fd + suc k ≡ fd + 1 + k = omega arith in e) (taken (suc k) (omega arith))) ∙ omega arith)
 
-lowest-first : (n : ℕ) → pairs.lowest_free (pairs.descriptors_of (first_pairs n)) ≡ 3 + n
+lowest-first : (n : ℕ) → pairs.lowest_unused (pairs.descriptors_of (first_pairs n)) ≡ 3 + n
 lowest-first n =
     let used = pairs.descriptors_of (first_pairs n) in
     let count : length used ≡ n = length-map (first_pairs n) (λ (p : ℕ × ℕ). p.0) ∙ length-first n in
@@ -90,10 +90,10 @@ put-last (p ∷ ps) fd s h =
 
 -- one descriptor more
 pub first_pairs-put : {E : Type 0} (r : Result ℕ E) (old new : List (ℕ × ℕ)) (n : ℕ) → n < 64 → old ≡ first_pairs n →
-    IfOk r (λ fd. fd ≡ pairs.lowest_free (pairs.descriptors_of old)) →
+    IfOk r (λ fd. fd ≡ pairs.lowest_unused (pairs.descriptors_of old)) →
     IfOk r (λ fd. new ≡ pairs.put_pair old fd (n + 1)) → (IsErr r → length old ≡ 64) → new ≡ first_pairs (n + 1)
 first_pairs-put (Ok fd) old new n lt is lowest after full =
-    let low : fd ≡ 3 + n = lowest ∙ ap (λ ps. pairs.lowest_free (pairs.descriptors_of ps)) is ∙ lowest-first n in
+    let low : fd ≡ 3 + n = lowest ∙ ap (λ ps. pairs.lowest_unused (pairs.descriptors_of ps)) is ∙ lowest-first n in
     after ∙ rw (is, low) (put-last (first_pairs n) (3 + n) (n + 1) (below-first n) ∙ sym (first_pairs-more n))
 first_pairs-put (Err e) old new n lt is lowest after full =
     let many : length old ≡ 64 = full refl in

@@ -166,9 +166,9 @@ any-at p [] k d lt e = absurd (omega arith)
 any-at p (x ∷ xs) zero d lt e = rw e refl
 any-at p (x ∷ xs) (suc k) d lt e = rw (any-at p xs k d (omega arith) e, or-true) refl
 
-either : (b c : Bool) → (b || c) ≡ true → (b ≡ true) ⊎ (c ≡ true)
-either true c e = inl refl
-either false c e = inr e
+one_is_true : (b c : Bool) → (b || c) ≡ true → (b ≡ true) ⊎ (c ≡ true)
+one_is_true true c e = inl refl
+one_is_true false c e = inr e
 
 module _ (addresses : List Address) (a : Address) where
   held-from_holds : (pairs : List (ℕ × ℕ)) → Lies addresses (seen_holds addresses pairs) →
@@ -176,7 +176,7 @@ module _ (addresses : List Address) (a : Address) where
   held-from_holds [] lies any = absurd (false≢true any)
   held-from_holds (p ∷ ps) lies any =
       ⊎_elim (λ here. any-at (λ b. bytes_eq b a) addresses (p.1 - 1) [] (let l = lies.0 in omega arith) here) (λ rest. held-from_holds ps lies.1 rest)
-      (either (bytes_eq (address_of addresses p.1) a) (has_address a (seen_holds addresses ps)) any)
+      (one_is_true (bytes_eq (address_of addresses p.1) a) (has_address a (seen_holds addresses ps)) any)
 
   live-holds : (row : Row) (hs : List Hold) → is_live_with (has_address a) (process_of row hs) ≡ true → has_address a hs ≡ true
   live-holds (row.Master n q i true) hs e = e
@@ -197,7 +197,7 @@ module _ (addresses : List Address) (a : Address) where
   held-from_live (h ∷ hs) lies any =
       let holds = seen_holds addresses h.holds in
       ⊎_elim (λ here. held-from_holds h.holds (row-lies h.row holds lies.0) (live-holds h.row holds here)) (λ rest. held-from_live hs lies.1 rest)
-      (either (is_live_with (has_address a) (seen_holder addresses h)) (list_any (is_live_with (has_address a)) (seen_rows addresses hs)) any)
+      (one_is_true (is_live_with (has_address a) (seen_holder addresses h)) (list_any (is_live_with (has_address a)) (seen_rows addresses hs)) any)
 
 -- as many rows as numbers
 pub length-ascending : (rows : List Process) (least next : ℕ) → IsAscending least rows next → least + length rows ≤ next

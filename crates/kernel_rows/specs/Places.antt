@@ -8,9 +8,9 @@ use Rattle.kernel_rows.specs.declared.process.WorkerName.{WorkerName}
 use Rattle.kernel_rows.specs.Seen.{seen_holder}
 
 -- whether a process, if there is one, is the worker of the name in certain stances
-abbrev pub bears : (Stance → Bool) → WorkerName → Option Process → Bool
-bears stances name None = false
-bears stances name (Some p) = is_worker stances name.parent name.generation name.nr p
+abbrev pub is_worker_row : (Stance → Bool) → WorkerName → Option Process → Bool
+is_worker_row stances name None = false
+is_worker_row stances name (Some p) = is_worker stances name.parent name.generation name.nr p
 
 -- At the place is the worker of the name, Starting or Ready.
 pub record IsActiveAt (holders : List Holder) (name : WorkerName) (place : ℕ) : Type 0 where

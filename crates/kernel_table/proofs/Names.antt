@@ -13,7 +13,7 @@ use Rattle.kernel_table.specs.declared.store.Store.{Store}
 use Rattle.kernel_table.specs.Free.{AreFree}
 use Rattle.kernel_table.specs.Lone.{AreLone}
 use Rattle.kernel_table.specs.Names.{KnowsNames, IsLoneAt}
-use Rattle.kernel_rows.specs.Places.{bears}
+use Rattle.kernel_rows.specs.Places.{is_worker_row}
 use Rattle.kernel_rows.specs.Seen.{seen_holder, seen_rows}
 use Rattle.kernel_table.specs.Seen.{seen}
 use Rattle.kernel_rows.proofs.Bearing.{borne-at}
@@ -56,7 +56,7 @@ row-out s name place items taken lone =
 
 -- whether a worker of the name is Starting or Ready, where the only one of the name is known
 pub lone-stance : (s : Store) (name : WorkerName) (place : ℕ) → IsLoneAt s name place → (b : Bool) →
-    b ≡ bears is_active name (slice_get (seen s).rows place) →
+    b ≡ is_worker_row is_active name (slice_get (seen s).rows place) →
     list_any (is_worker is_active name.parent name.generation name.nr) (seen s).rows ≡ b
 lone-stance s name place lone b is = at b (sym (is ∙ borne-at is_active name (seen_holder s.addresses.items) s.holders.items place h lone.found.there))
   where

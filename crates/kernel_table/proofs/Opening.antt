@@ -31,11 +31,11 @@ taken-alike : (addresses : List Address) (ps : List (ℕ × ℕ)) (fd : ℕ) →
 taken-alike addresses ps fd = list_any-map (λ n. nat_eq n fd) (λ (p : ℕ × ℕ). p.0) ps ∙ sym (list_any-map (λ (h : Hold). nat_eq h.fd fd) (seen_hold addresses) ps)
 
 free-alike : (addresses : List Address) (ps : List (ℕ × ℕ)) (n fd : ℕ) →
-    pairs.free_from n fd (pairs.descriptors_of ps) ≡ free_from n fd (seen_holds addresses ps)
+    pairs.unused_from n fd (pairs.descriptors_of ps) ≡ free_from n fd (seen_holds addresses ps)
 free-alike addresses ps zero fd = refl
 free-alike addresses ps (suc n) fd = rw (taken-alike addresses ps fd, free-alike addresses ps n (fd + 1)) refl
 
-pub lowest_free-seen : (addresses : List Address) (ps : List (ℕ × ℕ)) → pairs.lowest_free (pairs.descriptors_of ps) ≡ lowest_free (seen_holds addresses ps)
+pub lowest_free-seen : (addresses : List Address) (ps : List (ℕ × ℕ)) → pairs.lowest_unused (pairs.descriptors_of ps) ≡ lowest_free (seen_holds addresses ps)
 lowest_free-seen addresses ps =
     free-alike addresses ps (length (pairs.descriptors_of ps)) 3
     ∙ ap (λ n. free_from n 3 (seen_holds addresses ps)) (length-map ps (λ (p : ℕ × ℕ). p.0) ∙ sym (length-map ps (seen_hold addresses)))

@@ -11,7 +11,7 @@ ghost use Rattle.definitions.specs.Calls.{first_changed};
 ghost use Rattle.call_laws.specs.Pieces.{made_exited};
 ghost use Rattle.kernel_rows.specs.Seen.{seen_rows, has_stance};
 ghost use Rattle.kernel_rows.specs.Edits.{edited, ChangesActive};
-ghost use Rattle.kernel_rows.specs.Places.{bears, IsActiveAt, IsLiveAt, IsWorkerAt};
+ghost use Rattle.kernel_rows.specs.Places.{is_worker_row, IsActiveAt, IsLiveAt, IsWorkerAt};
 
 use crate::file_row::FileRow;
 use crate::free_names::FreeNames;
@@ -51,8 +51,8 @@ fn copy_with_room<T: Copy>(items: &Vec<T>, more: usize) -> Result<Vec<T>, AllocE
 }
 
 /// Whether the process at the place is the worker of the name, in one of the stances.
-fn bears(holders: &Holders, stances: Stances, name: WorkerName, place: usize) -> bool
-    ensures { (addresses : List (List ℕ)) → result ≡ bears (has_stance stances) name (slice_get (seen_rows addresses holders.now.items) place) }
+fn is_worker_row(holders: &Holders, stances: Stances, name: WorkerName, place: usize) -> bool
+    ensures { (addresses : List (List ℕ)) → result ≡ is_worker_row (has_stance stances) name (slice_get (seen_rows addresses holders.now.items) place) }
 {
     match holders.get(place) {
         Some(holder) => holder.row.is_worker(stances, name),
@@ -64,7 +64,7 @@ fn bears(holders: &Holders, stances: Stances, name: WorkerName, place: usize) ->
 fn is_active_at(holders: &Holders, name: WorkerName, place: usize) -> bool
     ensures { IsTrue result → IsActiveAt holders.now.items name place }
 {
-    bears(holders, Stances::Active, name, place)
+    is_worker_row(holders, Stances::Active, name, place)
 }
 
 /// The place of the Starting or Ready worker of the name. It is looked for beside the one that was found last, and then
@@ -90,7 +90,7 @@ fn active_place(holders: &Holders, name: WorkerName, last: usize) -> Option<usiz
 fn is_worker_at(holders: &Holders, name: WorkerName, place: usize) -> bool
     ensures { IsTrue result → IsWorkerAt holders.now.items name place }
 {
-    bears(holders, Stances::Any, name, place)
+    is_worker_row(holders, Stances::Any, name, place)
 }
 
 /// The place of a worker of the name. It is looked for where one was found last and beside that, since of workers that
@@ -336,7 +336,7 @@ impl Store {
     {
         match self.lone_place(name) {
             Some(place) => {
-                if bears(&self.holders, Stances::Active, name, place) {
+                if is_worker_row(&self.holders, Stances::Active, name, place) {
                     return false;
                 }
                 self.take_out(name, place);

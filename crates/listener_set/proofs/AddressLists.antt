@@ -15,8 +15,8 @@ turned x [] = refl
 turned x (y ∷ ys) = λ i. nat_list_eq_equiv.symm y x i || turned x ys i
 
 -- the test for an address says whether the list has it
-pub has_address : (xs : List (List ℕ)) (x : List ℕ) (r : Bool) → r ≡ has xs x → IsTrue r ↔ Contains xs x
-has_address xs x r e = (
+pub has_this_address : (xs : List (List ℕ)) (x : List ℕ) (r : Bool) → r ≡ has xs x → IsTrue r ↔ Contains xs x
+has_this_address xs x r e = (
   λ yes. Contains-from_any (λ a b h. same_text a b (sym h)) x xs (sym (e ∙ turned x xs) ∙ yes),
   λ in_it. e ∙ turned x xs ∙ list_any-from_Contains nat_list_eq_equiv x xs in_it,
 )

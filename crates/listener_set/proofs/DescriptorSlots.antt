@@ -7,7 +7,7 @@ use Rattle.std.proofs.lemmas.List.{get_or_past, length-map}
 use Rattle.std.proofs.Math.Seq.{take-length}
 use Rattle.std.proofs.lemmas.List.Recursion.{is_count_by}
 use Rattle.listener_set.specs.Numbers.{is_in, RisesFrom, AreBelow}
-use Rattle.listener_set.specs.Descriptors.{descriptors_of, free_from, lowest_free, put_pair, socket_of, without_descriptor, AreDescriptors, pairs_of}
+use Rattle.listener_set.specs.Descriptors.{descriptors_of, unused_from, lowest_unused, put_pair, socket_of, without_descriptor, AreDescriptors, pairs_of}
 use Rattle.listener_set.proofs.Rising.{RisesFrom-lower}
 use Rattle.listener_set.specs.DescriptorLemmas.{socket_of-before, socket_of-pairs_of}
 
@@ -105,10 +105,10 @@ is_in-descriptors_of (p ∷ ps) d = at (nat_eq p.0 d) (is_in-descriptors_of ps d
     at true ih = refl
     at false ih = ih
 
-free_from_is : (used : List ℕ) (n fd m : ℕ) → fd ≤ m → m ≤ fd + n → ((k : ℕ) → fd ≤ k → k < m → is_in used k ≡ true) → is_in used m ≡ false → free_from n fd used ≡ m
-free_from_is used zero fd m low high taken free = omega arith
-free_from_is used (suc n) fd m low high taken free = elim (cases_lt fd m) [
-  | inl less ↦ rw (taken fd (omega arith) less) (free_from_is used n (fd + 1) m (omega arith) (omega arith) (λ k from lt. taken k (omega arith) lt) free)
+unused_from_is : (used : List ℕ) (n fd m : ℕ) → fd ≤ m → m ≤ fd + n → ((k : ℕ) → fd ≤ k → k < m → is_in used k ≡ true) → is_in used m ≡ false → unused_from n fd used ≡ m
+unused_from_is used zero fd m low high taken free = omega arith
+unused_from_is used (suc n) fd m low high taken free = elim (cases_lt fd m) [
+  | inl less ↦ rw (taken fd (omega arith) less) (unused_from_is used n (fd + 1) m (omega arith) (omega arith) (λ k from lt. taken k (omega arith) lt) free)
   | inr over ↦ (let e : m ≡ fd = omega arith in rw (ap (is_in used) (sym e) ∙ free) (sym e))
 ]
 
@@ -116,11 +116,11 @@ some_of : (o : Option ℕ) → o ≢ None → is_some o ≡ true
 some_of None h = absurd (h refl)
 some_of (Some x) h = refl
 
-pub lowest_free_is : (slots : List (Option ℕ)) (i : ℕ) → i < length slots → get_or slots i None ≡ None → ((k : ℕ) → k < i → get_or slots k None ≢ None) → 3 + i ≡ lowest_free (descriptors_of (pairs_of 3 slots))
-lowest_free_is slots i lt free taken =
+pub lowest_unused_is : (slots : List (Option ℕ)) (i : ℕ) → i < length slots → get_or slots i None ≡ None → ((k : ℕ) → k < i → get_or slots k None ≢ None) → 3 + i ≡ lowest_unused (descriptors_of (pairs_of 3 slots))
+lowest_unused_is slots i lt free taken =
     let pairs = pairs_of 3 slots in
     let long : i ≤ length (descriptors_of pairs) = omega (arith, length-map pairs (λ p. p.0), length-front 3 slots i (omega arith) taken) in
-    sym (free_from_is (descriptors_of pairs) (length (descriptors_of pairs)) 3 (3 + i) (omega arith) (omega arith)
+    sym (unused_from_is (descriptors_of pairs) (length (descriptors_of pairs)) 3 (3 + i) (omega arith) (omega arith)
     (λ k from less. is_in-descriptors_of pairs k ∙ some_of _ (λ e. taken (k - 3) (omega arith) (sym (socket_within slots k from) ∙ e)))
     (is_in-descriptors_of pairs (3 + i) ∙ ap is_some (socket_of-pairs_of 3 slots i ∙ free)))
 

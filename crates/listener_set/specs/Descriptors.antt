@@ -12,13 +12,13 @@ abbrev pub descriptors_of : List (ℕ × ℕ) → List ℕ
 descriptors_of pairs = map (λ p. p.0) pairs
 
 -- the lowest number from fd on that is not used, looked for up to n times
-abbrev pub free_from : ℕ → ℕ → List ℕ → ℕ
-free_from zero fd used = fd
-free_from (suc n) fd used = if is_in used fd then free_from n (fd + 1) used else fd
+abbrev pub unused_from : ℕ → ℕ → List ℕ → ℕ
+unused_from zero fd used = fd
+unused_from (suc n) fd used = if is_in used fd then unused_from n (fd + 1) used else fd
 
 -- the lowest descriptor from 3 on that is not used
-abbrev pub lowest_free : List ℕ → ℕ
-lowest_free used = free_from (length used) 3 used
+abbrev pub lowest_unused : List ℕ → ℕ
+lowest_unused used = unused_from (length used) 3 used
 
 -- the pairs with a socket put under a descriptor, in its place
 abbrev pub put_pair : List (ℕ × ℕ) → ℕ → ℕ → List (ℕ × ℕ)

@@ -1,7 +1,7 @@
 //! The descriptors of a process.
 ghost use Rattle.std.specs.Prelude.{◌≡◌, ◌≢◌, ◌<◌, ◌≤◌, ◌↔◌, ℕ, [], length, get_or, IsTrue, IsErr, IsNone, None, OnErr, IfOk, IfSome, OnSome};
 ghost use Rattle.listener_set.specs.Slots.{IsFirstFree};
-ghost use Rattle.listener_set.specs.Descriptors.{lowest_free, descriptors_of, put_pair, socket_of, without_descriptor, pair_from, only_of, IsDescriptor, AreDescriptors};
+ghost use Rattle.listener_set.specs.Descriptors.{lowest_unused, descriptors_of, put_pair, socket_of, without_descriptor, pair_from, only_of, IsDescriptor, AreDescriptors};
 
 use crate::descriptor_set::DescriptorSet;
 use crate::slots::Slots;
@@ -122,8 +122,8 @@ impl DescriptorTable {
     }
 
     /// The lowest descriptor without a socket.
-    fn lowest_free(&self) -> Option<u32>
-        ensures lowest { IfSome result (λ fd. fd ≡ lowest_free (descriptors_of self.now)) }
+    fn lowest_unused(&self) -> Option<u32>
+        ensures lowest { IfSome result (λ fd. fd ≡ lowest_unused (descriptors_of self.now)) }
         ensures within { IfSome result IsDescriptor }
         ensures free { IfSome result (λ fd. socket_of self.now fd ≡ None) }
         ensures full { IsNone result ↔ (length self.now ≡ MOST_DESCRIPTORS) }
@@ -135,13 +135,13 @@ impl DescriptorTable {
     /// Puts a socket under the lowest free descriptor, as POSIX has it, and gives that descriptor.
     /// `Full` where each of the 64 has a socket.
     pub fn put(&mut self, socket: u32) -> Result<u32, Full>
-        ensures lowest { IfOk result (λ fd. fd ≡ lowest_free (descriptors_of self.old)) }
+        ensures lowest { IfOk result (λ fd. fd ≡ lowest_unused (descriptors_of self.old)) }
         ensures within { IfOk result IsDescriptor }
         ensures after { IfOk result (λ fd. self.new ≡ put_pair self.old fd socket) }
         ensures full { IsErr result ↔ (length self.old ≡ MOST_DESCRIPTORS) }
         ensures err { OnErr result (self.new ≡ self.old) }
     {
-        let descriptor = self.lowest_free().ok_or(Full)?;
+        let descriptor = self.lowest_unused().ok_or(Full)?;
         self.slots
             .put((descriptor - FIRST_DESCRIPTOR) as usize, socket);
         Ok(descriptor)

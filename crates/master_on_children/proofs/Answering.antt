@@ -7,7 +7,7 @@ use Rattle.vocabulary.specs.declared.calls.Answer.{Answer}
 use Rattle.vocabulary.specs.declared.calls.Answer.TheVariants.{Back}
 use Rattle.master_on_children.specs.Typed.{Typed, AreRead}
 use Rattle.master_on_children.specs.Questions.{Asked, reply_to, asked}
-use Rattle.master_on_children.specs.Inbox.{IsOver, unread, ReadsOn, ReadsMore, IsGiven, IsAnswered}
+use Rattle.master_on_children.specs.Inbox.{IsOver, unread, Takes, ReadsMore, IsGiven, IsAnswered}
 use Rattle.master_on_children.specs.declared.fault.SupervisorFault.{SupervisorFault}
 use Rattle.master_on_children.specs.declared.inbox.Inbox.{Inbox}
 use Rattle.master_on_children.proofs.Typing.{read_more, read_still, whole_later, asked_on, asked_given, asked_lacks, asked_full}
@@ -82,7 +82,7 @@ module _ {I : Type 0} (remaining : I → Option (List ℕ)) where
 
   -- a line is read only of an input that has not ended
   read_open : (now new : Inbox I) (one : Typed) (end : Option (Result (Unit {0}) SupervisorFault)) →
-      ReadsMore remaining end now (Ok (Some one)) new → (end ≡ None) × ReadsOn remaining now (Ok (Some one)) new
+      ReadsMore remaining end now (Ok (Some one)) new → (end ≡ None) × Takes remaining now (Ok (Some one)) new
   read_open now new one None r = (refl, r)
   read_open now new one (Some (Ok done)) r = let other : Ok (Some one) ≡ Ok None = r.0 in absurd cc
   read_open now new one (Some (Err fault)) r = absurd cc

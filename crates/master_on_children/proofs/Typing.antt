@@ -9,7 +9,7 @@ use Rattle.child_processes.specs.NextLine.{told, line_at, rest_at, line_in, rest
 use Rattle.vocabulary.specs.declared.calls.Answer.{Answer}
 use Rattle.vocabulary.specs.declared.calls.Answer.TheVariants.{Back}
 use Rattle.master_on_children.specs.Typed.{Typed, typed, AreTyped, AreRead, IsWhole}
-use Rattle.master_on_children.specs.Questions.{gives, lacks, by_reply, reply_to, asked}
+use Rattle.master_on_children.specs.Questions.{replies, lacks, by_reply, reply_to, asked}
 
 -- ---- what one read does
 told_some : (text : List ℕ) → told text ≡ ended → ⊥
@@ -83,17 +83,17 @@ whole_later (Some bytes) (Some left) m lines read whole = whole
 pub asked_on : (waiting : List Typed) (one : Typed) (more : List Typed) → length waiting < 64 → reply_to one ≡ None →
     asked waiting (one ∷ more) ≡ asked (waiting ++ one ∷ []) more
 asked_on waiting one more lt e =
-    ap (λ t. cond t (by_reply (reply_to one) (λ answer. gives answer waiting more) (asked (waiting ++ one ∷ []) more)) (gives Back waiting (one ∷ more))) (lt-ltb (length waiting) 64 lt)
-    ∙ ap (λ r. by_reply r (λ answer. gives answer waiting more) (asked (waiting ++ one ∷ []) more)) e
+    ap (λ t. cond t (by_reply (reply_to one) (λ answer. replies answer waiting more) (asked (waiting ++ one ∷ []) more)) (replies Back waiting (one ∷ more))) (lt-ltb (length waiting) 64 lt)
+    ∙ ap (λ r. by_reply r (λ answer. replies answer waiting more) (asked (waiting ++ one ∷ []) more)) e
 
 pub asked_given : (waiting : List Typed) (one : Typed) (a : Answer) → length waiting < 64 → reply_to one ≡ Some a →
-    asked waiting (one ∷ []) ≡ gives a waiting []
+    asked waiting (one ∷ []) ≡ replies a waiting []
 asked_given waiting one a lt e =
-    ap (λ t. cond t (by_reply (reply_to one) (λ answer. gives answer waiting []) (asked (waiting ++ one ∷ []) [])) (gives Back waiting (one ∷ []))) (lt-ltb (length waiting) 64 lt)
-    ∙ ap (λ r. by_reply r (λ answer. gives answer waiting []) (asked (waiting ++ one ∷ []) [])) e
+    ap (λ t. cond t (by_reply (reply_to one) (λ answer. replies answer waiting []) (asked (waiting ++ one ∷ []) [])) (replies Back waiting (one ∷ []))) (lt-ltb (length waiting) 64 lt)
+    ∙ ap (λ r. by_reply r (λ answer. replies answer waiting []) (asked (waiting ++ one ∷ []) [])) e
 
 pub asked_lacks : (waiting : List Typed) → length waiting < 64 → asked waiting [] ≡ lacks waiting
-asked_lacks waiting lt = ap (λ t. cond t (lacks waiting) (gives Back waiting [])) (lt-ltb (length waiting) 64 lt)
+asked_lacks waiting lt = ap (λ t. cond t (lacks waiting) (replies Back waiting [])) (lt-ltb (length waiting) 64 lt)
 
-pub asked_full : (waiting : List Typed) → 64 ≤ length waiting → asked waiting [] ≡ gives Back waiting []
-asked_full waiting ge = ap (λ t. cond t (lacks waiting) (gives Back waiting [])) (le-ltb (length waiting) 64 ge)
+pub asked_full : (waiting : List Typed) → 64 ≤ length waiting → asked waiting [] ≡ replies Back waiting []
+asked_full waiting ge = ap (λ t. cond t (lacks waiting) (replies Back waiting [])) (le-ltb (length waiting) 64 ge)

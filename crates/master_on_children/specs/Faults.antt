@@ -12,13 +12,13 @@ fault_code Memory = codes "memory"
 fault_code File = codes "file"
 
 -- what no further line was acted on for
-abbrev pub fault_of : Halt → SupervisorFault
-fault_of Short = Memory
-fault_of (Fault fault) = fault
+abbrev pub supervisor_fault : Halt → SupervisorFault
+supervisor_fault Short = Memory
+supervisor_fault (Fault fault) = fault
 
 abbrev pub status_or_fault : Result ℕ Halt → Result ℕ SupervisorFault
 status_or_fault (Ok status) = Ok status
-status_or_fault (Err halt) = Err (fault_of halt)
+status_or_fault (Err halt) = Err (supervisor_fault halt)
 
 -- By the kind of an error: want of memory, which may fail a read or a write too, or else a fault of a file.
 abbrev pub IsOfKind : ErrorKind → SupervisorFault → Type 0

@@ -5,7 +5,7 @@ use Rattle.vocabulary.specs.declared.calls.Answer.TheVariants.{Back}
 use Rattle.vocabulary.specs.declared.reports.Entry.{Entry}
 use Rattle.child_processes.specs.NextLine.{unheard}
 use Rattle.master_on_children.specs.Typed.{Typed, AreRead, IsWhole}
-use Rattle.master_on_children.specs.Questions.{Asked, gives, lacks, asked, question_of}
+use Rattle.master_on_children.specs.Questions.{Asked, replies, lacks, asked, question_of}
 use Rattle.master_on_children.specs.declared.fault.SupervisorFault.{SupervisorFault}
 use Rattle.master_on_children.specs.declared.inbox.Inbox.{Inbox}
 
@@ -30,16 +30,16 @@ module _ {I : Type 0} (remaining : I → Option (List ℕ)) where
   unread inbox = unheard remaining inbox.lines
 
   -- One line more of an input that has not ended. The end and a fault are kept.
-  abbrev pub ReadsOn : Inbox I → Result (Option Typed) SupervisorFault → Inbox I → Type 0
-  ReadsOn old (Ok (Some line)) new = (new ≡ record old { lines = new.lines }) × AreRead (unread old) (line ∷ []) (unread new)
-  ReadsOn old (Ok None) new =
+  abbrev pub Takes : Inbox I → Result (Option Typed) SupervisorFault → Inbox I → Type 0
+  Takes old (Ok (Some line)) new = (new ≡ record old { lines = new.lines }) × AreRead (unread old) (line ∷ []) (unread new)
+  Takes old (Ok None) new =
       (new ≡ record old { lines = new.lines; ended = Some (Ok tt) }) × AreRead (unread old) [] (unread new) ×
       IsWhole (unread old) (unread new)
-  ReadsOn old (Err fault) new = (new ≡ record old { lines = new.lines; ended = Some (Err fault) }) × AreRead (unread old) [] (unread new)
+  Takes old (Err fault) new = (new ≡ record old { lines = new.lines; ended = Some (Err fault) }) × AreRead (unread old) [] (unread new)
 
   -- One line more. Once the input has ended, that is what each further read comes to.
   abbrev pub ReadsMore : Option (Result (Unit {0}) SupervisorFault) → Inbox I → Result (Option Typed) SupervisorFault → Inbox I → Type 0
-  ReadsMore None old read new = ReadsOn old read new
+  ReadsMore None old read new = Takes old read new
   ReadsMore (Some end) old read new = (read ≡ over end) × (new ≡ old)
 
   -- The next line to act on: the first that waits, or else one more.
@@ -53,7 +53,7 @@ module _ {I : Type 0} (remaining : I → Option (List ℕ)) where
   -- What came of a question, where all lines that were read are used up. Where there was neither an answer nor 64 lines, the input has
   -- ended, and the answer is to go back. How it ended before is kept.
   abbrev pub IsGiven : Asked → Answer → Inbox I → Inbox I → Type 0
-  IsGiven (gives answer waiting left) a old new = (a ≡ answer) × (new.waiting ≡ waiting) × (left ≡ []) × (new.ended ≡ old.ended)
+  IsGiven (replies answer waiting left) a old new = (a ≡ answer) × (new.waiting ≡ waiting) × (left ≡ []) × (new.ended ≡ old.ended)
   IsGiven (lacks waiting) a old new =
       (a ≡ Back) × (new.waiting ≡ waiting) × IsOver old.ended new.ended ×
       (old.ended ≡ None → new.ended ≡ Some (Ok tt) → IsWhole (unread old) (unread new))

@@ -21,7 +21,7 @@ reply_to _ = None
 
 -- What comes of a question: an answer, the lines that wait then, and those that were not read; or neither an answer nor 64 lines.
 pub data Asked : Type 0 where
-  gives : Answer → List Typed → List Typed → Asked
+  replies : Answer → List Typed → List Typed → Asked
   lacks : List Typed → Asked
 
 abbrev pub by_reply : Option Answer → (Answer → Asked) → Asked → Asked
@@ -31,8 +31,8 @@ by_reply (Some answer) answered otherwise = answered answer
 -- By the lines that wait, and those that come: the first that replies is the answer, and each before it waits behind the others. Once
 -- 64 wait, the answer is to go back, and no more are read.
 abbrev pub asked : List Typed → List Typed → Asked
-asked waiting [] = if nat_lt (length waiting) 64 then lacks waiting else gives Back waiting []
+asked waiting [] = if nat_lt (length waiting) 64 then lacks waiting else replies Back waiting []
 asked waiting (line ∷ lines) =
     if nat_lt (length waiting) 64
-    then by_reply (reply_to line) (λ answer. gives answer waiting lines) (asked (waiting ++ line ∷ []) lines)
-    else gives Back waiting (line ∷ lines)
+    then by_reply (reply_to line) (λ answer. replies answer waiting lines) (asked (waiting ++ line ∷ []) lines)
+    else replies Back waiting (line ∷ lines)

@@ -4,7 +4,7 @@ use Rattle.std.specs.Io.KnownBytes.{Keeps}
 use Rattle.vocabulary.specs.Settings.{Settings}
 use Rattle.definitions.specs.Master.{Record}
 use Rattle.call_laws.specs.Start.{started}
-use Rattle.child_family.specs.Told.{Told, Tells, wrote}
+use Rattle.child_family.specs.Told.{Told, Tells, wrote_file}
 use Rattle.child_family.specs.declared.family.Family.{Ghosts}
 use Rattle.child_edge.specs.Edge.{begun_by}
 use Rattle.child_family.specs.Lines.{pid_text}
@@ -19,7 +19,7 @@ use Rattle.master_on_children.specs.declared.next.NextRefusal.{NextRefusal}
 -- The pid file was written where there is a path for it; otherwise the family was asked nothing.
 abbrev pub IsWritten : Option (List ℕ) → ℕ → Option (List Told) → Option (List Told) → Type 0
 IsWritten None pid old new = new ≡ old
-IsWritten (Some path) pid old new = Tells old new (wrote path (pid_text pid) true)
+IsWritten (Some path) pid old new = Tells old new (wrote_file path (pid_text pid) true)
 
 -- the record of a master that starts: as many workers are wanted as the settings say, and none is ready
 abbrev pub first_record : Settings → ℕ → Record

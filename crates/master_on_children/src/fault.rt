@@ -75,9 +75,9 @@ impl From<IoError> for Halt {
 /// To who started the supervisor, want of memory is that.
 impl From<Halt> for SupervisorFault {
     ghost use Rattle.std.specs.Prelude.{◌≡◌};
-    ghost use Rattle.master_on_children.specs.Faults.{fault_of};
+    ghost use Rattle.master_on_children.specs.Faults.{supervisor_fault};
 
-    ghost from_gives = { λ halt fault. fault ≡ fault_of halt };
+    ghost from_gives = { λ halt fault. fault ≡ supervisor_fault halt };
 
     fn from(halt: Halt) -> SupervisorFault {
         match halt {

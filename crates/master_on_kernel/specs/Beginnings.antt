@@ -6,7 +6,7 @@ use Rattle.faults.specs.Faults.{IsDue}
 use Rattle.master_on_kernel.specs.declared.rehearsal.Rehearsal.{Rehearsal}
 use Rattle.master_on_kernel.specs.declared.start.StartSetup.{StartSetup}
 use Rattle.master_on_kernel.specs.declared.start.Start.{Start}
-use Rattle.master_on_kernel.specs.Starts.{IsStart, IsOfStart, IsStarted, record_at}
+use Rattle.master_on_kernel.specs.Starts.{IsStartOf, IsOfStart, IsStarted, record_at}
 use Rattle.master_on_kernel.specs.Rehearsals.{Held, IsOfHeld}
 
 -- somebody else holds the address that is named, if one is
@@ -22,7 +22,7 @@ IsOfNamed (Some text) old fault = IsOfHeld (reading text) old.standing.world fau
 -- The master of a start that is asked for, on a kernel where somebody holds the address that is named.
 pub record HasBegun (setup : StartSetup) (held : Option (List ℕ)) (it : Rehearsal) : Type 0 where
   pub start : Start
-  pub is_read : IsStart setup start
+  pub is_read : IsStartOf setup start
   pub before : Rehearsal
   pub is_started : IsStarted start before
   pub is_held : HoldsNamed held before it
@@ -30,5 +30,5 @@ pub record HasBegun (setup : StartSetup) (held : Option (List ℕ)) (it : Rehear
 -- Why it can't begin: the start can't be read; no master can start so; or nobody can hold the address.
 abbrev pub IsOfBeginning : StartSetup → Option (List ℕ) → Fault → Type 0
 IsOfBeginning setup held fault =
-    IsOfStart setup fault ⊎ ((start : Start) × IsStart setup start ×
+    IsOfStart setup fault ⊎ ((start : Start) × IsStartOf setup start ×
     (IsDue (record_at start) fault ⊎ ((it : Rehearsal) × IsStarted start it × IsOfNamed held it fault)))

@@ -22,7 +22,7 @@ IsOfSettings path fault = (refusal : ConfigRefusal) × IsRefusalOf path refusal 
 
 -- How a master starts that is asked for: the settings of the files, or the plain ones and those of the start; as many workers
 -- as an option says, or else the start's settings; and none of them runs where the start is bare.
-pub record IsStart (setup : StartSetup) (start : Start) : Type 0 where
+pub record IsStartOf (setup : StartSetup) (start : Start) : Type 0 where
   pub settings : AreNamed (option_map (λ text. text.now) setup.from) plain_settings start.settings
   pub next : AreNamed (option_map (λ text. text.now) setup.to) start.settings start.next
   pub wanted : start.wanted ≡ unwrap_or setup.workers start.settings.workers

@@ -1,6 +1,6 @@
 //! How a master starts: its configuration, and the one that a reload goes over to.
 ghost use Rattle.std.specs.Prelude.{◌≡◌, IfOk, IfErr};
-ghost use Rattle.master_on_kernel.specs.Starts.{IsOfStart, IsStart, record_at, silent_workers};
+ghost use Rattle.master_on_kernel.specs.Starts.{IsOfStart, IsStartOf, record_at, silent_workers};
 
 use faults::Fault;
 use kernel_model::BootRefusal;
@@ -42,7 +42,7 @@ impl Start {
     /// Reads the files, that of the start first. Without one the defaults hold; the start's
     /// settings are taken up again where no other file is named.
     pub fn read<R: AllocGlobal + Files>(rt: &R, setup: &StartSetup<'_>) -> Result<Start, Fault>
-        ensures ok { IfOk result (IsStart setup.now) }
+        ensures ok { IfOk result (IsStartOf setup.now) }
         ensures err { IfErr result (IsOfStart setup.now) }
     {
         let settings = settings_in(rt, setup.from, Settings::plain())?;

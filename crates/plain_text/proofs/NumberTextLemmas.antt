@@ -7,7 +7,7 @@ use Rattle.std.specs.Fmt.{decimal}
 use Rattle.std.proofs.lemmas.Bool.Decides.{nat_tests}
 use Rattle.std.proofs.lemmas.Str.Parse.{IsNumeralModel, numerals_by_fold}
 use Rattle.std.proofs.lemmas.Fmt.{decimal-digits_value, digits_decimal, digits_value-decimal, decimal_nonempty, first_decimal, length-decimal-le}
-use Rattle.plain_text.specs.NumberText.{number_after, number64_of, number_of, at_most, number_if_within, number_within, is_within}
+use Rattle.plain_text.specs.NumberText.{number_after, number64_of, number_in, at_most, number_if_within, number_within, is_within}
 
 -- what digits write, after n
 abbrev pub read_on : ℕ → List ℕ → ℕ
@@ -95,11 +95,11 @@ small_of (Some m) n e =
     let same : m ≡ n = cc in
     (went.1, grind (arith, nat_tests))
 
-pub decimal-number_of : (text : List ℕ) (n : ℕ) → number_of text ≡ Some n → (text ≡ decimal n) × (n < 2 ^ 32)
-decimal-number_of text n e = let small = small_of (number64_of text) n e in ((decimal-number64_of text n small.0).0, small.1)
+pub decimal-number_in : (text : List ℕ) (n : ℕ) → number_in text ≡ Some n → (text ≡ decimal n) × (n < 2 ^ 32)
+decimal-number_in text n e = let small = small_of (number64_of text) n e in ((decimal-number64_of text n small.0).0, small.1)
 
-pub number_of-decimal : (n : ℕ) → n < 2 ^ 32 → number_of (decimal n) ≡ Some n
-number_of-decimal n lt =
+pub number_in-decimal : (n : ℕ) → n < 2 ^ 32 → number_in (decimal n) ≡ Some n
+number_in-decimal n lt =
     let le : leb n 4294967295 ≡ true = grind (arith, nat_tests) in
     ap (at_most 4294967295) (number64_of-decimal n (omega arith)) ∙ rw le refl
 
@@ -116,14 +116,14 @@ within_is least most (Some m) n e =
 
 pub decimal-number_within : (least most : ℕ) (text : List ℕ) (n : ℕ) → number_within least most text ≡ Some n → (text ≡ decimal n) × (least ≤ n) × (n ≤ most)
 decimal-number_within least most text n e =
-    let is = within_is least most (number_of text) n e in
-    ((decimal-number_of text n is.0).0, is.1, is.2)
+    let is = within_is least most (number_in text) n e in
+    ((decimal-number_in text n is.0).0, is.1, is.2)
 
 pub number_within-decimal : (least most n : ℕ) → least ≤ n → n ≤ most → n < 2 ^ 32 → number_within least most (decimal n) ≡ Some n
 number_within-decimal least most n low high lt =
     let one : leb least n ≡ true = grind (arith, nat_tests) in
     let two : leb n most ≡ true = grind (arith, nat_tests) in
-    ap (number_if_within least most) (number_of-decimal n lt) ∙ rw (one, two) refl
+    ap (number_if_within least most) (number_in-decimal n lt) ∙ rw (one, two) refl
 
 pub decimal-is_within : (least most : ℕ) (text : List ℕ) → is_within least most text ≡ true → (n : ℕ) × (text ≡ decimal n) × (least ≤ n) × (n ≤ most)
 decimal-is_within least most text h = at (number_within least most text) refl h
@@ -142,8 +142,8 @@ length-within k least most text pos bound within = at (number_within least most 
     at : (o : Option ℕ) → number_within least most text ≡ o → is_some o ≡ true → length text ≤ k
     at None e h = cc
     at (Some n) e h =
-        let is = within_is least most (number_of text) n e in
-        let found = decimal-number_of text n is.0 in
+        let is = within_is least most (number_in text) n e in
+        let found = decimal-number_in text n is.0 in
         let small : n ≤ most = is.2 in
         let lt : n < 2 ^ 32 = found.1 in
         rw found.0 (length-decimal-le k n pos (omega arith) (omega arith))

@@ -19,8 +19,8 @@ at_most most None = None
 at_most most (Some n) = if nat_le n most then Some n else None
 
 -- the number of 32 bits that a text is
-abbrev pub number_of : List ℕ → Option ℕ
-number_of text = at_most 4294967295 (number64_of text)
+abbrev pub number_in : List ℕ → Option ℕ
+number_in text = at_most 4294967295 (number64_of text)
 
 abbrev pub number_if_within : ℕ → ℕ → Option ℕ → Option ℕ
 number_if_within least most None = None
@@ -28,7 +28,7 @@ number_if_within least most (Some n) = if nat_le least n && nat_le n most then S
 
 -- a number from least to most
 abbrev pub number_within : ℕ → ℕ → List ℕ → Option ℕ
-number_within least most text = number_if_within least most (number_of text)
+number_within least most text = number_if_within least most (number_in text)
 
 -- whether a text is a number from least to most
 abbrev pub is_within : ℕ → ℕ → List ℕ → Bool

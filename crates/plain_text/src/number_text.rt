@@ -1,7 +1,7 @@
 //! Numbers as texts.
 ghost use Rattle.std.specs.Prelude.{◌≡◌, ◌≤◌, ◌<◌, ◌^◌, ◌++◌, ℕ, length, IfSome, IfOk, Some};
 ghost use Rattle.std.specs.Fmt.{decimal};
-ghost use Rattle.plain_text.specs.NumberText.{number_of, number64_of, number_within, count_of};
+ghost use Rattle.plain_text.specs.NumberText.{number_in, number64_of, number_within, count_of};
 ghost use Rattle.plain_text.specs.Kept.{kept};
 
 use crate::sink::Sink;
@@ -40,7 +40,7 @@ fn digits_value(text: &[u8]) -> Option<u64>
 /// The number from 0 to 4,294,967,295 that a text is: decimal digits without leading zeros, and
 /// zero is `0`.
 pub fn read_number(text: &[u8]) -> Option<u32>
-    ensures exact { result ≡ number_of text.now }
+    ensures exact { result ≡ number_in text.now }
 
     // What is read is the number as it is printed, and each number is read as it is printed.
     ensures found { IfSome result (λ n. (text.now ≡ decimal n) × (n < 2 ^ 32)) }

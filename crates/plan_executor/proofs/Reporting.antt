@@ -26,9 +26,9 @@ outcome-is sides None lacking o h = h
 outcome-is sides (Some (Ends end)) lacking o h = h
 outcome-is sides (Some (Does by order set branches)) lacking o h = absurd h
 
-reported : (sides : Sides) (t : Trail) (entries : List Entry) (last : Table) (ran : Ran) (report : Report) →
+reports_it : (sides : Sides) (t : Trail) (entries : List Entry) (last : Table) (ran : Ran) (report : Report) →
     IsRun entries last t ran → Reports sides t report → report ≡ report_of sides ran
-reported sides t entries last ran report is h =
+reports_it sides t entries last ran report is h =
     let lacking : (lacked_last t.lacked) ≡ (lacked_last ran.last.lacked) = ap (λ (x : Trail). lacked_last x.lacked) (sym is.trail) in
     let outcome = outcome-is sides t.rest (lacked_last t.lacked) report.outcome h.outcome ∙ (ap (λ e. outcome_of sides e (lacked_last t.lacked)) (sym is.ending) ∙ ap (outcome_of sides ran.ending) lacking) in
     let cause = h.cause ∙ ap (λ (x : Trail). x.cause) (sym is.trail) in
@@ -45,4 +45,4 @@ pub whole-run : (r : Record) (target : Target) (turns : List Turn) (pattern : Pa
 whole-run r target turns pattern first last entries report law replays =
     let t = trail_after (begin (plan_tree r target turns) r.note) entries in
     let is = runs-as (handover_for r target) entries (plan_tree r target turns) pattern (start_at first r.note) last law.path (over (sides_of r target) t.rest (lacked_last t.lacked) report.outcome law.report_is.outcome) replays in
-    record { entries_are = is.entries_are; table = is.table; report_is = reported (sides_of r target) t entries last (run_of r target turns pattern first) report is law.report_is }
+    record { entries_are = is.entries_are; table = is.table; report_is = reports_it (sides_of r target) t entries last (run_of r target turns pattern first) report is law.report_is }

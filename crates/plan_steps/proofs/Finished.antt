@@ -128,10 +128,10 @@ first_stands steps first depths met order h = front order (order_rises steps (fi
 whole : (order : List ℕ) → IsRest order 0 order
 whole order k = ap (slice_get order) (let e : k ≡ 0 + k = omega arith in e)
 
-pub plan_tree : (steps : List Step) (first : ℕ) (depths met order numbers : List ℕ) (plan : List Step) →
+pub tree_of_plan : (steps : List Step) (first : ℕ) (depths met order numbers : List ℕ) (plan : List Step) →
     AreOrdered steps (first ∷ []) depths met order → AreNumbers order (length steps) numbers →
     AllNumbered numbers steps order plan → first_tree plan ≡ at_place steps first
-plan_tree steps first depths met order numbers plan h ns all =
+tree_of_plan steps first depths met order numbers plan h ns all =
     ap (λ ts. unwrap_or (slice_get ts 0) (Ends Done)) (trees_numbered steps order numbers 0 order plan h.back (order_leads_on steps (first ∷ []) depths met order numbers h ns) (whole order) all)
     ∙ front order (first_stands steps first depths met order h)
   where
@@ -214,6 +214,6 @@ finished steps lent first order order_lent plan same back low found again lent_a
       begins = plan_begins steps first depths met order all.numbers plan o all.steps_are;
       few = omega (arith, length-numbered all.numbers steps order plan all.steps_are, order_few steps (first ∷ []) depths met order o);
       on = plan_on steps (first ∷ []) depths met order all.numbers plan o all.numbered all.steps_are;
-      tree = plan_tree steps first depths met order all.numbers plan o all.numbered all.steps_are;
+      tree = tree_of_plan steps first depths met order all.numbers plan o all.numbered all.steps_are;
       numbering = numbering_of steps first depths met order plan o all;
     }

@@ -9,12 +9,12 @@ use Rattle.definitions.specs.Table.{Address}
 use Rattle.vocabulary.specs.declared.calls.Call.TheVariants.{Quit, CloseAt}
 use Rattle.definitions.specs.Calls.{Call}
 use Rattle.definitions.specs.Run.{Tree}
-use Rattle.definitions.specs.Plans.{does, then_edge}
+use Rattle.definitions.specs.Plans.{tells, does, then_edge}
 use Rattle.call_laws.specs.Pieces.{quits, closes}
 use Rattle.rollback_plan.specs.declared.draft.Draft.{Draft}
 use Rattle.plan_steps.specs.declared.step.Place.{Place}
 use Rattle.rollback_plan.specs.Drafts.{IsMade, Keeps}
-use Rattle.rollback_plan.specs.Back.{tells, told_back, quits_back, closes_back, AreMade}
+use Rattle.rollback_plan.specs.Back.{told_back, quits_back, closes_back, AreMade}
 use Rattle.rollback_plan.proofs.Lists.{take_at, reverse-map}
 use Rattle.plan_steps.proofs.Trees.{slice_get-append, slice_get-seam}
 use Rattle.rollback_plan.proofs.DraftTrees.{made_kept}

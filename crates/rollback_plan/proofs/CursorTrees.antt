@@ -27,7 +27,7 @@ use Rattle.rollback_plan.specs.Places.{joined_in, tree_at, turn_of, left_at, cho
 use Rattle.rollback_plan.proofs.PlanTrees.{tree_at_place, follow_here, within_at, some_at}
 
 -- a tree begins with a step, whose edges lead so
-pub record Goes (t : Tree) (s : Step) (after : Next → Tree) : Type 0 where
+pub record HasNext (t : Tree) (s : Step) (after : Next → Tree) : Type 0 where
   pub first : begins t s
   pub leads : (answer : Answer) → follow (Some t) answer ≡ option_map (λ e. (e.note, after e.next)) (edge_for s.edges.items (reply_of s.set answer))
 
@@ -40,7 +40,7 @@ rest_mapped : (f : Tree → Tree) (g : Next → Tree) (o : Option PlanEdge) →
 rest_mapped f g None = refl
 rest_mapped f g (Some e) = refl
 
-plain : (steps : List Step) (s : Step) → Goes (tree_here steps s) s (tree_behind steps)
+plain : (steps : List Step) (s : Step) → HasNext (tree_here steps s) s (tree_behind steps)
 plain steps s = record { first = (refl, refl, refl); leads = follow_here steps s }
 
 never : {X : Type 0} → false ≡ true → X
@@ -49,7 +49,7 @@ never e = absurd (false≢true e)
 -- a step of which each rest is another
 changed : (f : Tree → Tree) (steps : List Step) (s : Step) (bs : Branches) →
     ((r : Reply) → branch bs r ≡ on_rest f (branch (branches_of steps s) r)) →
-    Goes (Does s.by s.order s.set bs) s (λ next. f (tree_behind steps next))
+    HasNext (Does s.by s.order s.set bs) s (λ next. f (tree_behind steps next))
 changed f steps s bs is = record {
   first = (refl, refl, refl);
   leads = λ answer. is (reply_of s.set answer) ∙ (ap (on_rest f) (follow_here steps s answer) ∙ rest_mapped f (tree_behind steps) (edge_for s.edges.items (reply_of s.set answer)));
@@ -73,24 +73,24 @@ some_step steps place w = some_at steps (place.0 - 1) (within_at steps (To place
 -- ---- both parts
 
 both_new : (steps : List Step) (join : End → Tree) (s x : Step) (turns : List Turn) →
-    Goes (Does s.by s.order s.set (weave_all join (branches_of steps s) turns (tree_here steps x))) s
+    HasNext (Does s.by s.order s.set (weave_all join (branches_of steps s) turns (tree_here steps x))) s
     (λ next. weave join (tree_behind steps next) turns (tree_here steps x))
 both_new steps join s x turns = changed (λ t. weave join t turns (tree_here steps x)) steps s (weave_all join (branches_of steps s) turns (tree_here steps x)) (weave_branch join (branches_of steps s) turns (tree_here steps x))
 
 both_old : (steps : List Step) (join : End → Tree) (x s : Step) (turns : List Turn) →
-    Goes (weave join (tree_here steps x) (Old ∷ turns) (tree_here steps s)) s
+    HasNext (weave join (tree_here steps x) (Old ∷ turns) (tree_here steps s)) s
     (λ next. weave join (tree_here steps x) turns (tree_behind steps next))
 both_old steps join x s turns =
     let goes : List Turn → Tree → Tree = λ later still. Does x.by x.order x.set (weave_all join (branches_of steps x) later still) in
     changed (λ t. weave join (tree_here steps x) turns t) steps s (beside_all goes turns (branches_of steps s)) (beside_branch goes turns (branches_of steps s))
 
 alone_new : (steps : List Step) (join : End → Tree) (s : Step) (turns : List Turn) (end : End) →
-    Goes (weave join (tree_here steps s) turns (Ends end)) s
+    HasNext (weave join (tree_here steps s) turns (Ends end)) s
     (λ next. weave join (tree_behind steps next) turns (Ends end))
 alone_new steps join s turns end = changed (λ t. weave join t turns (Ends end)) steps s (weave_all join (branches_of steps s) turns (Ends end)) (weave_branch join (branches_of steps s) turns (Ends end))
 
 alone_old : (steps : List Step) (join : End → Tree) (s : Step) (turns : List Turn) (end : End) →
-    Goes (weave join (Ends end) turns (tree_here steps s)) s
+    HasNext (weave join (Ends end) turns (tree_here steps s)) s
     (λ next. weave join (Ends end) turns (tree_behind steps next))
 alone_old steps join s turns end = changed (graft (λ e. join end)) steps s (graft_all (λ e. join end) (branches_of steps s)) (graft_branch (λ e. join end) (branches_of steps s))
 
@@ -102,35 +102,35 @@ after_step steps parts at turns next = led_at steps parts at (turn_of turns) nex
 beside_goes : (steps : List Step) (parts : Option Parts) (a b : Place) (turns : List Turn) (s : Step) →
     all_lead_on 1 steps ≡ true → is_within steps (To a) ≡ true → is_within steps (To b) ≡ true →
     StandsAt steps (chosen_at (Beside (To a) (To b)) (turn_of turns)) s
-    → Goes (tree_at steps parts (Beside (To a) (To b)) turns) s (after_step steps parts (Beside (To a) (To b)) turns)
+    → HasNext (tree_at steps parts (Beside (To a) (To b)) turns) s (after_step steps parts (Beside (To a) (To b)) turns)
 beside_goes steps parts a b [] s on wa wb at =
     let join = joined_in steps parts in
     let x = some_step steps b wb in
-    subst (λ (t : Tree). Goes (weave join (tree_behind steps (To a)) [] t) s (λ next. weave join (tree_behind steps next) [] t)) (sym (tree_there steps b x.0 on x.1))
-    (subst (λ (t : Tree). Goes (weave join t [] (tree_here steps x.0)) s (λ next. weave join (tree_behind steps next) [] (tree_here steps x.0))) (sym (tree_there steps a s on at)) (both_new steps join s x.0 []))
+    subst (λ (t : Tree). HasNext (weave join (tree_behind steps (To a)) [] t) s (λ next. weave join (tree_behind steps next) [] t)) (sym (tree_there steps b x.0 on x.1))
+    (subst (λ (t : Tree). HasNext (weave join t [] (tree_here steps x.0)) s (λ next. weave join (tree_behind steps next) [] (tree_here steps x.0))) (sym (tree_there steps a s on at)) (both_new steps join s x.0 []))
 beside_goes steps parts a b (New ∷ turns) s on wa wb at =
     let join = joined_in steps parts in
     let x = some_step steps b wb in
-    subst (λ (t : Tree). Goes (weave join (tree_behind steps (To a)) (New ∷ turns) t) s (λ next. weave join (tree_behind steps next) turns t)) (sym (tree_there steps b x.0 on x.1))
-    (subst (λ (t : Tree). Goes (weave join t (New ∷ turns) (tree_here steps x.0)) s (λ next. weave join (tree_behind steps next) turns (tree_here steps x.0))) (sym (tree_there steps a s on at)) (both_new steps join s x.0 turns))
+    subst (λ (t : Tree). HasNext (weave join (tree_behind steps (To a)) (New ∷ turns) t) s (λ next. weave join (tree_behind steps next) turns t)) (sym (tree_there steps b x.0 on x.1))
+    (subst (λ (t : Tree). HasNext (weave join t (New ∷ turns) (tree_here steps x.0)) s (λ next. weave join (tree_behind steps next) turns (tree_here steps x.0))) (sym (tree_there steps a s on at)) (both_new steps join s x.0 turns))
 beside_goes steps parts a b (Old ∷ turns) s on wa wb at =
     let join = joined_in steps parts in
     let x = some_step steps a wa in
-    subst (λ (t : Tree). Goes (weave join t (Old ∷ turns) (tree_behind steps (To b))) s (λ next. weave join t turns (tree_behind steps next))) (sym (tree_there steps a x.0 on x.1))
-    (subst (λ (t : Tree). Goes (weave join (tree_here steps x.0) (Old ∷ turns) t) s (λ next. weave join (tree_here steps x.0) turns (tree_behind steps next))) (sym (tree_there steps b s on at)) (both_old steps join x.0 s turns))
+    subst (λ (t : Tree). HasNext (weave join t (Old ∷ turns) (tree_behind steps (To b))) s (λ next. weave join t turns (tree_behind steps next))) (sym (tree_there steps a x.0 on x.1))
+    (subst (λ (t : Tree). HasNext (weave join (tree_here steps x.0) (Old ∷ turns) t) s (λ next. weave join (tree_here steps x.0) turns (tree_behind steps next))) (sym (tree_there steps b s on at)) (both_old steps join x.0 s turns))
 
 -- The step that is next, and where its edges lead.
 pub goes : (steps : List Step) (parts : Option Parts) (at : At) (turns : List Turn) (s : Step) →
     all_lead_on 1 steps ≡ true → is_at steps parts at ≡ true → StandsAt steps (chosen_at at (turn_of turns)) s →
-    Goes (tree_at steps parts at turns) s (after_step steps parts at turns)
-goes steps None (Before (To p)) turns s on w at = subst (λ (t : Tree). Goes t s (tree_behind steps)) (sym (tree_there steps p s on at)) (plain steps s)
+    HasNext (tree_at steps parts at turns) s (after_step steps parts at turns)
+goes steps None (Before (To p)) turns s on w at = subst (λ (t : Tree). HasNext t s (tree_behind steps)) (sym (tree_there steps p s on at)) (plain steps s)
 goes steps (Some q) (Before (To p)) turns s on w at =
     let onward = part_end (tree_behind steps (To q.ready)) (tree_behind steps (To q.back)) (tree_behind steps (To q.new)) (tree_behind steps (To q.old)) turns in
-    subst (λ (t : Tree). Goes (graft onward t) s (λ next. graft onward (tree_behind steps next))) (sym (tree_there steps p s on at))
+    subst (λ (t : Tree). HasNext (graft onward t) s (λ next. graft onward (tree_behind steps next))) (sym (tree_there steps p s on at))
     (changed (graft onward) steps s (graft_all onward (branches_of steps s)) (graft_branch onward (branches_of steps s)))
 goes steps parts (Before (Over end)) turns s on w at = absurd at
 goes steps parts (Before (Both new old)) turns s on w at = absurd at
-goes steps parts (Behind (To p)) turns s on w at = subst (λ (t : Tree). Goes t s (tree_behind steps)) (sym (tree_there steps p s on at)) (plain steps s)
+goes steps parts (Behind (To p)) turns s on w at = subst (λ (t : Tree). HasNext t s (tree_behind steps)) (sym (tree_there steps p s on at)) (plain steps s)
 goes steps parts (Behind (Over end)) turns s on w at = absurd at
 goes steps parts (Behind (Both new old)) turns s on w at = absurd at
 goes steps parts (Beside (To a) (To b)) turns s on w at =
@@ -138,16 +138,16 @@ goes steps parts (Beside (To a) (To b)) turns s on w at =
     beside_goes steps parts a b turns s on one.0 (and_parts (is_within steps (To b)) true one.1).0 at
 goes steps parts (Beside (To a) (Over end)) turns s on w at =
     let join = joined_in steps parts in
-    subst (λ (t : Tree). Goes (weave join t turns (Ends end)) s (λ next. weave join (tree_behind steps next) turns (Ends end))) (sym (tree_there steps a s on at)) (alone_new steps join s turns end)
+    subst (λ (t : Tree). HasNext (weave join t turns (Ends end)) s (λ next. weave join (tree_behind steps next) turns (Ends end))) (sym (tree_there steps a s on at)) (alone_new steps join s turns end)
 goes steps parts (Beside (To a) (Both new old)) turns s on w at =
     let join = joined_in steps parts in
-    subst (λ (t : Tree). Goes (weave join t turns (Ends Split)) s (λ next. weave join (tree_behind steps next) turns (Ends Split))) (sym (tree_there steps a s on at)) (alone_new steps join s turns Split)
+    subst (λ (t : Tree). HasNext (weave join t turns (Ends Split)) s (λ next. weave join (tree_behind steps next) turns (Ends Split))) (sym (tree_there steps a s on at)) (alone_new steps join s turns Split)
 goes steps parts (Beside (Over end) (To b)) turns s on w at =
     let join = joined_in steps parts in
-    subst (λ (t : Tree). Goes (weave join (Ends end) turns t) s (λ next. weave join (Ends end) turns (tree_behind steps next))) (sym (tree_there steps b s on at)) (alone_old steps join s turns end)
+    subst (λ (t : Tree). HasNext (weave join (Ends end) turns t) s (λ next. weave join (Ends end) turns (tree_behind steps next))) (sym (tree_there steps b s on at)) (alone_old steps join s turns end)
 goes steps parts (Beside (Both new old) (To b)) turns s on w at =
     let join = joined_in steps parts in
-    subst (λ (t : Tree). Goes (weave join (Ends Split) turns t) s (λ next. weave join (Ends Split) turns (tree_behind steps next))) (sym (tree_there steps b s on at)) (alone_old steps join s turns Split)
+    subst (λ (t : Tree). HasNext (weave join (Ends Split) turns t) s (λ next. weave join (Ends Split) turns (tree_behind steps next))) (sym (tree_there steps b s on at)) (alone_old steps join s turns Split)
 goes steps parts (Beside (Over end) (Over other)) turns s on w at = absurd at
 goes steps parts (Beside (Over end) (Both new old)) turns s on w at = absurd at
 goes steps parts (Beside (Both new old) (Over end)) turns s on w at = absurd at
@@ -177,7 +177,7 @@ same_led steps parts (Beside (Both a b) old) t u next turns same = refl
 pub goes_at : (steps : List Step) (parts : Option Parts) (at : At) (turn : Turn) (turns : List Turn) (s : Step) →
     all_lead_on 1 steps ≡ true → is_at steps parts at ≡ true → (is_both at ≡ true → turn_of turns ≡ turn) →
     StandsAt steps (chosen_at at turn) s
-    → Goes (tree_at steps parts at turns) s (λ next. led_at steps parts at turn next (left_at at turns))
+    → HasNext (tree_at steps parts at turns) s (λ next. led_at steps parts at turn next (left_at at turns))
 goes_at steps parts at turn turns s on w same stands =
     let there = goes steps parts at turns s on w (subst (λ (n : Next). StandsAt steps n s) (sym (same_chosen at (turn_of turns) turn same)) stands) in
     record { first = there.first; leads = λ answer. there.leads answer ∙ alike (edge_for s.edges.items (reply_of s.set answer)) }

@@ -4,16 +4,11 @@ use Rattle.listener_set.specs.declared.generation.Generation.{Generation}
 use Rattle.definitions.specs.Table.{Address}
 use Rattle.definitions.specs.Calls.{Call}
 use Rattle.definitions.specs.Run.{Tree}
-use Rattle.definitions.specs.Plans.{does, then_edge}
+use Rattle.definitions.specs.Plans.{tells}
 use Rattle.call_laws.specs.Pieces.{quits, closes}
 use Rattle.plan_steps.specs.declared.step.Place.{Place}
 use Rattle.rollback_plan.specs.declared.draft.Draft.{Draft}
 use Rattle.rollback_plan.specs.Drafts.{IsMade}
-
--- Make these calls in their order, each of which is only answered fine.
-abbrev pub tells : ℕ → List Call → Tree → Tree
-tells by [] rest = rest
-tells by (call ∷ calls) rest = does by call (then_edge (tells by calls rest))
 
 -- Make the first i of these calls, the last of them first.
 abbrev pub told_back : ℕ → List Call → Tree → ℕ → Tree

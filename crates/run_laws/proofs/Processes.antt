@@ -26,7 +26,7 @@ use Rattle.definitions.specs.Calls.{own_step, step_by, step_with, Handed}
 use Rattle.std.specs.Bool.{then_some}
 use Rattle.table_laws.proofs.Rows.{weigh-append, one, weigh, worth, FitsIn, change-same, every-filter_map, every-append, every-any}
 use Rattle.call_laws.proofs.Choices.{pick}
-use Rattle.table_laws.proofs.Views.{master_of, eqb-refl, eqb-off, eqb-is}
+use Rattle.table_laws.proofs.Views.{master_at, eqb-refl, eqb-off, eqb-is}
 use Rattle.call_laws.proofs.Cases.{unfailing}
 use Rattle.table_laws.proofs.Exits.{IsNot, Spares, kept-master}
 
@@ -41,10 +41,10 @@ IsOf m image (Foreign n hs) = ⊤
 -- and it is there
 pub record HasOne (m image : ℕ) (rows : List Process) : Type 0 where
   pub all : AllByRecursion (IsOf m image) rows
-  pub some : 1 ≤ weigh (master_of m) rows
+  pub some : 1 ≤ weigh (master_at m) rows
 
 pub one-found :
-    (m image : ℕ) (rows : List Process) → AllByRecursion (IsOf m image) rows → 1 ≤ weigh (master_of m) rows →
+    (m image : ℕ) (rows : List Process) → AllByRecursion (IsOf m image) rows → 1 ≤ weigh (master_at m) rows →
     (hs : List Hold) × (live_master image rows ≡ Some (record { number = m; holds = hs }))
 one-found m image [] all some = absurd (omega arith)
 one-found m image (Master n q i live hs ∷ rows) all some =
@@ -187,69 +187,69 @@ of-lasts m image = (of-exited, of-holds, of-ready, of-draining, of-left)
 
 -- Masters are counted as before where no change makes or takes one.
 masters-changed :
-    (m : ℕ) (test : Process → Bool) (f : Process → Process) → ((p : Process) → master_of m (f p) ≡ master_of m p) →
-    (rows : List Process) → weigh (master_of m) (filter_map (change test f) rows) ≡ weigh (master_of m) rows
+    (m : ℕ) (test : Process → Bool) (f : Process → Process) → ((p : Process) → master_at m (f p) ≡ master_at m p) →
+    (rows : List Process) → weigh (master_at m) (filter_map (change test f) rows) ≡ weigh (master_at m) rows
 masters-changed m test f same rows =
-    change-same (λ p. ⊤) (master_of m) (change test f)
-    (λ p x. pick (λ p'. master_of m p' ≡ master_of m p) (test p) (f p) p (λ e. same p) (λ e. refl)) rows
+    change-same (λ p. ⊤) (master_at m) (change test f)
+    (λ p x. pick (λ p'. master_at m p' ≡ master_at m p) (test p) (f p) p (λ e. same p) (λ e. refl)) rows
     (every-any rows)
 
 masters-dropped :
-    (m : ℕ) (test : Process → Bool) → ((p : Process) → test p ≡ true → master_of m p ≡ 0) → (rows : List Process) →
-    weigh (master_of m) (filter_map (drop_where test) rows) ≡ weigh (master_of m) rows
+    (m : ℕ) (test : Process → Bool) → ((p : Process) → test p ≡ true → master_at m p ≡ 0) → (rows : List Process) →
+    weigh (master_at m) (filter_map (drop_where test) rows) ≡ weigh (master_at m) rows
 masters-dropped m test none rows =
-    change-same (λ p. ⊤) (master_of m) (drop_where test)
-    (λ p x. pick (λ o. worth (master_of m) o ≡ master_of m p) (test p) None (Some p) (λ e. sym (none p e)) (λ e. refl))
+    change-same (λ p. ⊤) (master_at m) (drop_where test)
+    (λ p x. pick (λ o. worth (master_at m) o ≡ master_at m p) (test p) None (Some p) (λ e. sym (none p e)) (λ e. refl))
     rows (every-any rows)
 
-no-master : (stance : Stance → Bool) (m c : ℕ) (g : Generation) (x : ℕ) (p : Process) → is_worker stance c g x p ≡ true → master_of m p ≡ 0
+no-master : (stance : Stance → Bool) (m c : ℕ) (g : Generation) (x : ℕ) (p : Process) → is_worker stance c g x p ≡ true → master_at m p ≡ 0
 no-master stance m c g x (Master n q i live hs) e = absurd (cc e)
 no-master stance m c g x (Worker n q h k s hs) e = refl
 no-master stance m c g x (Foreign n hs) e = refl
 
-no-master-exited : (m c : ℕ) (p : Process) → is_exited_of c p ≡ true → master_of m p ≡ 0
+no-master-exited : (m c : ℕ) (p : Process) → is_exited_of c p ≡ true → master_at m p ≡ 0
 no-master-exited m c (Master n q i live hs) e = absurd (cc e)
 no-master-exited m c (Worker n q h k s hs) e = refl
 no-master-exited m c (Foreign n hs) e = refl
 
-exited-kind : (m : ℕ) (p : Process) → master_of m (made_exited p) ≡ master_of m p
+exited-kind : (m : ℕ) (p : Process) → master_at m (made_exited p) ≡ master_at m p
 exited-kind m (Master n q i live hs) = refl
 exited-kind m (Worker n q g k s hs) = refl
 exited-kind m (Foreign n hs) = refl
 
-holds-kind : (m : ℕ) (f : List Hold → List Hold) (p : Process) → master_of m (with_holds f p) ≡ master_of m p
+holds-kind : (m : ℕ) (f : List Hold → List Hold) (p : Process) → master_at m (with_holds f p) ≡ master_at m p
 holds-kind m f (Master n q i live hs) = refl
 holds-kind m f (Worker n q g k s hs) = refl
 holds-kind m f (Foreign n hs) = refl
 
-ready-kind : (m : ℕ) (p : Process) → master_of m (made_ready p) ≡ master_of m p
+ready-kind : (m : ℕ) (p : Process) → master_at m (made_ready p) ≡ master_at m p
 ready-kind m (Master n q i live hs) = refl
 ready-kind m (Worker n q g k s hs) = refl
 ready-kind m (Foreign n hs) = refl
 
-draining-kind : (m : ℕ) (p : Process) → master_of m (made_draining p) ≡ master_of m p
+draining-kind : (m : ℕ) (p : Process) → master_at m (made_draining p) ≡ master_at m p
 draining-kind m (Master n q i live hs) = refl
 draining-kind m (Worker n q g k s hs) = refl
 draining-kind m (Foreign n hs) = refl
 
-masters-first : (m : ℕ) (test : Process → Bool) (rows : List Process) → weigh (master_of m) (first_changed test made_exited rows) ≡ weigh (master_of m) rows
+masters-first : (m : ℕ) (test : Process → Bool) (rows : List Process) → weigh (master_at m) (first_changed test made_exited rows) ≡ weigh (master_at m) rows
 masters-first m test [] = refl
 masters-first m test (p ∷ rows) =
-    pick (λ l. weigh (master_of m) l ≡ master_of m p + weigh (master_of m) rows) (test p) (made_exited p ∷ rows)
-    (p ∷ first_changed test made_exited rows) (λ e. ap (λ k. k + weigh (master_of m) rows) (exited-kind m p))
-    (λ e. ap (λ k. master_of m p + k) (masters-first m test rows))
+    pick (λ l. weigh (master_at m) l ≡ master_at m p + weigh (master_at m) rows) (test p) (made_exited p ∷ rows)
+    (p ∷ first_changed test made_exited rows) (λ e. ap (λ k. k + weigh (master_at m) rows) (exited-kind m p))
+    (λ e. ap (λ k. master_at m p + k) (masters-first m test rows))
 
 exit-masters :
     (m image : ℕ) (e : Name) (rows : List Process) → IsNot image e → AllByRecursion (IsOf m image) rows →
-    weigh (master_of m) (exited e rows) ≡ weigh (master_of m) rows
+    weigh (master_at m) (exited e rows) ≡ weigh (master_at m) rows
 exit-masters m image (name.Worker g k) rows is one = masters-changed m (is_named is_active g k) made_exited (exited-kind m) rows
 exit-masters m image (name.Draining g k) rows is one = masters-first m (is_named is_draining g k) rows
 exit-masters m image (name.Master i) rows is one = go (live_master i rows) refl
   where
-    go : (o : Option Caller) → live_master i rows ≡ o → weigh (master_of m) (caller_exits o rows) ≡ weigh (master_of m) rows
+    go : (o : Option Caller) → live_master i rows ≡ o → weigh (master_at m) (caller_exits o rows) ≡ weigh (master_at m) rows
     go None e = refl
     go (Some c) e =
-        change-same (λ p. ⊤) (master_of m) (without_exited c.number (λ q. list_any (is_live_master q) rows))
+        change-same (λ p. ⊤) (master_at m) (without_exited c.number (λ q. list_any (is_live_master q) rows))
         (λ p x. kept-master m c.number (λ q. list_any (is_live_master q) rows) (other-number m image i rows is one c e) p)
         rows (every-any rows)
 
@@ -322,7 +322,7 @@ module _ (m image n : ℕ) (P : Process → Type 0) (Quits : Generation → ℕ 
   fact-changed :
       (test : Process → Bool) (f : Process → Process) (t : Table) → ((p : Process) → test p ≡ true → P p → P (f p)) →
       ((p : Process) → test p ≡ true → IsOf m image p → IsOf m image (f p)) →
-      ((p : Process) → master_of m (f p) ≡ master_of m p) → F t → F (each_row (change test f) t)
+      ((p : Process) → master_at m (f p) ≡ master_at m p) → F t → F (each_row (change test f) t)
   fact-changed test f t h o kind fact = record {
     one = record {
       all =
@@ -335,7 +335,7 @@ module _ (m image n : ℕ) (P : Process → Type 0) (Quits : Generation → ℕ 
     above = fact.above;
   }
 
-  fact-dropped : (test : Process → Bool) (t : Table) → ((p : Process) → test p ≡ true → master_of m p ≡ 0) → F t → F (each_row (drop_where test) t)
+  fact-dropped : (test : Process → Bool) (t : Table) → ((p : Process) → test p ≡ true → master_at m p ≡ 0) → F t → F (each_row (drop_where test) t)
   fact-dropped test t none fact = record {
     one = record { all = every-dropped (IsOf m image) test t.rows fact.one.all; some = omega (arith, fact.one.some, masters-dropped m test none t.rows) };
     all = every-dropped P test t.rows fact.all;
@@ -356,7 +356,7 @@ module _ (m image n : ℕ) (P : Process → Type 0) (Quits : Generation → ℕ 
       record {
         one =
             record
-            { all = every-append (IsOf m image) t.rows new fact.one.all tt; some = omega (arith, fact.one.some, weigh-append (master_of m) t.rows (new ∷ [])) };
+            { all = every-append (IsOf m image) t.rows new fact.one.all tt; some = omega (arith, fact.one.some, weigh-append (master_at m) t.rows (new ∷ [])) };
         all = every-append P t.rows new fact.all (lasts.starts t.next_process m g x (shared fds hs) fact.below);
         below = omega (arith, fact.below);
         above = omega (arith, fact.above);
@@ -392,12 +392,12 @@ module _ (m image n : ℕ) (P : Process → Type 0) (Quits : Generation → ℕ 
   -- what another image's end takes
   kept-of-image :
       (i : ℕ) (rows : List Process) → i ≢ image → (p : Process) → IsOf m image p →
-      worth (master_of m) (drop_where (is_of_image i rows) p) ≡ master_of m p
+      worth (master_at m) (drop_where (is_of_image i rows) p) ≡ master_at m p
   kept-of-image i rows ne (Master k q j live zs) h =
-      pick (λ o. worth (master_of m) o ≡ one (k == m)) (j == i) None (Some (Master k q j live zs))
+      pick (λ o. worth (master_at m) o ≡ one (k == m)) (j == i) None (Some (Master k q j live zs))
       (λ e. ⊎_elim (λ o. absurd (ne (sym (eqb-is j i e) ∙ o.1))) (λ o. sym (ap one (eqb-off k m o.0))) h) (λ e. refl)
   kept-of-image i rows ne (Worker k q g j s zs) h =
-      pick (λ o. worth (master_of m) o ≡ 0) (list_any (is_image_row i q) rows) None (Some (Worker k q g j s zs))
+      pick (λ o. worth (master_at m) o ≡ 0) (list_any (is_image_row i q) rows) None (Some (Worker k q g j s zs))
       (λ e. refl) (λ e. refl)
   kept-of-image i rows ne (Foreign k zs) h = refl
 
@@ -420,7 +420,7 @@ module _ (m image n : ℕ) (P : Process → Type 0) (Quits : Generation → ℕ 
       let forked : F done.table = record {
         one =
             record
-            { all = every-append (IsOf m image) t.rows new fact.one.all tt; some = omega (arith, fact.one.some, weigh-append (master_of m) t.rows (new ∷ [])) };
+            { all = every-append (IsOf m image) t.rows new fact.one.all tt; some = omega (arith, fact.one.some, weigh-append (master_at m) t.rows (new ∷ [])) };
         all = every-append P t.rows new fact.all (lasts.starts t.next_process c.number g x (shared fds c.holds) fact.below);
         below = omega (arith, fact.below);
         above = omega (arith, fact.above);
@@ -448,7 +448,7 @@ module _ (m image n : ℕ) (P : Process → Type 0) (Quits : Generation → ℕ 
       let spawned : F done.table = record {
         one =
             record
-            { all = every-append (IsOf m image) t.rows new fact.one.all (inr ((λ e. absurd (omega (arith, e, fact.above))), any)); some = omega (arith, fact.one.some, weigh-append (master_of m) t.rows (new ∷ [])) };
+            { all = every-append (IsOf m image) t.rows new fact.one.all (inr ((λ e. absurd (omega (arith, e, fact.above))), any)); some = omega (arith, fact.one.some, weigh-append (master_at m) t.rows (new ∷ [])) };
         all = every-append P t.rows new fact.all (lasts.spawns t.next_process c.number i c.holds fact.below);
         below = omega (arith, fact.below);
         above = omega (arith, fact.above);
@@ -459,7 +459,7 @@ module _ (m image n : ℕ) (P : Process → Type 0) (Quits : Generation → ℕ 
   any-keeps handed by c (TermMaster i) t any fact = record {
     one =
         record
-        { all = every-dropped (IsOf m image) (is_of_image i t.rows) t.rows fact.one.all; some = omega (arith, fact.one.some, change-same (IsOf m image) (master_of m) (drop_where (is_of_image i t.rows)) (kept-of-image i t.rows any) t.rows fact.one.all) };
+        { all = every-dropped (IsOf m image) (is_of_image i t.rows) t.rows fact.one.all; some = omega (arith, fact.one.some, change-same (IsOf m image) (master_at m) (drop_where (is_of_image i t.rows)) (kept-of-image i t.rows any) t.rows fact.one.all) };
     all = every-dropped P (is_of_image i t.rows) t.rows fact.all;
     below = fact.below;
     above = fact.above;

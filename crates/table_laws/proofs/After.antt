@@ -11,7 +11,7 @@ use Rattle.definitions.specs.Calls.{is_exited_of, drop_where, census_of}
 use Rattle.listener_set.specs.Numbers.{is_in}
 use Rattle.definitions.specs.Master.{Crew, Record, Agrees, FilesAre, IsRunning, crew_of}
 use Rattle.table_laws.proofs.Rows.{one, weigh-same, every-more, count-weigh}
-use Rattle.table_laws.proofs.Views.{HoldsShare, View, Fine, Row, Looks, masters, master_of, finds, eqb-refl}
+use Rattle.table_laws.proofs.Views.{HoldsShare, View, Fine, Row, Looks, masters, master_at, finds, eqb-refl}
 use Rattle.table_laws.proofs.Effects.{idle}
 use Rattle.table_laws.proofs.Counts.{census-in, census-all, ready-row}
 use Rattle.table_laws.proofs.Services.{Sole, sole-fine}
@@ -77,7 +77,7 @@ running-row v crew same only (Worker n q g' k Draining hs) h = tt
 running-row v crew same only (Worker n q g' k Exited hs) h = tt
 running-row v crew same only (Foreign n hs) h = tt
 
-one-row : (v : View) (p : Process) → Fine v p → masters p ≡ master_of v.number p
+one-row : (v : View) (p : Process) → Fine v p → masters p ≡ master_at v.number p
 one-row v (Master n q i live hs) h = sym (ap one (eqb-refl n v.number h.0))
 one-row v (Worker n q g k s hs) h = refl
 one-row v (Foreign n hs) h = refl
@@ -96,7 +96,7 @@ agrees-after v crew t r sole same only looks exact is_crew is_image is_pid liste
       lives =
           subst (λ i. live i r.pid) (is_image ∙ sym (ap (λ (x : Crew). x.generation.image) is_crew))
           (subst (λ n. live v.image n) (sym is_pid) (finds (idle v) t.rows looks));
-      alone = count-weigh is_master t.rows ∙ weigh-same (Fine (idle v)) masters (master_of v.number) (one-row (idle v)) t.rows fine ∙ looks.alone;
+      alone = count-weigh is_master t.rows ∙ weigh-same (Fine (idle v)) masters (master_at v.number) (one-row (idle v)) t.rows fine ∙ looks.alone;
       listeners = listeners;
       running =
           subst (λ n. AllByRecursion (IsRunning n (crew_of r) v.holds) t.rows) (sym is_pid)

@@ -11,7 +11,7 @@ use Rattle.definitions.specs.Master.{Record, IsRunning, crew_of}
 use Rattle.definitions.specs.Claims.{IsStart}
 use Rattle.table_laws.proofs.Rows.{one, weigh, every-more, every-both, count-weigh, both-true}
 use Rattle.call_laws.proofs.Choices.{and-right}
-use Rattle.table_laws.proofs.Views.{Row, master_of, named, View, Fine, Looks, ready_in, masters, eqb-refl, eqb-is}
+use Rattle.table_laws.proofs.Views.{Row, master_at, named, View, Fine, Looks, ready_in, masters, eqb-refl, eqb-is}
 use Rattle.table_laws.proofs.Effects.{same-refl, none}
 use Rattle.table_laws.proofs.Counts.{Distinct, count-set, every-any_of}
 use Rattle.table_laws.proofs.Sets.{in-here, in-there}
@@ -65,7 +65,7 @@ the-parent image c q (Master n p i live hs ∷ rows) all e = go (live && (n == q
 the-parent image c q (Worker n p g k s hs ∷ rows) all e = the-parent image c q rows all.1 e
 the-parent image c q (Foreign n hs ∷ rows) all e = the-parent image c q rows all.1 e
 
-the-row : (image : ℕ) (c : Caller) (rows : List Process) → AllByRecursion (IsThe image c) rows → weigh (master_of c.number) rows ≡ weigh masters rows
+the-row : (image : ℕ) (c : Caller) (rows : List Process) → AllByRecursion (IsThe image c) rows → weigh (master_at c.number) rows ≡ weigh masters rows
 the-row image c [] all = refl
 the-row image c (Master n q i live hs ∷ rows) all = omega (arith, ap one (eqb-refl n c.number all.0.0), the-row image c rows all.1)
 the-row image c (Worker n q g k s hs ∷ rows) all = omega (arith, the-row image c rows all.1)

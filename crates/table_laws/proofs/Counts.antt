@@ -13,7 +13,7 @@ use Rattle.listener_set.specs.Numbers.{numbers_below, is_in, lacks}
 use Rattle.table_laws.proofs.Rows.{one, weigh, change-same, weigh-le-all, weigh-same, weigh-add, every-any, every-more}
 use Rattle.table_laws.proofs.Rows.{every-both, any-none, any-some, both-true}
 use Rattle.call_laws.proofs.Choices.{and-right}
-use Rattle.table_laws.proofs.Views.{Row, master_of, Names, named, View, Fine, Looks, live_named, ready_in, eqb-refl, eqb-is}
+use Rattle.table_laws.proofs.Views.{Row, master_at, Names, named, View, Fine, Looks, live_named, ready_in, eqb-refl, eqb-is}
 use Rattle.table_laws.proofs.Effects.{idle, bears-is, dropped-looks, worth-dropped-same, mine-worker, other-allows}
 
 ---- Numbers numbers_below a number
@@ -129,7 +129,7 @@ census-fine v g cs (Worker n q g' k Draining hs) h = h.0
 census-fine v g cs (Worker n q g' k Exited hs) h = h.0
 census-fine v g cs (Foreign n hs) h = tt
 
-exited-masters : (m : ℕ) (p : Process) → is_exited_of m p ≡ true → master_of m p ≡ 0
+exited-masters : (m : ℕ) (p : Process) → is_exited_of m p ≡ true → master_at m p ≡ 0
 exited-masters m (Master n q i live hs) e = cc
 exited-masters m (Worker n q g' k s hs) e = refl
 exited-masters m (Foreign n hs) e = refl

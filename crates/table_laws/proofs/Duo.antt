@@ -17,7 +17,7 @@ use Rattle.definitions.specs.Calls.{is_of_image}
 use Rattle.std.specs.Bool.{then_some}
 use Rattle.table_laws.proofs.Rows.{one, weigh, worth, FitsIn, change-same, every-filter_map, every-both, every-more, every-append, weigh-append}
 use Rattle.call_laws.proofs.Choices.{pick}
-use Rattle.table_laws.proofs.Views.{Names, View, Fine, Other, Row, Looks, live_named, ready_in, master_of, finds, eqb-refl, eqb-off, eqb-is}
+use Rattle.table_laws.proofs.Views.{Names, View, Fine, Other, Row, Looks, live_named, ready_in, master_at, finds, eqb-refl, eqb-off, eqb-is}
 use Rattle.table_laws.proofs.Effects.{Mine, StaysOther, none}
 use Rattle.table_laws.proofs.Services.{Sole, sole-fine, other-unready}
 use Rattle.table_laws.proofs.Exits.{IsNot, shrinks}
@@ -165,7 +165,7 @@ pub record Framed (v : View) (rows rows' : List Process) : Type 0 where
   pub looks : Looks v rows'
   pub same : (t : Names) → weigh (ready_in v.number t) rows' ≡ weigh (ready_in v.number t) rows
 
-other-masters : (v : View) (p : Process) → Other v p → master_of v.number p ≡ 0
+other-masters : (v : View) (p : Process) → Other v p → master_at v.number p ≡ 0
 other-masters v (Master n q i live hs) o = ap one (eqb-off n v.number o.0)
 other-masters v (Worker n q g k s hs) o = refl
 other-masters v (Foreign n hs) o = refl
@@ -203,8 +203,8 @@ framed-change v m test f rows ne mine stays looks = record {
   looks = record {
     fine = every-filter_map (Row v) (Row v) (change test f) (λ p h. (changed-row v m test f ne mine stays p h).0) rows looks.fine;
     alone =
-        change-same (Row v) (master_of v.number) (change test f)
-        (λ p h. (changed-row v m test f ne mine stays p h).1 (master_of v.number) (other-masters v)) rows looks.fine ∙
+        change-same (Row v) (master_at v.number) (change test f)
+        (λ p h. (changed-row v m test f ne mine stays p h).1 (master_at v.number) (other-masters v)) rows looks.fine ∙
         looks.alone;
     once =
         λ g k. omega
@@ -241,8 +241,8 @@ framed-drop v m test rows ne mine looks = record {
   looks = record {
     fine = every-filter_map (Row v) (Row v) (drop_where test) (λ p h. pick (FitsIn (Row v)) (test p) None (Some p) (λ e. tt) (λ e. h)) rows looks.fine;
     alone =
-        change-same (Row v) (master_of v.number) (drop_where test)
-        (dropped-row v m test ne mine (master_of v.number) (other-masters v)) rows looks.fine ∙ looks.alone;
+        change-same (Row v) (master_at v.number) (drop_where test)
+        (dropped-row v m test ne mine (master_at v.number) (other-masters v)) rows looks.fine ∙ looks.alone;
     once =
         λ g k. omega
         (arith, looks.once g k, change-same (Row v) (live_named v.number g k) (drop_where test) (dropped-row v m test ne mine (live_named v.number g k) (other-named v g k)) rows looks.fine);
@@ -261,7 +261,7 @@ framed-grow v m n g x hs rows ne on looks =
     record {
       looks = record {
         fine = every-append (Row v) rows new looks.fine (inr o);
-        alone = weigh-append (master_of v.number) rows (new ∷ []) ∙ omega (arith, looks.alone);
+        alone = weigh-append (master_at v.number) rows (new ∷ []) ∙ omega (arith, looks.alone);
         once = λ h k. omega (arith, looks.once h k, weigh-append (live_named v.number h k) rows (new ∷ []), other-named v h k new o);
       };
       same = λ t. omega (arith, weigh-append (ready_in v.number t) rows (new ∷ []));
@@ -355,7 +355,7 @@ OneOther v m = (v.number ≢ m) × ((n : ℕ) → v.others n ≡ true → n ≡ 
 -- what becomes of a row where all rows of m leave and v's master's stay, but for their parents
 abbrev Leaves : View → (Process → Option Process) → Process → Type 0
 Leaves v f p =
-    FitsIn (Row (sole v)) (f p) × (worth (master_of v.number) (f p) ≡ master_of v.number p)
+    FitsIn (Row (sole v)) (f p) × (worth (master_at v.number) (f p) ≡ master_at v.number p)
     × ((g : Generation) (k : ℕ) → worth (live_named v.number g k) (f p) ≡ live_named v.number g k p)
     × ((t : Names) → worth (ready_in v.number t) (f p) ≡ ready_in v.number t p)
 
@@ -369,7 +369,7 @@ alone-by :
 alone-by v P f rows h all looks = record {
   looks = record {
     fine = every-filter_map P (Row (sole v)) f (λ p x. (h p x).0) rows all;
-    alone = change-same P (master_of v.number) f (λ p x. (h p x).1) rows all ∙ looks.alone;
+    alone = change-same P (master_at v.number) f (λ p x. (h p x).1) rows all ∙ looks.alone;
     once = λ g k. omega (arith, looks.once g k, change-same P (live_named v.number g k) f (λ p x. (h p x).2 g k) rows all);
   };
   same = λ t. change-same P (ready_in v.number t) f (λ p x. (h p x).3 t) rows all;
@@ -383,13 +383,13 @@ is-gone v p o = (tt, sym (other-masters v p o), λ g k. sym (other-named v g k p
 left-row : (v : View) (m : ℕ) → OneOther v m → (p : Process) → Row v p → Leaves v (without_master m) p
 left-row v m one (Master n q i live hs) h =
     ⊎_elim
-    (λ f. pick (λ o. FitsIn (Row (sole v)) o × (worth (master_of v.number) o ≡ master_of v.number (Master n q i live hs)) × ((g : Generation) (k : ℕ) → worth (live_named v.number g k) o ≡ 0) × ((t : Names) → worth (ready_in v.number t) o ≡ 0)) (n == m) None (Some (Master n (if q == m then 1 else q) i live hs))
+    (λ f. pick (λ o. FitsIn (Row (sole v)) o × (worth (master_at v.number) o ≡ master_at v.number (Master n q i live hs)) × ((g : Generation) (k : ℕ) → worth (live_named v.number g k) o ≡ 0) × ((t : Names) → worth (ready_in v.number t) o ≡ 0)) (n == m) None (Some (Master n (if q == m then 1 else q) i live hs))
     (λ e. absurd (one.0 (sym f.0 ∙ eqb-is n m e))) (λ e. (inl f, refl, (λ g k. refl), (λ t. refl))))
     (λ o. subst (λ b. Leaves v (λ p. if b then None else Some (Master n (if q == m then 1 else q) i live hs)) (Master n q i live hs)) (sym (eqb-refl n m (one.1 n o.1))) (is-gone v (Master n q i live hs) o))
     h
 left-row v m one (Worker n q g k s hs) h =
     ⊎_elim
-    (λ f. pick (λ o. FitsIn (Row (sole v)) o × (worth (master_of v.number) o ≡ 0) × ((g' : Generation) (k' : ℕ) → worth (live_named v.number g' k') o ≡ live_named v.number g' k' (Worker n q g k s hs)) × ((t : Names) → worth (ready_in v.number t) o ≡ ready_in v.number t (Worker n q g k s hs))) (q == m) None (Some (Worker n q g k s hs))
+    (λ f. pick (λ o. FitsIn (Row (sole v)) o × (worth (master_at v.number) o ≡ 0) × ((g' : Generation) (k' : ℕ) → worth (live_named v.number g' k') o ≡ live_named v.number g' k' (Worker n q g k s hs)) × ((t : Names) → worth (ready_in v.number t) o ≡ ready_in v.number t (Worker n q g k s hs))) (q == m) None (Some (Worker n q g k s hs))
     (λ e. absurd (one.0 (sym f.0 ∙ eqb-is q m e))) (λ e. (inl (fine-sole v (Worker n q g k s hs) f), refl, (λ g' k'. refl), (λ t. refl))))
     (λ o. subst (λ b. Leaves v (λ p. if b then None else Some (Worker n q g k s hs)) (Worker n q g k s hs)) (sym (eqb-refl q m (one.1 q o.1))) (is-gone v (Worker n q g k s hs) o))
     h
@@ -405,7 +405,7 @@ Ended m image rows (Worker n q g k s hs) = q ≡ m → list_any (is_image_row im
 Ended m image rows (Foreign n hs) = ⊤
 
 finds-row :
-    (w : View) (rows : List Process) → AllByRecursion (Row w) rows → 1 ≤ weigh (master_of w.number) rows →
+    (w : View) (rows : List Process) → AllByRecursion (Row w) rows → 1 ≤ weigh (master_at w.number) rows →
     list_any (is_image_row w.image w.number) rows ≡ true
 finds-row w [] fine some = absurd (omega arith)
 finds-row w (Master n q i live hs ∷ rows) fine some =
@@ -505,8 +505,8 @@ asked-looks v image rows ne looks = record {
         every-filter_map (Row v) (Row v) (drop_where (is_image image))
         (λ p h. pick (FitsIn (Row v)) (is_image image p) None (Some p) (λ e. tt) (λ e. h)) rows looks.fine;
     alone =
-        change-same (Row v) (master_of v.number) (drop_where (is_image image))
-        (corpse-row v image ne (master_of v.number) (other-masters v)) rows looks.fine ∙ looks.alone;
+        change-same (Row v) (master_at v.number) (drop_where (is_image image))
+        (corpse-row v image ne (master_at v.number) (other-masters v)) rows looks.fine ∙ looks.alone;
     once =
         λ g k. omega
         (arith, looks.once g k, change-same (Row v) (live_named v.number g k) (drop_where (is_image image)) (corpse-row v image ne (live_named v.number g k) (other-named v g k)) rows looks.fine);
@@ -530,11 +530,11 @@ rises-to b [] next asc = asc
 rises-to b (p ∷ rows) next asc = omega (arith, asc.0, rises-to (number_of p + 1) rows next asc.1)
 
 -- The number of a master is below the next one.
-pub master-below : (m b : ℕ) (rows : List Process) (next : ℕ) → IsAscending b rows next → 1 ≤ weigh (master_of m) rows → m < next
+pub master-below : (m b : ℕ) (rows : List Process) (next : ℕ) → IsAscending b rows next → 1 ≤ weigh (master_at m) rows → m < next
 master-below m b [] next asc some = absurd (omega arith)
 master-below m b (Master n q i live hs ∷ rows) next asc some = go (n == m) refl some (λ le. master-below m (n + 1) rows next asc.1 le)
   where
-    go : (c : Bool) → (n == m) ≡ c → 1 ≤ one c + weigh (master_of m) rows → (1 ≤ weigh (master_of m) rows → m < next) → m < next
+    go : (c : Bool) → (n == m) ≡ c → 1 ≤ one c + weigh (master_at m) rows → (1 ≤ weigh (master_at m) rows → m < next) → m < next
     go true e some ih = omega (arith, eqb-is n m e, rises-to (n + 1) rows next asc.1)
     go false e some ih = ih (omega (arith, some))
 master-below m b (Worker n q g k s hs ∷ rows) next asc some = master-below m (n + 1) rows next asc.1 (omega (arith, some))
@@ -566,7 +566,7 @@ new_view m image old posts hs s r = record {
 
 new-row :
     (v w : View) → v.number ≢ w.number → w.others v.number ≡ true → v.image ≢ w.image → (p : Process) → Fine v p →
-    Row w p × (master_of w.number p ≡ 0) × ((g : Generation) (k : ℕ) → live_named w.number g k p ≡ 0)
+    Row w p × (master_at w.number p ≡ 0) × ((g : Generation) (k : ℕ) → live_named w.number g k p ≡ 0)
 new-row v w ne on apart (Master n q i live hs) f =
     let o : Other w (Master n q i live hs) =
     ((λ e. ne (sym f.0 ∙ e)), subst (λ k. w.others k ≡ true) (sym f.0) on, inr (λ e. apart (sym f.1 ∙ e))) in
@@ -594,7 +594,7 @@ spawned-looks v w parent rows lone ne on apart looks =
               every-append (Row (with_other w.number v)) rows row
               (every-more (Fine v) (Row (with_other w.number v)) (λ p f. inl (fine-with w.number v p f)) rows fine)
               (inr o);
-          alone = weigh-append (master_of v.number) rows (row ∷ []) ∙ omega (arith, looks.alone, ap one (eqb-off w.number v.number (λ e. ne (sym e))));
+          alone = weigh-append (master_at v.number) rows (row ∷ []) ∙ omega (arith, looks.alone, ap one (eqb-off w.number v.number (λ e. ne (sym e))));
           once = λ g k. omega (arith, looks.once g k, weigh-append (live_named v.number g k) rows (row ∷ []));
         };
         same = λ t. omega (arith, weigh-append (ready_in v.number t) rows (row ∷ []));
@@ -602,8 +602,8 @@ spawned-looks v w parent rows lone ne on apart looks =
       new = record {
         fine = every-append (Row w) rows row (every-more (Fine v) (Row w) (λ p f. (new-row v w ne on apart p f).0) rows fine) (inl (refl, refl, refl, refl));
         alone =
-            weigh-append (master_of w.number) rows (row ∷ []) ∙ omega
-            (arith, ap one (eqb-refl w.number w.number refl), zero (master_of w.number) rows (λ p f. (new-row v w ne on apart p f).1) fine);
+            weigh-append (master_at w.number) rows (row ∷ []) ∙ omega
+            (arith, ap one (eqb-refl w.number w.number refl), zero (master_at w.number) rows (λ p f. (new-row v w ne on apart p f).1) fine);
         once =
             λ g k. omega
             (arith, weigh-append (live_named w.number g k) rows (row ∷ []), zero (live_named w.number g k) rows (λ p f. (new-row v w ne on apart p f).2 g k) fine);

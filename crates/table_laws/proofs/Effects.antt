@@ -15,7 +15,7 @@ use Rattle.table_laws.proofs.Rows.{one, weigh, worth, FitsIn, change-le, change-
 use Rattle.table_laws.proofs.Rows.{weigh-filter_map, every-filter_map, every-any, every-append, every-more, every-both}
 use Rattle.table_laws.proofs.Rows.{any-none, any-some, weigh-add, both-true, or-left, or-right}
 use Rattle.call_laws.proofs.Choices.{pick, and-left, and-right}
-use Rattle.table_laws.proofs.Views.{eqb-off, Row, Other, master_of, Names, View, Fine, Looks, live_named, ready_in, eqb-refl, eqb-is}
+use Rattle.table_laws.proofs.Views.{eqb-off, Row, Other, master_at, Names, View, Fine, Looks, live_named, ready_in, eqb-refl, eqb-is}
 
 -- views with no Starting worker, and with one name that may be Starting
 abbrev pub none : Generation → ℕ → Bool
@@ -118,7 +118,7 @@ looks-allows v w a rows looks = record {
       every-more (Row v) (Row w)
       (λ p h. ⊎_elim (λ f. inl (fine-allows v w a p f)) (λ o. inr (other-allows v w a.number a.image a.others p o)) h)
       rows looks.fine;
-  alone = subst (λ n. weigh (master_of n) rows ≡ 1) a.number looks.alone;
+  alone = subst (λ n. weigh (master_at n) rows ≡ 1) a.number looks.alone;
   once = λ g k. subst (λ n. weigh (live_named n g k) rows ≤ 1) a.number (looks.once g k);
 }
 
@@ -161,7 +161,7 @@ fork-looks v g x n hs rows same off looks =
     rows looks in
     record {
       fine = every-append (Row (after_fork g x v)) rows new wide.fine (inl (refl, (or-right (v.starting g x) (bears g x g x) (bears-refl g x), sym same)));
-      alone = weigh-append (master_of v.number) rows (new ∷ []) ∙ (omega (arith, looks.alone));
+      alone = weigh-append (master_at v.number) rows (new ∷ []) ∙ (omega (arith, looks.alone));
       once = λ h j.
           let t = is_worker is_active v.number h j new in
           let le =
@@ -259,10 +259,10 @@ await-fine v g x (Worker n q g' k Draining hs) h = h
 await-fine v g x (Worker n q g' k Exited hs) h = h
 await-fine v g x (Foreign n hs) h = h
 
-pub await-masters : (m : ℕ) (g : Generation) (x : ℕ) (p : Process) → worth (master_of m) (change (is_worker is_starting m g x) made_ready p) ≡ master_of m p
+pub await-masters : (m : ℕ) (g : Generation) (x : ℕ) (p : Process) → worth (master_at m) (change (is_worker is_starting m g x) made_ready p) ≡ master_at m p
 await-masters m g x (Master n q i live hs) = refl
 await-masters m g x (Worker n q g' k s hs) =
-    pick (λ p. master_of m p ≡ 0) (is_starting s && ((q == m) && bears g x g' k)) (Worker n q g' k Ready hs)
+    pick (λ p. master_at m p ≡ 0) (is_starting s && ((q == m) && bears g x g' k)) (Worker n q g' k Ready hs)
     (Worker n q g' k s hs) (λ e. refl) (λ e. refl)
 await-masters m g x (Foreign n hs) = refl
 
@@ -288,7 +288,7 @@ await-looks v g x rows looks =
           every-filter_map (Row v) (Row (after_wait g x v)) f
           (lift-change v (after_wait g x v) (is_worker is_starting v.number g x) made_ready refl refl (λ n e. e) (mine-worker is_starting v.number g x) (await-fine v g x))
           rows looks.fine;
-      alone = change-same (λ p. ⊤) (master_of v.number) f (λ p h. await-masters v.number g x p) rows (every-any rows) ∙ looks.alone;
+      alone = change-same (λ p. ⊤) (master_at v.number) f (λ p h. await-masters v.number g x p) rows (every-any rows) ∙ looks.alone;
       once =
           λ h j. omega
           (arith, change-same (λ p. ⊤) (live_named v.number h j) f (λ p t. await-named v.number g h x j p) rows (every-any rows), looks.once h j);
@@ -392,7 +392,7 @@ gone-fine v g x (Worker n q g' k Exited hs) h = h.0
 gone-fine v g x (Foreign n hs) h = tt
 
 -- a worker is no master
-worker-masters : (stance : Stance → Bool) (m : ℕ) (g : Generation) (x : ℕ) (p : Process) → is_worker stance m g x p ≡ true → master_of m p ≡ 0
+worker-masters : (stance : Stance → Bool) (m : ℕ) (g : Generation) (x : ℕ) (p : Process) → is_worker stance m g x p ≡ true → master_at m p ≡ 0
 worker-masters stance m g x (Master n q i live hs) e = cc
 worker-masters stance m g x (Worker n q g' k s hs) e = refl
 worker-masters stance m g x (Foreign n hs) e = cc
@@ -408,14 +408,14 @@ exited-unready m g x test (Foreign n hs) e = refl
 -- rows that are dropped, where those that stay are fine
 pub dropped-looks :
     (P : Process → Type 0) (w : View) (test : Process → Bool) (rows : List Process) → AllByRecursion P rows →
-    ((p : Process) → P p → test p ≡ false → Row w p) → ((p : Process) → test p ≡ true → master_of w.number p ≡ 0) →
-    weigh (master_of w.number) rows ≡ 1 → ((g : Generation) (k : ℕ) → weigh (live_named w.number g k) rows ≤ 1) →
+    ((p : Process) → P p → test p ≡ false → Row w p) → ((p : Process) → test p ≡ true → master_at w.number p ≡ 0) →
+    weigh (master_at w.number) rows ≡ 1 → ((g : Generation) (k : ℕ) → weigh (live_named w.number g k) rows ≤ 1) →
     Looks w (filter_map (drop_where test) rows)
 dropped-looks P w test rows all fine no_master alone once = record {
   fine = every-filter_map P (Row w) (drop_where test) (λ p h. fits-dropped (Row w) (test p) p (fine p h)) rows all;
   alone =
-      change-same (λ p. ⊤) (master_of w.number) (drop_where test)
-      (λ p h. worth-dropped-same (master_of w.number) (test p) p (no_master p)) rows (every-any rows) ∙ alone;
+      change-same (λ p. ⊤) (master_at w.number) (drop_where test)
+      (λ p h. worth-dropped-same (master_at w.number) (test p) p (no_master p)) rows (every-any rows) ∙ alone;
   once =
       λ g k. omega
       (arith, once g k, change-le (λ p. ⊤) (live_named w.number g k) (drop_where test) (λ p h. worth-dropped-le (live_named w.number g k) (test p) p) rows (every-any rows));
@@ -499,10 +499,10 @@ quit-fine v g x (Worker n q g' k Draining hs) h = h
 quit-fine v g x (Worker n q g' k Exited hs) h = h
 quit-fine v g x (Foreign n hs) h = h
 
-quit-masters : (m : ℕ) (g : Generation) (x : ℕ) (p : Process) → worth (master_of m) (change (is_worker is_active m g x) made_draining p) ≡ master_of m p
+quit-masters : (m : ℕ) (g : Generation) (x : ℕ) (p : Process) → worth (master_at m) (change (is_worker is_active m g x) made_draining p) ≡ master_at m p
 quit-masters m g x (Master n q i live hs) = refl
 quit-masters m g x (Worker n q g' k s hs) =
-    pick (λ p. master_of m p ≡ 0) (is_active s && ((q == m) && bears g x g' k)) (Worker n q g' k Draining [])
+    pick (λ p. master_at m p ≡ 0) (is_active s && ((q == m) && bears g x g' k)) (Worker n q g' k Draining [])
     (Worker n q g' k s hs) (λ e. refl) (λ e. refl)
 quit-masters m g x (Foreign n hs) = refl
 
@@ -526,7 +526,7 @@ quit-looks v g x rows looks =
           every-filter_map (Row v) (Row (after_removal g x v)) f
           (lift-change v (after_removal g x v) (is_worker is_active v.number g x) made_draining refl refl (λ n e. e) (mine-worker is_active v.number g x) (quit-fine v g x))
           rows looks.fine;
-      alone = change-same (λ p. ⊤) (master_of v.number) f (λ p h. quit-masters v.number g x p) rows (every-any rows) ∙ looks.alone;
+      alone = change-same (λ p. ⊤) (master_at v.number) f (λ p h. quit-masters v.number g x p) rows (every-any rows) ∙ looks.alone;
       once = λ h j. omega (arith, looks.once h j, change-le (λ p. ⊤) (live_named v.number h j) f (λ p t. quit-named v.number g h x j p) rows (every-any rows));
     }
 
@@ -597,7 +597,7 @@ open-fine v h (Foreign n hs) f = f
 -- a change that keeps every row's kind
 abbrev IsKept : (Process → Process) → Type 0
 IsKept f =
-    (p : Process) → ((m : ℕ) → master_of m (f p) ≡ master_of m p)
+    (p : Process) → ((m : ℕ) → master_at m (f p) ≡ master_at m p)
     × ((m : ℕ) (g : Generation) (k : ℕ) → live_named m g k (f p) ≡ live_named m g k p)
     × ((m : ℕ) (t : Names) → ready_in m t (f p) ≡ ready_in m t p)
 
@@ -614,8 +614,8 @@ kept-looks :
 kept-looks v w test f rows same img oth mine kept fine looks = record {
   fine = every-filter_map (Row v) (Row w) (change test f) (lift-change v w test f same img oth mine fine) rows looks.fine;
   alone =
-      subst (λ m. weigh (master_of m) (filter_map (change test f) rows) ≡ 1) same
-      (change-same (λ p. ⊤) (master_of v.number) (change test f) (λ p x. pick (λ p'. master_of v.number p' ≡ master_of v.number p) (test p) (f p) p (λ e. (kept p).0 v.number) (λ e. refl)) rows (every-any rows) ∙ looks.alone);
+      subst (λ m. weigh (master_at m) (filter_map (change test f) rows) ≡ 1) same
+      (change-same (λ p. ⊤) (master_at v.number) (change test f) (λ p x. pick (λ p'. master_at v.number p' ≡ master_at v.number p) (test p) (f p) p (λ e. (kept p).0 v.number) (λ e. refl)) rows (every-any rows) ∙ looks.alone);
   once =
       λ g k. subst (λ m. weigh (live_named m g k) (filter_map (change test f) rows) ≤ 1) same
       (omega (arith, looks.once g k, change-same (λ p. ⊤) (live_named v.number g k) (change test f) (λ p x. pick (λ p'. live_named v.number g k p' ≡ live_named v.number g k p) (test p) (f p) p (λ e. (kept p).1 v.number g k) (λ e. refl)) rows (every-any rows)));
@@ -675,7 +675,7 @@ close-weigh m t a rows = kept-weigh m t (is_of m) (with_holds (lacks_address a))
 -- an address that nobody holds is not held by the master
 pub unheld :
     (v : View) (a : Address) (rows : List Process) → list_any (λ p. list_any (is_at a) (holds_of p)) rows ≡ false →
-    AllByRecursion (Row v) rows → 1 ≤ weigh (master_of v.number) rows → list_any (is_at a) v.holds ≡ false
+    AllByRecursion (Row v) rows → 1 ≤ weigh (master_at v.number) rows → list_any (is_at a) v.holds ≡ false
 unheld v a [] e fine some = absurd (omega arith)
 unheld v a (Master n q i live hs ∷ rows) e fine some =
     go (list_any (is_at a) hs) refl e (λ f o. unheld v a rows f fine.1 (omega (arith, ap one (eqb-off n v.number o))))

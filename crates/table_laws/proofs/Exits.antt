@@ -14,7 +14,7 @@ use Rattle.std.specs.Bool.{then_some}
 use Rattle.vocabulary.specs.declared.names.Name.{Name}
 use Rattle.table_laws.proofs.Rows.{one, FitsIn, worth, one-le, weigh, change-le, change-same, change-falls, every-filter_map, every-any}
 use Rattle.call_laws.proofs.Choices.{pick}
-use Rattle.table_laws.proofs.Views.{Names, View, Other, Row, Looks, live_named, ready_in, live_any, master_of, finds-other, eqb-off, eqb-is}
+use Rattle.table_laws.proofs.Views.{Names, View, Other, Row, Looks, live_named, ready_in, live_any, master_at, finds-other, eqb-off, eqb-is}
 use Rattle.vocabulary.specs.declared.names.Name.TheVariants as name
 
 -- one row that exits
@@ -23,7 +23,7 @@ exited-row v (Worker n q g k s hs) h = ⊎_elim (λ f. inl (f.0, refl)) (λ o. i
 exited-row v (Master n q i live hs) h = h
 exited-row v (Foreign n hs) h = h
 
-exited-masters : (m : ℕ) (p : Process) → master_of m (made_exited p) ≡ master_of m p
+exited-masters : (m : ℕ) (p : Process) → master_at m (made_exited p) ≡ master_at m p
 exited-masters m (Worker n q g k s hs) = refl
 exited-masters m (Master n q i live hs) = refl
 exited-masters m (Foreign n hs) = refl
@@ -88,8 +88,8 @@ looks-worker v g k rows looks = record {
       (λ p h. pick (Row v) (is_named is_active g k p) (made_exited p) p (λ e. exited-row v p h) (λ e. h)) rows
       looks.fine;
   alone =
-      change-same (λ p. ⊤) (master_of v.number) (change (is_named is_active g k) made_exited)
-      (λ p h. pick (λ p'. master_of v.number p' ≡ master_of v.number p) (is_named is_active g k p) (made_exited p) p (λ e. exited-masters v.number p) (λ e. refl))
+      change-same (λ p. ⊤) (master_at v.number) (change (is_named is_active g k) made_exited)
+      (λ p h. pick (λ p'. master_at v.number p' ≡ master_at v.number p) (is_named is_active g k p) (made_exited p) p (λ e. exited-masters v.number p) (λ e. refl))
       rows (every-any rows) ∙ looks.alone;
   once =
       λ h j. omega
@@ -100,7 +100,7 @@ looks-draining : (v : View) (g : Generation) (k : ℕ) (rows : List Process) →
 looks-draining v g k rows looks = record {
   fine = first-every v (is_named is_draining g k) rows looks.fine;
   alone =
-      first-weigh ◌≡◌ (λ a b c e. ap (λ n. c + n) e) (master_of v.number) (is_named is_draining g k)
+      first-weigh ◌≡◌ (λ a b c e. ap (λ n. c + n) e) (master_at v.number) (is_named is_draining g k)
       (λ p n. ap (λ x. x + n) (exited-masters v.number p)) refl rows ∙ looks.alone;
   once =
       λ h j. omega
@@ -142,14 +142,14 @@ master-exit-falls m t (Some c) rows =
     change-falls (λ p. ⊤) (ready_in m t) live_any (without_exited c.number (λ q. list_any (is_live_master q) rows))
     (λ p x. master-falls m t c.number (λ q. list_any (is_live_master q) rows) p) rows (every-any rows)
 
-pub kept-master : (m gone : ℕ) (lives : ℕ → Bool) → m ≢ gone → (p : Process) → worth (master_of m) (without_exited gone lives p) ≡ master_of m p
+pub kept-master : (m gone : ℕ) (lives : ℕ → Bool) → m ≢ gone → (p : Process) → worth (master_at m) (without_exited gone lives p) ≡ master_at m p
 kept-master m gone lives ne (Master n q i live hs) =
-    pick (λ o. worth (master_of m) o ≡ one (n == m)) (n == gone) _ _ (λ e. both (lives q) (eqb-off n m (λ x. ne (sym x ∙ eqb-is n gone e)))) (λ e. refl)
+    pick (λ o. worth (master_at m) o ≡ one (n == m)) (n == gone) _ _ (λ e. both (lives q) (eqb-off n m (λ x. ne (sym x ∙ eqb-is n gone e)))) (λ e. refl)
   where
-    both : (b : Bool) → (n == m) ≡ false → worth (master_of m) (then_some b (Master n q i false [])) ≡ one (n == m)
+    both : (b : Bool) → (n == m) ≡ false → worth (master_at m) (then_some b (Master n q i false [])) ≡ one (n == m)
     both true e = refl
     both false e = sym (ap one e)
-kept-master m gone lives ne (Worker n q g k s hs) = pick (λ o. worth (master_of m) o ≡ 0) (q == gone) None (Some (Worker n q g k s hs)) (λ e. refl) (λ e. refl)
+kept-master m gone lives ne (Worker n q g k s hs) = pick (λ o. worth (master_at m) o ≡ 0) (q == gone) None (Some (Worker n q g k s hs)) (λ e. refl) (λ e. refl)
 kept-master m gone lives ne (Foreign n hs) = refl
 
 kept-named :
@@ -199,7 +199,7 @@ looks-master v (Some c) rows ne looks =
     record {
       fine = every-filter_map (Row v) (Row v) (without_exited c.number lives) (other-stays v c.number lives apart) rows looks.fine;
       alone =
-          change-same (λ p. ⊤) (master_of v.number) (without_exited c.number lives)
+          change-same (λ p. ⊤) (master_at v.number) (without_exited c.number lives)
           (λ p t. kept-master v.number c.number lives apart p) rows (every-any rows) ∙ looks.alone;
       once =
           λ g k. omega

@@ -12,7 +12,7 @@ use Rattle.listener_set.specs.Numbers.{is_in}
 use Rattle.definitions.specs.Claims.{IsFewerAt, FallsShort}
 use Rattle.definitions.specs.Master.{Layout, short_at}
 use Rattle.table_laws.proofs.Rows.{every-more, one, one-le, weigh, weigh-same, weigh-le, count-weigh}
-use Rattle.table_laws.proofs.Views.{eqb-off, Row, Other, master_of, Names, named, View, Fine, Looks, ready_in, eqb-refl}
+use Rattle.table_laws.proofs.Views.{eqb-off, Row, Other, master_at, Names, named, View, Fine, Looks, ready_in, eqb-refl}
 use Rattle.table_laws.proofs.Effects.{same-is, same-refl}
 use Rattle.table_laws.proofs.Counts.{in-filter}
 
@@ -44,7 +44,7 @@ live-with-on v test rows looks on = go rows looks.fine (omega (arith, looks.alon
     there true ps e = refl
     there false ps e = e
 
-    go : (ps : List Process) → AllByRecursion (Row v) ps → 1 ≤ weigh (master_of v.number) ps → list_any (is_live_with test) ps ≡ true
+    go : (ps : List Process) → AllByRecursion (Row v) ps → 1 ≤ weigh (master_at v.number) ps → list_any (is_live_with test) ps ≡ true
     go [] fine le = absurd (omega arith)
     go (Master n q i live hs ∷ ps) fine le =
         ⊎_elim (λ f. here (live && test hs) ps (is hs live f.2 f.3))

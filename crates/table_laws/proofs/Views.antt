@@ -70,10 +70,10 @@ ready_in m test (Foreign n hs) = 0
 abbrev pub live_any : Process → ℕ
 live_any p = one (is_active_worker p)
 
-abbrev pub master_of : ℕ → Process → ℕ
-master_of m (Master n q i live hs) = one (n == m)
-master_of m (Worker n q g k s hs) = 0
-master_of m (Foreign n hs) = 0
+abbrev pub master_at : ℕ → Process → ℕ
+master_at m (Master n q i live hs) = one (n == m)
+master_at m (Worker n q g k s hs) = 0
+master_at m (Foreign n hs) = 0
 
 abbrev pub masters : Process → ℕ
 masters p = one (is_master p)
@@ -84,7 +84,7 @@ Once m rows = (g : Generation) (k : ℕ) → weigh (live_named m g k) rows ≤ 1
 
 pub record Looks (v : View) (rows : List Process) : Type 0 where
   pub fine : AllByRecursion (Row v) rows
-  pub alone : weigh (master_of v.number) rows ≡ 1
+  pub alone : weigh (master_at v.number) rows ≡ 1
   pub once : Once v.number rows
 
 -- The master is found by its image.
@@ -108,7 +108,7 @@ pub eqb-is : (n k : ℕ) → (n == k) ≡ true → n ≡ k
 eqb-is n k e = grind (arith, nat_tests)
 
 finds-in :
-    (v : View) (rows : List Process) → AllByRecursion (Row v) rows → 1 ≤ weigh (master_of v.number) rows →
+    (v : View) (rows : List Process) → AllByRecursion (Row v) rows → 1 ≤ weigh (master_at v.number) rows →
     live_master v.image rows ≡ Some (record { number = v.number; holds = v.holds })
 finds-in v [] fine some = absurd (omega arith)
 finds-in v (Master n q i true hs ∷ rows) fine some =

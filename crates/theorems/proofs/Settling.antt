@@ -31,7 +31,7 @@ use Rattle.definitions.specs.Claims.{refused_among}
 use Rattle.theorems.specs.Settling.{PlansGoBack, IsOnly, HasSide, missing, Settles, SettlesAlways, IsReturning, back, without, ReturnsAlways}
 use Rattle.table_laws.proofs.Rows.{one, weigh, every-more, every-both, count-weigh, both-true, or-left, or-right}
 use Rattle.call_laws.proofs.Choices.{and-left, and-right}
-use Rattle.table_laws.proofs.Views.{Row, Fine, FineLive, Other, Names, master_of, named, View, Looks, ready_in, finds, eqb-refl, eqb-off, eqb-is}
+use Rattle.table_laws.proofs.Views.{Row, Fine, FineLive, Other, Names, master_at, named, View, Looks, ready_in, finds, eqb-refl, eqb-off, eqb-is}
 use Rattle.table_laws.proofs.Effects.{none, same-is, bears-is, same-refl, after_close}
 use Rattle.table_laws.proofs.Counts.{Distinct, Counted, counted-all, count-set, every-any_of, in-filter}
 use Rattle.table_laws.proofs.Sets.{in-here, every-in}
@@ -62,7 +62,7 @@ only-or image pid n q i false hs h = inl refl
 ours-above :
     (image : ℕ) (c : Caller) (b : ℕ) (rows : List Process) (next : ℕ) → c.number < b → IsAscending b rows next →
     AllByRecursion (IsOnly image c.number) rows →
-    AllByRecursion (Ours image c) rows × (weigh (master_of c.number) rows ≡ 0)
+    AllByRecursion (Ours image c) rows × (weigh (master_at c.number) rows ≡ 0)
 ours-above image c b [] next lt asc only = (tt, refl)
 ours-above image c b (Master n q i live hs ∷ rows) next lt asc only =
     let rest = ours-above image c (n + 1) rows next (omega (arith, asc.0)) asc.1 only.1 in
@@ -92,16 +92,16 @@ found-above image c b (Foreign n hs ∷ rows) next asc e = omega (arith, asc.0, 
 ours :
     (image : ℕ) (c : Caller) (b : ℕ) (rows : List Process) (next : ℕ) → IsAscending b rows next →
     live_master image rows ≡ Some c → AllByRecursion (IsOnly image c.number) rows →
-    AllByRecursion (Ours image c) rows × (weigh (master_of c.number) rows ≡ 1)
+    AllByRecursion (Ours image c) rows × (weigh (master_at c.number) rows ≡ 1)
 ours image c b [] next asc e only = absurd (cc)
 ours image c b (Master n q i live hs ∷ rows) next asc e only = go live (i == image) refl e only.0 (λ found. ours image c (n + 1) rows next asc.1 found only.1)
   where
     go :
         (l x : Bool) → (i == image) ≡ x → caller_if (l && x) n hs (live_master image rows) ≡ Some c → IsOnly image
         c.number (Master n q i l hs) →
-        (live_master image rows ≡ Some c → AllByRecursion (Ours image c) rows × (weigh (master_of c.number) rows ≡ 1)) →
+        (live_master image rows ≡ Some c → AllByRecursion (Ours image c) rows × (weigh (master_at c.number) rows ≡ 1)) →
         AllByRecursion (Ours image c) (Master n q i l hs ∷ rows) ×
-        (weigh (master_of c.number) (Master n q i live hs ∷ rows) ≡ 1)
+        (weigh (master_at c.number) (Master n q i live hs ∷ rows) ≡ 1)
     go true true is found o ih =
         let same : record { number = n; holds = hs } ≡ c = cc in
         let is_n : n ≡ c.number = ap (λ (x : Caller). x.number) same in

@@ -25,11 +25,11 @@ use Rattle.definitions.specs.Run.{Pattern, Ran, report_of}
 abbrev pub first : Generation
 first = record { image = 1; config = 1 }
 
-abbrev pub reloaded : Generation
-reloaded = record { image = 1; config = 2 }
+abbrev pub second : Generation
+second = record { image = 1; config = 2 }
 
-abbrev pub upgraded : Generation
-upgraded = record { image = 2; config = 2 }
+abbrev pub second_image : Generation
+second_image = record { image = 2; config = 2 }
 
 abbrev pub port : Address
 port = codes "0.0.0.0:8080"
@@ -166,8 +166,8 @@ count_if None g = None
 count_if (Some counts) g = Some (counts g)
 
 -- so many workers of the generation serve the address, where it is a key
-abbrev pub serving : Ran → Address → Generation → Option ℕ
-serving ran a g = count_if (service ran.last.table a) g
+abbrev pub count_at : Ran → Address → Generation → Option ℕ
+count_at ran a g = count_if (service ran.last.table a) g
 
 ---- The premises can be met
 

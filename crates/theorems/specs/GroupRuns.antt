@@ -12,8 +12,8 @@ use Rattle.definitions.specs.Table.{Hold, Master, Worker, Table}
 use Rattle.definitions.specs.Master.{Group, Record, Workers, Reload, Upgrade}
 use Rattle.definitions.specs.Run.{Pattern, Ran}
 use Rattle.definitions.specs.Claims.{run_of, IsStart}
-use Rattle.theorems.specs.Examples.{first, reloaded, upgraded, port, other_port, pid_file, pid_files, two_workers}
-use Rattle.theorems.specs.Examples.{two_ready, no_fault, exits, m1, m2, report, Gives, serving}
+use Rattle.theorems.specs.Examples.{first, second, second_image, port, other_port, pid_file, pid_files, two_workers}
+use Rattle.theorems.specs.Examples.{two_ready, no_fault, exits, m1, m2, report, Gives, count_at}
 
 ---- A master with two groups
 
@@ -80,7 +80,7 @@ splits pattern = run_of (two_ready 0) (Reload grouped) [] pattern two_workers
 
 -- The last of them exits before the last count.
 abbrev pub one_lost : Pattern
-one_lost = exits 11 (name.Worker reloaded 2) no_fault
+one_lost = exits 11 (name.Worker second 2) no_fault
 
 -- the same groups, by a new master
 abbrev pub handed_on : Ran
@@ -92,25 +92,25 @@ pub record GroupRuns : Type 0 where
   -- A reload to two groups: each worker gets its group's descriptor.
   pub splits_in_two :
       Gives (two_ready 0) (Reload grouped) no_fault two_workers
-      (m1 (OpenAt other_port) (answer.Opened 4) ∷ m1 (Fork reloaded 0 (Some (3 ∷ []))) answer.Forked
-      ∷ m1 (Fork reloaded 1 (Some (3 ∷ []))) answer.Forked ∷ m1 (Fork reloaded 2 (Some (4 ∷ []))) answer.Forked
-      ∷ m1 (AwaitReady reloaded 0) answer.IsReady ∷ m1 (AwaitReady reloaded 1) answer.IsReady
-      ∷ m1 (AwaitReady reloaded 2) answer.IsReady ∷ m1 (Census reloaded) (answer.Counted (0 ∷ 1 ∷ 2 ∷ []))
+      (m1 (OpenAt other_port) (answer.Opened 4) ∷ m1 (Fork second 0 (Some (3 ∷ []))) answer.Forked
+      ∷ m1 (Fork second 1 (Some (3 ∷ []))) answer.Forked ∷ m1 (Fork second 2 (Some (4 ∷ []))) answer.Forked
+      ∷ m1 (AwaitReady second 0) answer.IsReady ∷ m1 (AwaitReady second 1) answer.IsReady
+      ∷ m1 (AwaitReady second 2) answer.IsReady ∷ m1 (Census second) (answer.Counted (0 ∷ 1 ∷ 2 ∷ []))
       ∷ m1 (Quit first 1) answer.Fine ∷ m1 (Quit first 0) answer.Fine
-      ∷ m1 (Census reloaded) (answer.Counted (0 ∷ 1 ∷ 2 ∷ [])) ∷ [])
-      (report Done None InPlace (0 ∷ 1 ∷ 2 ∷ [])) × (serving (splits no_fault) port reloaded ≡ Some 2) ×
-      (serving (splits no_fault) other_port reloaded ≡ Some 1)
+      ∷ m1 (Census second) (answer.Counted (0 ∷ 1 ∷ 2 ∷ [])) ∷ [])
+      (report Done None InPlace (0 ∷ 1 ∷ 2 ∷ [])) × (count_at (splits no_fault) port second ≡ Some 2) ×
+      (count_at (splits no_fault) other_port second ≡ Some 1)
   -- One group falls short, and its address is served by none.
   pub one_group_short :
       Gives (two_ready 0) (Reload grouped) one_lost two_workers
-      (m1 (OpenAt other_port) (answer.Opened 4) ∷ m1 (Fork reloaded 0 (Some (3 ∷ []))) answer.Forked
-      ∷ m1 (Fork reloaded 1 (Some (3 ∷ []))) answer.Forked ∷ m1 (Fork reloaded 2 (Some (4 ∷ []))) answer.Forked
-      ∷ m1 (AwaitReady reloaded 0) answer.IsReady ∷ m1 (AwaitReady reloaded 1) answer.IsReady
-      ∷ m1 (AwaitReady reloaded 2) answer.IsReady ∷ m1 (Census reloaded) (answer.Counted (0 ∷ 1 ∷ 2 ∷ []))
+      (m1 (OpenAt other_port) (answer.Opened 4) ∷ m1 (Fork second 0 (Some (3 ∷ []))) answer.Forked
+      ∷ m1 (Fork second 1 (Some (3 ∷ []))) answer.Forked ∷ m1 (Fork second 2 (Some (4 ∷ []))) answer.Forked
+      ∷ m1 (AwaitReady second 0) answer.IsReady ∷ m1 (AwaitReady second 1) answer.IsReady
+      ∷ m1 (AwaitReady second 2) answer.IsReady ∷ m1 (Census second) (answer.Counted (0 ∷ 1 ∷ 2 ∷ []))
       ∷ m1 (Quit first 1) answer.Fine ∷ m1 (Quit first 0) answer.Fine
-      ∷ m1 (Census reloaded) (answer.Counted (0 ∷ 1 ∷ [])) ∷ [])
+      ∷ m1 (Census second) (answer.Counted (0 ∷ 1 ∷ [])) ∷ [])
       (report (Degraded side.Target (0 ∷ 1 ∷ [])) (Some 11) InPlace (0 ∷ 1 ∷ [])) ×
-      (serving (splits one_lost) port reloaded ≡ Some 2) × (serving (splits one_lost) other_port reloaded ≡ Some 0)
+      (count_at (splits one_lost) port second ≡ Some 2) × (count_at (splits one_lost) other_port second ≡ Some 0)
   -- One worker less, and one more again: it is of the other group.
   pub one_less :
       Gives three_ready (Workers 2) no_fault three_workers
@@ -124,13 +124,14 @@ pub record GroupRuns : Type 0 where
   -- An upgrade: the new master has both addresses, and each of its workers gets its group's descriptor.
   pub upgrades :
       Gives three_ready_without_file (Upgrade grouped) no_fault three_without_file
-      (m1 (SpawnMaster 2) answer.Spawned ∷ m2 Adopt answer.Adopted ∷ m2 (Fork upgraded 0 (Some (3 ∷ []))) answer.Forked
-      ∷ m2 (Fork upgraded 1 (Some (3 ∷ []))) answer.Forked ∷ m2 (Fork upgraded 2 (Some (4 ∷ []))) answer.Forked
-      ∷ m2 (AwaitReady upgraded 0) answer.IsReady ∷ m2 (AwaitReady upgraded 1) answer.IsReady
-      ∷ m2 (AwaitReady upgraded 2) answer.IsReady ∷ m1 (Census first) (answer.Counted (0 ∷ 1 ∷ 2 ∷ []))
-      ∷ m2 (Census upgraded) (answer.Counted (0 ∷ 1 ∷ 2 ∷ [])) ∷ m1 (Quit first 2) answer.Fine
+      (m1 (SpawnMaster 2) answer.Spawned ∷ m2 Adopt answer.Adopted
+      ∷ m2 (Fork second_image 0 (Some (3 ∷ []))) answer.Forked
+      ∷ m2 (Fork second_image 1 (Some (3 ∷ []))) answer.Forked ∷ m2 (Fork second_image 2 (Some (4 ∷ []))) answer.Forked
+      ∷ m2 (AwaitReady second_image 0) answer.IsReady ∷ m2 (AwaitReady second_image 1) answer.IsReady
+      ∷ m2 (AwaitReady second_image 2) answer.IsReady ∷ m1 (Census first) (answer.Counted (0 ∷ 1 ∷ 2 ∷ []))
+      ∷ m2 (Census second_image) (answer.Counted (0 ∷ 1 ∷ 2 ∷ [])) ∷ m1 (Quit first 2) answer.Fine
       ∷ m1 (Quit first 1) answer.Fine ∷ m1 (Quit first 0) answer.Fine ∷ m1 (AwaitGone first 2) answer.Gone
       ∷ m1 (AwaitGone first 1) answer.Gone ∷ m1 (AwaitGone first 0) answer.Gone ∷ m1 (Alive 2) answer.IsAlive
-      ∷ m1 Leave answer.Fine ∷ m2 (Census upgraded) (answer.Counted (0 ∷ 1 ∷ 2 ∷ [])) ∷ [])
-      (report Done None NoFile (0 ∷ 1 ∷ 2 ∷ [])) × (serving handed_on port upgraded ≡ Some 2) ×
-      (serving handed_on other_port upgraded ≡ Some 1)
+      ∷ m1 Leave answer.Fine ∷ m2 (Census second_image) (answer.Counted (0 ∷ 1 ∷ 2 ∷ [])) ∷ [])
+      (report Done None NoFile (0 ∷ 1 ∷ 2 ∷ [])) × (count_at handed_on port second_image ≡ Some 2) ×
+      (count_at handed_on other_port second_image ≡ Some 1)

@@ -21,17 +21,17 @@ use Rattle.definitions.specs.Run.{Pattern, Ran, faults_since, report_of}
 use Rattle.definitions.specs.After.{record_after}
 use Rattle.definitions.specs.Claims.{run_of, refused_among}
 use Rattle.theorems.specs.GroupRuns.{GroupRuns}
-use Rattle.theorems.specs.Examples.{first, reloaded, upgraded, port, other_port, pid_file, two_workers}
+use Rattle.theorems.specs.Examples.{first, second, second_image, port, other_port, pid_file, two_workers}
 use Rattle.theorems.specs.Examples.{two_without_file, full_table, other_held, record_with, two_ready}
 use Rattle.theorems.specs.Examples.{two_ready_without_file, settings_of, no_fault, fails, exits, m1, m2, one_group}
-use Rattle.theorems.specs.Examples.{report, GivesIn, Gives, serving}
+use Rattle.theorems.specs.Examples.{report, GivesIn, Gives, count_at}
 
 -- the record after a reload to no workers
 abbrev pub empty_record : Record
 empty_record = record {
   listeners = record { descriptor = 3; address = port } ∷ [];
   posts = one_group 0;
-  generation = reloaded;
+  generation = second;
   ready = [];
   wanted = 0;
   retries = 3;
@@ -49,7 +49,7 @@ same_upgrade = Upgrade (settings_of (port ∷ []) 2)
 abbrev pub handed : Handover
 handed = record {
   old_pid = 100;
-  generation = upgraded;
+  generation = second_image;
   listeners = record { descriptor = 3; address = port } ∷ [];
   want = port ∷ [];
   groups = record { addresses = 1; workers = 2 } ∷ [];
@@ -72,14 +72,14 @@ refused_with pattern = refused_among (1 ∷ []) (2 ∷ []) pattern 0 (upgrade_ru
 abbrev pub Upgrades : Type 0
 Upgrades =
     GivesIn upgrade_sides (upgrade_run no_fault)
-    (m1 (MovePid pid_file (oldbin pid_file)) answer.Fine ∷ m1 (SpawnMaster 2) answer.Spawned ∷ m2 Adopt answer.Adopted ∷ m2 (Fork upgraded 0 None) answer.Forked ∷ m2 (Fork upgraded 1 None) answer.Forked ∷ m2 (AwaitReady upgraded 0) answer.IsReady ∷ m2 (AwaitReady upgraded 1) answer.IsReady ∷ m1 (Census first) (answer.Counted (0 ∷ 1 ∷ [])) ∷ m2 (WritePid pid_file) answer.Fine ∷ m2 (Census upgraded) (answer.Counted (0 ∷ 1 ∷ [])) ∷ m1 (Quit first 1) answer.Fine ∷ m1 (Quit first 0) answer.Fine ∷ m1 (AwaitGone first 1) answer.Gone ∷ m1 (AwaitGone first 0) answer.Gone ∷ m1 (Alive 2) answer.IsAlive ∷ m1 Leave answer.Fine ∷ m2 (RemovePid (oldbin pid_file)) answer.Fine ∷ m2 (Census upgraded) (answer.Counted (0 ∷ 1 ∷ [])) ∷ [])
-    (report Done None InPlace (0 ∷ 1 ∷ [])) × (serving (upgrade_run no_fault) port upgraded ≡ Some 2)
+    (m1 (MovePid pid_file (oldbin pid_file)) answer.Fine ∷ m1 (SpawnMaster 2) answer.Spawned ∷ m2 Adopt answer.Adopted ∷ m2 (Fork second_image 0 None) answer.Forked ∷ m2 (Fork second_image 1 None) answer.Forked ∷ m2 (AwaitReady second_image 0) answer.IsReady ∷ m2 (AwaitReady second_image 1) answer.IsReady ∷ m1 (Census first) (answer.Counted (0 ∷ 1 ∷ [])) ∷ m2 (WritePid pid_file) answer.Fine ∷ m2 (Census second_image) (answer.Counted (0 ∷ 1 ∷ [])) ∷ m1 (Quit first 1) answer.Fine ∷ m1 (Quit first 0) answer.Fine ∷ m1 (AwaitGone first 1) answer.Gone ∷ m1 (AwaitGone first 0) answer.Gone ∷ m1 (Alive 2) answer.IsAlive ∷ m1 Leave answer.Fine ∷ m2 (RemovePid (oldbin pid_file)) answer.Fine ∷ m2 (Census second_image) (answer.Counted (0 ∷ 1 ∷ [])) ∷ [])
+    (report Done None InPlace (0 ∷ 1 ∷ [])) × (count_at (upgrade_run no_fault) port second_image ≡ Some 2)
 
 -- The old master counts its workers first.
 abbrev pub CountsFirst : Type 0
 CountsFirst =
     GivesIn upgrade_sides (upgrade_run_by (Old ∷ []) no_fault)
-    (m1 (MovePid pid_file (oldbin pid_file)) answer.Fine ∷ m1 (SpawnMaster 2) answer.Spawned ∷ m1 (Census first) (answer.Counted (0 ∷ 1 ∷ [])) ∷ m2 Adopt answer.Adopted ∷ m2 (Fork upgraded 0 None) answer.Forked ∷ m2 (Fork upgraded 1 None) answer.Forked ∷ m2 (AwaitReady upgraded 0) answer.IsReady ∷ m2 (AwaitReady upgraded 1) answer.IsReady ∷ m2 (WritePid pid_file) answer.Fine ∷ m2 (Census upgraded) (answer.Counted (0 ∷ 1 ∷ [])) ∷ m1 (Quit first 1) answer.Fine ∷ m1 (Quit first 0) answer.Fine ∷ m1 (AwaitGone first 1) answer.Gone ∷ m1 (AwaitGone first 0) answer.Gone ∷ m1 (Alive 2) answer.IsAlive ∷ m1 Leave answer.Fine ∷ m2 (RemovePid (oldbin pid_file)) answer.Fine ∷ m2 (Census upgraded) (answer.Counted (0 ∷ 1 ∷ [])) ∷ [])
+    (m1 (MovePid pid_file (oldbin pid_file)) answer.Fine ∷ m1 (SpawnMaster 2) answer.Spawned ∷ m1 (Census first) (answer.Counted (0 ∷ 1 ∷ [])) ∷ m2 Adopt answer.Adopted ∷ m2 (Fork second_image 0 None) answer.Forked ∷ m2 (Fork second_image 1 None) answer.Forked ∷ m2 (AwaitReady second_image 0) answer.IsReady ∷ m2 (AwaitReady second_image 1) answer.IsReady ∷ m2 (WritePid pid_file) answer.Fine ∷ m2 (Census second_image) (answer.Counted (0 ∷ 1 ∷ [])) ∷ m1 (Quit first 1) answer.Fine ∷ m1 (Quit first 0) answer.Fine ∷ m1 (AwaitGone first 1) answer.Gone ∷ m1 (AwaitGone first 0) answer.Gone ∷ m1 (Alive 2) answer.IsAlive ∷ m1 Leave answer.Fine ∷ m2 (RemovePid (oldbin pid_file)) answer.Fine ∷ m2 (Census second_image) (answer.Counted (0 ∷ 1 ∷ [])) ∷ [])
     (report Done None InPlace (0 ∷ 1 ∷ []))
 
 -- The old master starts one that is gone, beside the new master's first step.
@@ -87,7 +87,7 @@ abbrev pub MendsBeside : Type 0
 MendsBeside =
     GivesIn upgrade_sides
     (upgrade_run_by (New ∷ Old ∷ Old ∷ Old ∷ Old ∷ []) (exits 4 (name.Worker first 1) no_fault))
-    (m1 (MovePid pid_file (oldbin pid_file)) answer.Fine ∷ m1 (SpawnMaster 2) answer.Spawned ∷ m2 Adopt answer.Adopted ∷ m1 (Census first) (answer.Counted (0 ∷ [])) ∷ m1 (Fork first 1 None) answer.Forked ∷ m1 (AwaitReady first 1) answer.IsReady ∷ m1 (Census first) (answer.Counted (0 ∷ 1 ∷ [])) ∷ m2 (Fork upgraded 0 None) answer.Forked ∷ m2 (Fork upgraded 1 None) answer.Forked ∷ m2 (AwaitReady upgraded 0) answer.IsReady ∷ m2 (AwaitReady upgraded 1) answer.IsReady ∷ m2 (WritePid pid_file) answer.Fine ∷ m2 (Census upgraded) (answer.Counted (0 ∷ 1 ∷ [])) ∷ m1 (Quit first 1) answer.Fine ∷ m1 (Quit first 0) answer.Fine ∷ m1 (AwaitGone first 1) answer.Gone ∷ m1 (AwaitGone first 0) answer.Gone ∷ m1 (Alive 2) answer.IsAlive ∷ m1 Leave answer.Fine ∷ m2 (RemovePid (oldbin pid_file)) answer.Fine ∷ m2 (Census upgraded) (answer.Counted (0 ∷ 1 ∷ [])) ∷ [])
+    (m1 (MovePid pid_file (oldbin pid_file)) answer.Fine ∷ m1 (SpawnMaster 2) answer.Spawned ∷ m2 Adopt answer.Adopted ∷ m1 (Census first) (answer.Counted (0 ∷ [])) ∷ m1 (Fork first 1 None) answer.Forked ∷ m1 (AwaitReady first 1) answer.IsReady ∷ m1 (Census first) (answer.Counted (0 ∷ 1 ∷ [])) ∷ m2 (Fork second_image 0 None) answer.Forked ∷ m2 (Fork second_image 1 None) answer.Forked ∷ m2 (AwaitReady second_image 0) answer.IsReady ∷ m2 (AwaitReady second_image 1) answer.IsReady ∷ m2 (WritePid pid_file) answer.Fine ∷ m2 (Census second_image) (answer.Counted (0 ∷ 1 ∷ [])) ∷ m1 (Quit first 1) answer.Fine ∷ m1 (Quit first 0) answer.Fine ∷ m1 (AwaitGone first 1) answer.Gone ∷ m1 (AwaitGone first 0) answer.Gone ∷ m1 (Alive 2) answer.IsAlive ∷ m1 Leave answer.Fine ∷ m2 (RemovePid (oldbin pid_file)) answer.Fine ∷ m2 (Census second_image) (answer.Counted (0 ∷ 1 ∷ [])) ∷ [])
     (report Done (Some 4) InPlace (0 ∷ 1 ∷ []))
 
 -- There is no program, and the pid file does not come back.
@@ -101,9 +101,9 @@ NoImage =
 abbrev pub GoneAtLast : Type 0
 GoneAtLast =
     GivesIn upgrade_sides (upgrade_run (exits 15 (name.Master 2) no_fault))
-    (m1 (MovePid pid_file (oldbin pid_file)) answer.Fine ∷ m1 (SpawnMaster 2) answer.Spawned ∷ m2 Adopt answer.Adopted ∷ m2 (Fork upgraded 0 None) answer.Forked ∷ m2 (Fork upgraded 1 None) answer.Forked ∷ m2 (AwaitReady upgraded 0) answer.IsReady ∷ m2 (AwaitReady upgraded 1) answer.IsReady ∷ m1 (Census first) (answer.Counted (0 ∷ 1 ∷ [])) ∷ m2 (WritePid pid_file) answer.Fine ∷ m2 (Census upgraded) (answer.Counted (0 ∷ 1 ∷ [])) ∷ m1 (Quit first 1) answer.Fine ∷ m1 (Quit first 0) answer.Fine ∷ m1 (AwaitGone first 1) answer.Gone ∷ m1 (AwaitGone first 0) answer.Gone ∷ m1 (Alive 2) answer.Gone ∷ m1 (TermMaster 2) answer.Fine ∷ m1 (Fork first 0 None) answer.Forked ∷ m1 (Fork first 1 None) answer.Forked ∷ m1 (AwaitReady first 0) answer.IsReady ∷ m1 (AwaitReady first 1) answer.IsReady ∷ m1 (MovePid (oldbin pid_file) pid_file) answer.Fine ∷ m1 (Census first) (answer.Counted (0 ∷ 1 ∷ [])) ∷ [])
+    (m1 (MovePid pid_file (oldbin pid_file)) answer.Fine ∷ m1 (SpawnMaster 2) answer.Spawned ∷ m2 Adopt answer.Adopted ∷ m2 (Fork second_image 0 None) answer.Forked ∷ m2 (Fork second_image 1 None) answer.Forked ∷ m2 (AwaitReady second_image 0) answer.IsReady ∷ m2 (AwaitReady second_image 1) answer.IsReady ∷ m1 (Census first) (answer.Counted (0 ∷ 1 ∷ [])) ∷ m2 (WritePid pid_file) answer.Fine ∷ m2 (Census second_image) (answer.Counted (0 ∷ 1 ∷ [])) ∷ m1 (Quit first 1) answer.Fine ∷ m1 (Quit first 0) answer.Fine ∷ m1 (AwaitGone first 1) answer.Gone ∷ m1 (AwaitGone first 0) answer.Gone ∷ m1 (Alive 2) answer.Gone ∷ m1 (TermMaster 2) answer.Fine ∷ m1 (Fork first 0 None) answer.Forked ∷ m1 (Fork first 1 None) answer.Forked ∷ m1 (AwaitReady first 0) answer.IsReady ∷ m1 (AwaitReady first 1) answer.IsReady ∷ m1 (MovePid (oldbin pid_file) pid_file) answer.Fine ∷ m1 (Census first) (answer.Counted (0 ∷ 1 ∷ [])) ∷ [])
     (report RolledBack (Some 15) InPlace (0 ∷ 1 ∷ [])) ×
-    (serving (upgrade_run (exits 15 (name.Master 2) no_fault)) port first ≡ Some 2) ×
+    (count_at (upgrade_run (exits 15 (name.Master 2) no_fault)) port first ≡ Some 2) ×
     ((upgrade_run (exits 15 (name.Master 2) no_fault)).last.faults ≡ 1) ×
     ((upgrade_run (exits 15 (name.Master 2) no_fault)).last.losses ≡ 2)
 
@@ -118,7 +118,7 @@ Refused =
 abbrev pub GoneEarly : Type 0
 GoneEarly =
     GivesIn upgrade_sides (upgrade_run (exits 6 (name.Master 2) no_fault))
-    (m1 (MovePid pid_file (oldbin pid_file)) answer.Fine ∷ m1 (SpawnMaster 2) answer.Spawned ∷ m2 Adopt answer.Adopted ∷ m2 (Fork upgraded 0 None) answer.Forked ∷ m2 (Fork upgraded 1 None) answer.Forked ∷ m2 (AwaitReady upgraded 0) answer.MasterGone ∷ m1 (Census first) (answer.Counted (0 ∷ 1 ∷ [])) ∷ m1 (TermMaster 2) answer.Fine ∷ m1 (MovePid (oldbin pid_file) pid_file) answer.Fine ∷ m1 (Census first) (answer.Counted (0 ∷ 1 ∷ [])) ∷ [])
+    (m1 (MovePid pid_file (oldbin pid_file)) answer.Fine ∷ m1 (SpawnMaster 2) answer.Spawned ∷ m2 Adopt answer.Adopted ∷ m2 (Fork second_image 0 None) answer.Forked ∷ m2 (Fork second_image 1 None) answer.Forked ∷ m2 (AwaitReady second_image 0) answer.MasterGone ∷ m1 (Census first) (answer.Counted (0 ∷ 1 ∷ [])) ∷ m1 (TermMaster 2) answer.Fine ∷ m1 (MovePid (oldbin pid_file) pid_file) answer.Fine ∷ m1 (Census first) (answer.Counted (0 ∷ 1 ∷ [])) ∷ [])
     (report RolledBack (Some 6) InPlace (0 ∷ 1 ∷ [])) ×
     ((upgrade_run (exits 6 (name.Master 2) no_fault)).last.faults ≡ 1) ×
     ((upgrade_run (exits 6 (name.Master 2) no_fault)).last.losses ≡ 2)
@@ -126,15 +126,15 @@ GoneEarly =
 -- A worker is gone at the last count.
 abbrev pub RepairedAtLast : Type 0
 RepairedAtLast =
-    GivesIn upgrade_sides (upgrade_run (exits 18 (name.Worker upgraded 1) no_fault))
-    (m1 (MovePid pid_file (oldbin pid_file)) answer.Fine ∷ m1 (SpawnMaster 2) answer.Spawned ∷ m2 Adopt answer.Adopted ∷ m2 (Fork upgraded 0 None) answer.Forked ∷ m2 (Fork upgraded 1 None) answer.Forked ∷ m2 (AwaitReady upgraded 0) answer.IsReady ∷ m2 (AwaitReady upgraded 1) answer.IsReady ∷ m1 (Census first) (answer.Counted (0 ∷ 1 ∷ [])) ∷ m2 (WritePid pid_file) answer.Fine ∷ m2 (Census upgraded) (answer.Counted (0 ∷ 1 ∷ [])) ∷ m1 (Quit first 1) answer.Fine ∷ m1 (Quit first 0) answer.Fine ∷ m1 (AwaitGone first 1) answer.Gone ∷ m1 (AwaitGone first 0) answer.Gone ∷ m1 (Alive 2) answer.IsAlive ∷ m1 Leave answer.Fine ∷ m2 (RemovePid (oldbin pid_file)) answer.Fine ∷ m2 (Census upgraded) (answer.Counted (0 ∷ [])) ∷ m2 (Fork upgraded 1 None) answer.Forked ∷ m2 (AwaitReady upgraded 1) answer.IsReady ∷ m2 (Census upgraded) (answer.Counted (0 ∷ 1 ∷ [])) ∷ [])
+    GivesIn upgrade_sides (upgrade_run (exits 18 (name.Worker second_image 1) no_fault))
+    (m1 (MovePid pid_file (oldbin pid_file)) answer.Fine ∷ m1 (SpawnMaster 2) answer.Spawned ∷ m2 Adopt answer.Adopted ∷ m2 (Fork second_image 0 None) answer.Forked ∷ m2 (Fork second_image 1 None) answer.Forked ∷ m2 (AwaitReady second_image 0) answer.IsReady ∷ m2 (AwaitReady second_image 1) answer.IsReady ∷ m1 (Census first) (answer.Counted (0 ∷ 1 ∷ [])) ∷ m2 (WritePid pid_file) answer.Fine ∷ m2 (Census second_image) (answer.Counted (0 ∷ 1 ∷ [])) ∷ m1 (Quit first 1) answer.Fine ∷ m1 (Quit first 0) answer.Fine ∷ m1 (AwaitGone first 1) answer.Gone ∷ m1 (AwaitGone first 0) answer.Gone ∷ m1 (Alive 2) answer.IsAlive ∷ m1 Leave answer.Fine ∷ m2 (RemovePid (oldbin pid_file)) answer.Fine ∷ m2 (Census second_image) (answer.Counted (0 ∷ [])) ∷ m2 (Fork second_image 1 None) answer.Forked ∷ m2 (AwaitReady second_image 1) answer.IsReady ∷ m2 (Census second_image) (answer.Counted (0 ∷ 1 ∷ [])) ∷ [])
     (report Done (Some 18) InPlace (0 ∷ 1 ∷ []))
 
 -- The old pid file cannot be removed.
 abbrev pub OldFileLeft : Type 0
 OldFileLeft =
     GivesIn upgrade_sides (upgrade_run (fails 17 fate.IoFault no_fault))
-    (m1 (MovePid pid_file (oldbin pid_file)) answer.Fine ∷ m1 (SpawnMaster 2) answer.Spawned ∷ m2 Adopt answer.Adopted ∷ m2 (Fork upgraded 0 None) answer.Forked ∷ m2 (Fork upgraded 1 None) answer.Forked ∷ m2 (AwaitReady upgraded 0) answer.IsReady ∷ m2 (AwaitReady upgraded 1) answer.IsReady ∷ m1 (Census first) (answer.Counted (0 ∷ 1 ∷ [])) ∷ m2 (WritePid pid_file) answer.Fine ∷ m2 (Census upgraded) (answer.Counted (0 ∷ 1 ∷ [])) ∷ m1 (Quit first 1) answer.Fine ∷ m1 (Quit first 0) answer.Fine ∷ m1 (AwaitGone first 1) answer.Gone ∷ m1 (AwaitGone first 0) answer.Gone ∷ m1 (Alive 2) answer.IsAlive ∷ m1 Leave answer.Fine ∷ m2 (RemovePid (oldbin pid_file)) answer.IoFault ∷ m2 (Census upgraded) (answer.Counted (0 ∷ 1 ∷ [])) ∷ [])
+    (m1 (MovePid pid_file (oldbin pid_file)) answer.Fine ∷ m1 (SpawnMaster 2) answer.Spawned ∷ m2 Adopt answer.Adopted ∷ m2 (Fork second_image 0 None) answer.Forked ∷ m2 (Fork second_image 1 None) answer.Forked ∷ m2 (AwaitReady second_image 0) answer.IsReady ∷ m2 (AwaitReady second_image 1) answer.IsReady ∷ m1 (Census first) (answer.Counted (0 ∷ 1 ∷ [])) ∷ m2 (WritePid pid_file) answer.Fine ∷ m2 (Census second_image) (answer.Counted (0 ∷ 1 ∷ [])) ∷ m1 (Quit first 1) answer.Fine ∷ m1 (Quit first 0) answer.Fine ∷ m1 (AwaitGone first 1) answer.Gone ∷ m1 (AwaitGone first 0) answer.Gone ∷ m1 (Alive 2) answer.IsAlive ∷ m1 Leave answer.Fine ∷ m2 (RemovePid (oldbin pid_file)) answer.IoFault ∷ m2 (Census second_image) (answer.Counted (0 ∷ 1 ∷ [])) ∷ [])
     (report Done (Some 17) OldbinLeft (0 ∷ 1 ∷ []))
 
 ---- An attended upgrade
@@ -152,17 +152,17 @@ attended_run pattern = attended_run_by [] pattern
 abbrev pub until_counted : List Entry
 until_counted =
     m1 (MovePid pid_file (oldbin pid_file)) answer.Fine ∷ m1 (SpawnMaster 2) answer.Spawned ∷ m2 Adopt answer.Adopted
-    ∷ m2 (Fork upgraded 0 None) answer.Forked ∷ m2 (Fork upgraded 1 None) answer.Forked
-    ∷ m2 (AwaitReady upgraded 0) answer.IsReady ∷ m2 (AwaitReady upgraded 1) answer.IsReady
-    ∷ m1 (Census first) (answer.Counted (0 ∷ 1 ∷ [])) ∷ m2 (WritePid pid_file) answer.Fine ∷ m2 (Census upgraded) (answer.Counted (0 ∷ 1 ∷ [])) ∷ []
+    ∷ m2 (Fork second_image 0 None) answer.Forked ∷ m2 (Fork second_image 1 None) answer.Forked
+    ∷ m2 (AwaitReady second_image 0) answer.IsReady ∷ m2 (AwaitReady second_image 1) answer.IsReady
+    ∷ m1 (Census first) (answer.Counted (0 ∷ 1 ∷ [])) ∷ m2 (WritePid pid_file) answer.Fine ∷ m2 (Census second_image) (answer.Counted (0 ∷ 1 ∷ [])) ∷ []
 
 abbrev pub until_gone : List Entry
 until_gone =
     m1 (Quit first 1) answer.Fine ∷ m1 (Quit first 0) answer.Fine ∷ m1 (AwaitGone first 1) answer.Gone ∷ m1 (AwaitGone first 0) answer.Gone ∷ []
 
 -- The new master ends, and the old one counts its workers.
-abbrev pub back_alone : List Entry
-back_alone =
+abbrev pub back_without_turns : List Entry
+back_without_turns =
     m1 (TermMaster 2) answer.Fine ∷ m1 (MovePid (oldbin pid_file) pid_file) answer.Fine ∷ m1 (Census first) (answer.Counted (0 ∷ 1 ∷ [])) ∷ []
 
 -- The operator goes on, twice.
@@ -170,14 +170,14 @@ abbrev pub Attends : Type 0
 Attends =
     GivesIn upgrade_sides (attended_run no_fault)
     (until_counted ++ m1 (Ask 1) answer.Go ∷ until_gone ++ m1 (Ask 2) answer.Go ∷ m1 (Alive 2) answer.IsAlive ∷ m1 Leave answer.Fine
-    ∷ m2 (RemovePid (oldbin pid_file)) answer.Fine ∷ m2 (Census upgraded) (answer.Counted (0 ∷ 1 ∷ [])) ∷ [])
+    ∷ m2 (RemovePid (oldbin pid_file)) answer.Fine ∷ m2 (Census second_image) (answer.Counted (0 ∷ 1 ∷ [])) ∷ [])
     (report Done None InPlace (0 ∷ 1 ∷ []))
 
 -- The operator goes back before the old workers quit, which is no fault.
 abbrev pub BackAtFirst : Type 0
 BackAtFirst =
     let ran = attended_run (fails 11 fate.Back no_fault) in
-    GivesIn upgrade_sides ran (until_counted ++ m1 (Ask 1) answer.Back ∷ back_alone) (report RolledBack (Some 11) InPlace (0 ∷ 1 ∷ []))
+    GivesIn upgrade_sides ran (until_counted ++ m1 (Ask 1) answer.Back ∷ back_without_turns) (report RolledBack (Some 11) InPlace (0 ∷ 1 ∷ []))
     × (ran.last.faults ≡ 0)
 
 -- The operator goes back once they are gone: they are started again before the new master ends.
@@ -187,7 +187,7 @@ BackAtLast =
     GivesIn upgrade_sides ran
     (until_counted ++ m1 (Ask 1) answer.Go ∷ until_gone ++ m1 (Ask 2) answer.Back
     ∷ m1 (Fork first 0 None) answer.Forked ∷ m1 (Fork first 1 None) answer.Forked
-    ∷ m1 (AwaitReady first 0) answer.IsReady ∷ m1 (AwaitReady first 1) answer.IsReady ∷ back_alone)
+    ∷ m1 (AwaitReady first 0) answer.IsReady ∷ m1 (AwaitReady first 1) answer.IsReady ∷ back_without_turns)
     (report RolledBack (Some 16) InPlace (0 ∷ 1 ∷ []))
     × (ran.last.faults ≡ 0)
 
@@ -208,7 +208,7 @@ late_then_back = exits 4 (name.Worker first 1) (fails 6 fate.Late (fails 23 fate
 abbrev pub BackAfterMending : Type 0
 BackAfterMending =
     GivesIn upgrade_sides (attended_run_by all_old_first late_then_back)
-    (m1 (MovePid pid_file (oldbin pid_file)) answer.Fine ∷ m1 (SpawnMaster 2) answer.Spawned ∷ m2 Adopt answer.Adopted ∷ m1 (Census first) (answer.Counted (0 ∷ [])) ∷ m1 (Fork first 1 None) answer.Forked ∷ m1 (AwaitReady first 1) answer.Late ∷ m1 (Kill first 1) answer.Fine ∷ m1 (Census first) (answer.Counted (0 ∷ [])) ∷ m1 (Fork first 1 None) answer.Forked ∷ m1 (AwaitReady first 1) answer.IsReady ∷ m1 (Census first) (answer.Counted (0 ∷ 1 ∷ [])) ∷ m2 (Fork upgraded 0 None) answer.Forked ∷ m2 (Fork upgraded 1 None) answer.Forked ∷ m2 (AwaitReady upgraded 0) answer.IsReady ∷ m2 (AwaitReady upgraded 1) answer.IsReady ∷ m2 (WritePid pid_file) answer.Fine ∷ m2 (Census upgraded) (answer.Counted (0 ∷ 1 ∷ [])) ∷ m1 (Ask 1) answer.Go ∷ m1 (Quit first 1) answer.Fine ∷ m1 (Quit first 0) answer.Fine ∷ m1 (AwaitGone first 1) answer.Gone ∷ m1 (AwaitGone first 0) answer.Gone ∷ m1 (Ask 2) answer.Back ∷ m1 (Fork first 0 None) answer.Forked ∷ m1 (Fork first 1 None) answer.Forked ∷ m1 (AwaitReady first 0) answer.IsReady ∷ m1 (AwaitReady first 1) answer.IsReady ∷ m1 (TermMaster 2) answer.Fine ∷ m1 (MovePid (oldbin pid_file) pid_file) answer.Fine ∷ m1 (Census first) (answer.Counted (0 ∷ 1 ∷ [])) ∷ [])
+    (m1 (MovePid pid_file (oldbin pid_file)) answer.Fine ∷ m1 (SpawnMaster 2) answer.Spawned ∷ m2 Adopt answer.Adopted ∷ m1 (Census first) (answer.Counted (0 ∷ [])) ∷ m1 (Fork first 1 None) answer.Forked ∷ m1 (AwaitReady first 1) answer.Late ∷ m1 (Kill first 1) answer.Fine ∷ m1 (Census first) (answer.Counted (0 ∷ [])) ∷ m1 (Fork first 1 None) answer.Forked ∷ m1 (AwaitReady first 1) answer.IsReady ∷ m1 (Census first) (answer.Counted (0 ∷ 1 ∷ [])) ∷ m2 (Fork second_image 0 None) answer.Forked ∷ m2 (Fork second_image 1 None) answer.Forked ∷ m2 (AwaitReady second_image 0) answer.IsReady ∷ m2 (AwaitReady second_image 1) answer.IsReady ∷ m2 (WritePid pid_file) answer.Fine ∷ m2 (Census second_image) (answer.Counted (0 ∷ 1 ∷ [])) ∷ m1 (Ask 1) answer.Go ∷ m1 (Quit first 1) answer.Fine ∷ m1 (Quit first 0) answer.Fine ∷ m1 (AwaitGone first 1) answer.Gone ∷ m1 (AwaitGone first 0) answer.Gone ∷ m1 (Ask 2) answer.Back ∷ m1 (Fork first 0 None) answer.Forked ∷ m1 (Fork first 1 None) answer.Forked ∷ m1 (AwaitReady first 0) answer.IsReady ∷ m1 (AwaitReady first 1) answer.IsReady ∷ m1 (TermMaster 2) answer.Fine ∷ m1 (MovePid (oldbin pid_file) pid_file) answer.Fine ∷ m1 (Census first) (answer.Counted (0 ∷ 1 ∷ [])) ∷ [])
     (report RolledBack (Some 4) InPlace (0 ∷ 1 ∷ []))
     ×
     (let ran = attended_run_by all_old_first late_then_back in (ran.last.faults ≡ 1) × (ran.last.losses ≡ 1) × (faults_since 2 ran.last.returns ran.last.faults ≡ 0))
@@ -272,16 +272,16 @@ pub record WorkedRuns : Type 0 where
   -- The same settings again.
   pub reloads :
       Gives (two_ready 3) (Reload (settings_of (port ∷ []) 2)) no_fault two_workers
-      (m1 (Fork reloaded 0 None) answer.Forked ∷ m1 (Fork reloaded 1 None) answer.Forked ∷ m1 (AwaitReady reloaded 0) answer.IsReady ∷ m1 (AwaitReady reloaded 1) answer.IsReady ∷ m1 (Census reloaded) (answer.Counted (0 ∷ 1 ∷ [])) ∷ m1 (Quit first 1) answer.Fine ∷ m1 (Quit first 0) answer.Fine ∷ m1 (Census reloaded) (answer.Counted (0 ∷ 1 ∷ [])) ∷ [])
+      (m1 (Fork second 0 None) answer.Forked ∷ m1 (Fork second 1 None) answer.Forked ∷ m1 (AwaitReady second 0) answer.IsReady ∷ m1 (AwaitReady second 1) answer.IsReady ∷ m1 (Census second) (answer.Counted (0 ∷ 1 ∷ [])) ∷ m1 (Quit first 1) answer.Fine ∷ m1 (Quit first 0) answer.Fine ∷ m1 (Census second) (answer.Counted (0 ∷ 1 ∷ [])) ∷ [])
       (report Done None InPlace (0 ∷ 1 ∷ []))
   -- An address more: both are served.
   pub reloads_with_an_address :
       Gives (two_ready 3) (Reload (settings_of (port ∷ other_port ∷ []) 2)) no_fault two_workers
-      (m1 (OpenAt other_port) (answer.Opened 4) ∷ m1 (Fork reloaded 0 None) answer.Forked ∷ m1 (Fork reloaded 1 None) answer.Forked ∷ m1 (AwaitReady reloaded 0) answer.IsReady ∷ m1 (AwaitReady reloaded 1) answer.IsReady ∷ m1 (Census reloaded) (answer.Counted (0 ∷ 1 ∷ [])) ∷ m1 (Quit first 1) answer.Fine ∷ m1 (Quit first 0) answer.Fine ∷ m1 (Census reloaded) (answer.Counted (0 ∷ 1 ∷ [])) ∷ [])
+      (m1 (OpenAt other_port) (answer.Opened 4) ∷ m1 (Fork second 0 None) answer.Forked ∷ m1 (Fork second 1 None) answer.Forked ∷ m1 (AwaitReady second 0) answer.IsReady ∷ m1 (AwaitReady second 1) answer.IsReady ∷ m1 (Census second) (answer.Counted (0 ∷ 1 ∷ [])) ∷ m1 (Quit first 1) answer.Fine ∷ m1 (Quit first 0) answer.Fine ∷ m1 (Census second) (answer.Counted (0 ∷ 1 ∷ [])) ∷ [])
       (report Done None InPlace (0 ∷ 1 ∷ [])) ×
-      (serving (run_of (two_ready 3) (Reload (settings_of (port ∷ other_port ∷ []) 2)) [] no_fault two_workers) port reloaded ≡ Some 2)
+      (count_at (run_of (two_ready 3) (Reload (settings_of (port ∷ other_port ∷ []) 2)) [] no_fault two_workers) port second ≡ Some 2)
       ×
-      (serving (run_of (two_ready 3) (Reload (settings_of (port ∷ other_port ∷ []) 2)) [] no_fault two_workers) other_port reloaded ≡ Some 2)
+      (count_at (run_of (two_ready 3) (Reload (settings_of (port ∷ other_port ∷ []) 2)) [] no_fault two_workers) other_port second ≡ Some 2)
   -- Somebody else holds it.
   pub address_is_held :
       Gives (two_ready 3) (Reload (settings_of (port ∷ other_port ∷ []) 2)) no_fault other_held
@@ -290,31 +290,31 @@ pub record WorkedRuns : Type 0 where
   -- A worker is late: what was opened is closed.
   pub comes_back :
       Gives (two_ready 3) (Reload (settings_of (port ∷ other_port ∷ []) 2)) (fails 5 fate.Late no_fault) two_workers
-      (m1 (OpenAt other_port) (answer.Opened 4) ∷ m1 (Fork reloaded 0 None) answer.Forked ∷ m1 (Fork reloaded 1 None) answer.Forked ∷ m1 (AwaitReady reloaded 0) answer.IsReady ∷ m1 (AwaitReady reloaded 1) answer.Late ∷ m1 (Kill reloaded 1) answer.Fine ∷ m1 (Quit reloaded 1) answer.Fine ∷ m1 (Quit reloaded 0) answer.Fine ∷ m1 (CloseAt other_port) answer.Fine ∷ m1 (Census first) (answer.Counted (0 ∷ 1 ∷ [])) ∷ [])
+      (m1 (OpenAt other_port) (answer.Opened 4) ∷ m1 (Fork second 0 None) answer.Forked ∷ m1 (Fork second 1 None) answer.Forked ∷ m1 (AwaitReady second 0) answer.IsReady ∷ m1 (AwaitReady second 1) answer.Late ∷ m1 (Kill second 1) answer.Fine ∷ m1 (Quit second 1) answer.Fine ∷ m1 (Quit second 0) answer.Fine ∷ m1 (CloseAt other_port) answer.Fine ∷ m1 (Census first) (answer.Counted (0 ∷ 1 ∷ [])) ∷ [])
       (report RolledBack (Some 5) InPlace (0 ∷ 1 ∷ [])) ×
-      (serving (run_of (two_ready 3) (Reload (settings_of (port ∷ other_port ∷ []) 2)) [] (fails 5 fate.Late no_fault) two_workers) port first ≡ Some 2)
+      (count_at (run_of (two_ready 3) (Reload (settings_of (port ∷ other_port ∷ []) 2)) [] (fails 5 fate.Late no_fault) two_workers) port first ≡ Some 2)
       ×
-      (serving (run_of (two_ready 3) (Reload (settings_of (port ∷ other_port ∷ []) 2)) [] (fails 5 fate.Late no_fault) two_workers) other_port reloaded ≡ None)
+      (count_at (run_of (two_ready 3) (Reload (settings_of (port ∷ other_port ∷ []) 2)) [] (fails 5 fate.Late no_fault) two_workers) other_port second ≡ None)
   -- Another address in the place of the first.
   pub changes_its_address :
       Gives (two_ready 3) (Reload (settings_of (other_port ∷ []) 2)) no_fault two_workers
-      (m1 (OpenAt other_port) (answer.Opened 4) ∷ m1 (Fork reloaded 0 None) answer.Forked ∷ m1 (Fork reloaded 1 None) answer.Forked ∷ m1 (AwaitReady reloaded 0) answer.IsReady ∷ m1 (AwaitReady reloaded 1) answer.IsReady ∷ m1 (Census reloaded) (answer.Counted (0 ∷ 1 ∷ [])) ∷ m1 (Quit first 1) answer.Fine ∷ m1 (Quit first 0) answer.Fine ∷ m1 (CloseAt port) answer.Fine ∷ m1 (Census reloaded) (answer.Counted (0 ∷ 1 ∷ [])) ∷ [])
+      (m1 (OpenAt other_port) (answer.Opened 4) ∷ m1 (Fork second 0 None) answer.Forked ∷ m1 (Fork second 1 None) answer.Forked ∷ m1 (AwaitReady second 0) answer.IsReady ∷ m1 (AwaitReady second 1) answer.IsReady ∷ m1 (Census second) (answer.Counted (0 ∷ 1 ∷ [])) ∷ m1 (Quit first 1) answer.Fine ∷ m1 (Quit first 0) answer.Fine ∷ m1 (CloseAt port) answer.Fine ∷ m1 (Census second) (answer.Counted (0 ∷ 1 ∷ [])) ∷ [])
       (report Done None InPlace (0 ∷ 1 ∷ [])) ×
-      (serving (run_of (two_ready 3) (Reload (settings_of (other_port ∷ []) 2)) [] no_fault two_workers) port reloaded ≡ None)
+      (count_at (run_of (two_ready 3) (Reload (settings_of (other_port ∷ []) 2)) [] no_fault two_workers) port second ≡ None)
       ×
-      (serving (run_of (two_ready 3) (Reload (settings_of (other_port ∷ []) 2)) [] no_fault two_workers) other_port reloaded ≡ Some 2)
+      (count_at (run_of (two_ready 3) (Reload (settings_of (other_port ∷ []) 2)) [] no_fault two_workers) other_port second ≡ Some 2)
   -- No workers: the address stays.
   pub reloads_to_none :
       Gives (two_ready 3) (Reload (settings_of (port ∷ []) 0)) no_fault two_workers
-      (m1 (Census reloaded) (answer.Counted []) ∷ m1 (Quit first 1) answer.Fine ∷ m1 (Quit first 0) answer.Fine ∷ m1 (Census reloaded) (answer.Counted []) ∷ [])
+      (m1 (Census second) (answer.Counted []) ∷ m1 (Quit first 1) answer.Fine ∷ m1 (Quit first 0) answer.Fine ∷ m1 (Census second) (answer.Counted []) ∷ [])
       (report Done None InPlace []) ×
-      (serving (run_of (two_ready 3) (Reload (settings_of (port ∷ []) 0)) [] no_fault two_workers) port reloaded ≡ Some 0)
+      (count_at (run_of (two_ready 3) (Reload (settings_of (port ∷ []) 0)) [] no_fault two_workers) port second ≡ Some 0)
   -- And one more, by the record that is left.
   pub one_after_none :
       (record_after (two_ready 3) (Reload (settings_of (port ∷ []) 0)) (report_of (sides_of (two_ready 3) (Reload (settings_of (port ∷ []) 0))) (run_of (two_ready 3) (Reload (settings_of (port ∷ []) 0)) [] no_fault two_workers)) 100 ≡ Some empty_record)
       × Gives empty_record (Workers 1) no_fault
       (run_of (two_ready 3) (Reload (settings_of (port ∷ []) 0)) [] no_fault two_workers).last.table
-      (m1 (Fork reloaded 0 None) answer.Forked ∷ m1 (AwaitReady reloaded 0) answer.IsReady ∷ m1 (Census reloaded) (answer.Counted (0 ∷ [])) ∷ [])
+      (m1 (Fork second 0 None) answer.Forked ∷ m1 (AwaitReady second 0) answer.IsReady ∷ m1 (Census second) (answer.Counted (0 ∷ [])) ∷ [])
       (report Done None InPlace (0 ∷ []))
   -- No worker is overdue.
   pub mends_nothing :

@@ -10,15 +10,15 @@ use Rattle.control_words.specs.declared.refusal.WordRefusal.{WordRefusal}
 use Rattle.control_words.specs.declared.refusal.WordRefusal.TheVariants.{Unknown, BadNumber, AtMost, NoConfig, PidChanged}
 use Rattle.control_words.specs.Words.{word_text, refusal_code, reading, IsWord}
 use Rattle.control_words.proofs.Lines.{reading-written, written-reading}
-use Rattle.plain_text.specs.NumberText.{number_of}
+use Rattle.plain_text.specs.NumberText.{number_in}
 use Rattle.plain_text.specs.Cuts.{cut}
 use Rattle.plain_text.proofs.CutTexts.{lacks, cut_found, cut_at}
 use Rattle.call_text.specs.Words.{side_text}
 use Rattle.call_text.specs.Ranges.{IsNumber}
 use Rattle.call_text.specs.Reading.{some_if}
 use Rattle.call_text.specs.ReportText.{shortfalls_text, outcome_text, ending_text}
-use Rattle.call_text.specs.ReportReading.{report_of}
-use Rattle.call_text.proofs.Readers.{IsReader, mapped, chosen, same_bytes, joined_reads, number_reads}
+use Rattle.call_text.specs.ReportReading.{report_in}
+use Rattle.call_text.proofs.Readers.{IsReader, mapped, chosen, same_bytes, both_reads, number_reads}
 use Rattle.call_text.proofs.PartTexts.{number_lacks}
 use Rattle.call_text.proofs.ReportTexts.{report_reads}
 use Rattle.transcript.specs.Codes.{is_code}
@@ -70,11 +70,11 @@ rest_reads : IsReader (λ (rest : List ℕ). ⊤) (λ rest. rest) (λ rest. Some
 rest_reads = record { found = λ text rest e. let same : Some text ≡ Some rest = e in let is : text ≡ rest = cc in (tt, is); only = λ rest h. refl }
 
 numbered_reads : IsReader (λ (p : ℕ × List ℕ). IsNumber p.0 × ⊤) (λ (p : ℕ × List ℕ). decimal p.0 ++ 32 ∷ p.1) numbered
-numbered_reads = joined_reads IsNumber (λ rest. ⊤) decimal (λ rest. rest) number_of (λ rest. Some rest) 32 (λ n lt. number_lacks 32 n refl lt) number_reads rest_reads
+numbered_reads = both_reads IsNumber (λ rest. ⊤) decimal (λ rest. rest) number_in (λ rest. Some rest) 32 (λ n lt. number_lacks 32 n refl lt) number_reads rest_reads
 
-not_numbered : (first rest : List ℕ) → lacks 32 first ≡ true → number_of first ≡ None → numbered (first ++ 32 ∷ rest) ≡ None
+not_numbered : (first rest : List ℕ) → lacks 32 first ≡ true → number_in first ≡ None → numbered (first ++ 32 ∷ rest) ≡ None
 not_numbered first rest apart none =
-    ap (option_and_then (λ (parts : List ℕ × List ℕ). option_and_then (λ n. option_and_then (λ rest. Some (n, rest)) (Some parts.1)) (number_of parts.0))) (cut_at 32 first rest apart)
+    ap (option_and_then (λ (parts : List ℕ × List ℕ). option_and_then (λ n. option_and_then (λ rest. Some (n, rest)) (Some parts.1)) (number_in parts.0))) (cut_at 32 first rest apart)
     ∙ ap (option_and_then (λ n. option_and_then (λ rest. Some (n, rest)) (Some rest))) none
 
 -- ---- a line that was read
@@ -92,7 +92,7 @@ module _ (text : List ℕ) (v : Line) where
           (c : Bool) → bytes_eq first (codes "refused") ≡ c →
           cond a (option_map Heard (word_of rest))
           (cond b (option_map Unread (unread_of rest))
-          (cond c (some_if (is_code rest) (Refused rest)) (option_map Ended (report_of [] text)))) ≡ Some v →
+          (cond c (some_if (is_code rest) (Refused rest)) (option_map Ended (report_in [] text)))) ≡ Some v →
           IsLine v × (text ≡ line_text v)
       at true k b l c m e =
           let heard = mapped Heard (word_of rest) v e in
@@ -106,7 +106,7 @@ module _ (text : List ℕ) (v : Line) where
           let is = chosen (is_code rest) (Refused rest) v e in
           subst Is is.1 (is.0, begins (codes "refused") m)
       at false k false l false m e =
-          let ended = mapped Ended (report_of [] text) v e in
+          let ended = mapped Ended (report_in [] text) v e in
           let got = (report_reads []).found text ended.0 ended.1 in
           subst Is ended.2 got
 
@@ -135,7 +135,7 @@ plain_within text None e = tt
 plain_within text (Some line) e = (plain_found text (seen line) (sym e)).0
 
 -- ---- a line that was written
-plain_line : (first rest : List ℕ) → lacks 32 first ≡ true → number_of first ≡ None → line_of (first ++ 32 ∷ rest) ≡ plain_about (first ++ 32 ∷ rest) first rest
+plain_line : (first rest : List ℕ) → lacks 32 first ≡ true → number_in first ≡ None → line_of (first ++ 32 ∷ rest) ≡ plain_about (first ++ 32 ∷ rest) first rest
 plain_line first rest apart none =
     let text : List ℕ = first ++ 32 ∷ rest in
     ap (line_from text) (not_numbered first rest apart none) ∙ ap (plain_from text) (cut_at 32 first rest apart)
@@ -145,7 +145,7 @@ made_only n e lt h =
     ap (line_from (decimal n ++ 32 ∷ answered_text e)) (numbered_reads.only (n, answered_text e) (lt, tt))
     ∙ ap (option_map (Made n)) (entry_reads.only e h)
 
-ended_from : (o : Outcome) (rest : List ℕ) → line_of (outcome_text o ++ 32 ∷ rest) ≡ option_map Ended (report_of [] (outcome_text o ++ 32 ∷ rest))
+ended_from : (o : Outcome) (rest : List ℕ) → line_of (outcome_text o ++ 32 ∷ rest) ≡ option_map Ended (report_in [] (outcome_text o ++ 32 ∷ rest))
 ended_from outcome.Done rest = plain_line (codes "done") rest refl refl
 ended_from outcome.RolledBack rest = plain_line (codes "rolled-back") rest refl refl
 ended_from outcome.Lost rest = plain_line (codes "lost") rest refl refl

@@ -23,7 +23,7 @@ use Rattle.plain_text.proofs.CutTexts.{lacks}
 use Rattle.transcript.specs.EntryReading.{IsEntry}
 use Rattle.transcript.specs.BlockLine.{Line, Heard, Unread, Nothing, Refused, Made, Ended, line_text, IsLine}
 use Rattle.transcript.specs.LineReading.{line_of}
-use Rattle.transcript.specs.Reading.{last_count, with_ready, Opened, Reading, begun, if_first, fault_of, if_fitting}
+use Rattle.transcript.specs.Reading.{last_count, with_ready, Opened, Reading, begun, if_first, fault_at, if_fitting}
 use Rattle.transcript.specs.Reading.{if_formed, ran, with_line, taken, ended, finished, blocks_of}
 use Rattle.transcript.specs.Block.{body_text, block_text, transcript_text, IsBody, IsBlock, AreBlocks, body_read, block_read, IsTextOf}
 use Rattle.transcript.proofs.OneLine.{line_lacks}
@@ -85,10 +85,10 @@ step_end done o made line are is_word is_body is =
 no_fault : {A : Type 0} (r : TextRefusal) → Some r ≡ None → A
 no_fault {A = A} r e = let none : Option TextRefusal = None in let no : Some r ≡ none = e in absurd cc
 
-step : (number : ℕ) (v : Line) (r : Reading) → IsLine v → fault_of number v r.current ≡ None → IsSoFar r → IsStep r v
+step : (number : ℕ) (v : Line) (r : Reading) → IsLine v → fault_at number v r.current ≡ None → IsSoFar r → IsStep r v
 step number v r is fits so = at r.current v is fits so.0 so.1
   where
-    at : (c : Option Opened) (v : Line) → IsLine v → fault_of number v c ≡ None → AreBlocks r.done → IsCurrent c →
+    at : (c : Option Opened) (v : Line) → IsLine v → fault_at number v c ≡ None → AreBlocks r.done → IsCurrent c →
         IsStep (record { done = r.done; current = c }) v
     at None (Heard word) is fits are cur = (
       (are, (is, tt, omega arith)),
@@ -168,9 +168,9 @@ read_all (line ∷ lines) number r blocks e so = formed (line_of line) refl e (r
         AreBlocks blocks × (text_so_far r ++ ended_lines lines ≡ transcript_text blocks)) →
         AreBlocks blocks × (text_so_far r ++ ended_lines (line ∷ lines) ≡ transcript_text blocks)
     formed None k e again = no_error (text.Line number) blocks e
-    formed (Some v) k e again = fitting (fault_of number v r.current) refl e
+    formed (Some v) k e again = fitting (fault_at number v r.current) refl e
       where
-        fitting : (f : Option TextRefusal) → fault_of number v r.current ≡ f → then (if_fitting v f) ≡ Ok blocks →
+        fitting : (f : Option TextRefusal) → fault_at number v r.current ≡ f → then (if_fitting v f) ≡ Ok blocks →
             AreBlocks blocks × (text_so_far r ++ ended_lines (line ∷ lines) ≡ transcript_text blocks)
         fitting (Some refusal) j e = no_error refusal blocks e
         fitting None j e =
@@ -190,13 +190,13 @@ blocks_found written blocks e =
     (got.0, elim (lines_ended written) [ inl h ↦ inl (h ∙ got.1) | inr h ↦ inr (h ∙ got.1) ])
 
 -- ---- whatever has the text is read
-abbrev Goes : Reading → List ℕ → List Block → Type 0
-Goes = Gives taken finished
+abbrev Takes : Reading → List ℕ → List Block → Type 0
+Takes = Gives taken finished
 
 -- a line that may stand there, and what the rest gives
 goes_line : (r : Reading) (v : Line) (rest : List ℕ) (blocks : List Block) → IsLine v →
-    ((number : ℕ) → fault_of number v r.current ≡ None) → Goes (with_line v r) rest blocks →
-    Goes r (line_text v ++ 10 ∷ rest) blocks
+    ((number : ℕ) → fault_at number v r.current ≡ None) → Takes (with_line v r) rest blocks →
+    Takes r (line_text v ++ 10 ∷ rest) blocks
 goes_line r v rest blocks is fits more = gives_line taken finished r (with_line v r) (line_text v) rest blocks (line_lacks v is) (λ number. takes number) more
   where
     takes : (number : ℕ) → taken number r (line_text v) ≡ Ok (with_line v r)
@@ -213,26 +213,26 @@ split_line line rest = append_assoc line (10 ∷ []) rest
 
 goes_entries : (es made : List Entry) (done : List Block) (word : Word) (rest : List ℕ) (blocks : List Block) (n : ℕ) →
     n ≡ length made + 1 → AreEntries es → length made + length es < 2 ^ 32 →
-    Goes (within done word (made ++ es)) rest blocks → Goes (within done word made) (entries_text n es ++ rest) blocks
-goes_entries [] made done word rest blocks n is are small more = subst (λ es. Goes (within done word es) rest blocks) (append-nil made) more
+    Takes (within done word (made ++ es)) rest blocks → Takes (within done word made) (entries_text n es ++ rest) blocks
+goes_entries [] made done word rest blocks n is are small more = subst (λ es. Takes (within done word es) rest blocks) (append-nil made) more
 goes_entries (e ∷ es) made done word rest blocks n is are small more =
     let number : n < 2 ^ 32 = omega (arith, is, small) in
     let count : length (made ++ e ∷ []) ≡ length made + 1 = length-append made (e ∷ []) in
     let right : eqb n (length made + 1) ≡ true = grind (arith, nat_tests) in
     let later =
     goes_entries es (made ++ e ∷ []) done word rest blocks (n + 1) (omega (arith, is, count)) are.1 (omega (arith, small, count))
-    (subst (λ es. Goes (within done word es) rest blocks) (sym (append_assoc made (e ∷ []) es)) more) in
+    (subst (λ es. Takes (within done word es) rest blocks) (sym (append_assoc made (e ∷ []) es)) more) in
     let whole : (entry_line n e ++ 10 ∷ []) ++ entries_text (n + 1) es ++ rest ≡ entry_line n e ++ 10 ∷ (entries_text (n + 1) es ++ rest) =
     append_assoc (entry_line n e ++ 10 ∷ []) (entries_text (n + 1) es) rest ∙ split_line (entry_line n e) (entries_text (n + 1) es ++ rest) in
-    subst (λ t. Goes (within done word made) t blocks) (sym whole)
+    subst (λ t. Takes (within done word made) t blocks) (sym whole)
     (goes_line (within done word made) (Made n e) (entries_text (n + 1) es ++ rest) blocks (number, are.0) (λ number. ap (λ b. cond b None (Some (text.Order number))) right) later)
 
 goes_body : (b : Body) (done : List Block) (word : Word) (rest : List ℕ) (blocks : List Block) → IsBody b →
-    Goes (record { done = done ++ block.Heard word (body_read b) ∷ []; current = None }) rest blocks →
-    Goes (within done word []) (body_text b ++ rest) blocks
+    Takes (record { done = done ++ block.Heard word (body_read b) ∷ []; current = None }) rest blocks →
+    Takes (within done word []) (body_text b ++ rest) blocks
 goes_body body.Nothing done word rest blocks is more = goes_line (within done word []) Nothing rest blocks tt (λ number. refl) more
 goes_body (body.Refused code) done word rest blocks is more =
-    subst (λ t. Goes (within done word []) t blocks) (sym (split_line (codes "refused " ++ code) rest))
+    subst (λ t. Takes (within done word []) t blocks) (sym (split_line (codes "refused " ++ code) rest))
     (goes_line (within done word []) (Refused code) rest blocks is (λ number. refl) more)
 goes_body (body.Ran log report) done word rest blocks is more =
     let entries : List ℕ = entries_text 1 log.entries in
@@ -241,19 +241,19 @@ goes_body (body.Ran log report) done word rest blocks is more =
     let ready : report.ready ≡ last_count log.entries = is.2.2 in
     let kept : ran (with_ready [] report) (record { word = word; made = log.entries }) ≡ body.Ran (record { entries = log.entries; room = 0 }) report =
     ap (λ ns. body.Ran (record { entries = log.entries; room = 0 }) (with_ready ns report)) (sym ready) in
-    subst (λ t. Goes (within done word []) t blocks) (sym whole)
+    subst (λ t. Takes (within done word []) t blocks) (sym whole)
     (goes_entries log.entries [] done word (report_text report ++ 10 ∷ rest) blocks 1 refl is.0 (let small : length log.entries < 2 ^ 32 = is.1 in omega (arith, small))
     (goes_line (within done word log.entries) (Ended (with_ready [] report)) rest blocks (is.2.0, is.2.1, refl) (λ number. refl)
-    (subst (λ b. Goes (record { done = done ++ block.Heard word b ∷ []; current = None }) rest blocks) (sym kept) more)))
+    (subst (λ b. Takes (record { done = done ++ block.Heard word b ∷ []; current = None }) rest blocks) (sym kept) more)))
 
-goes_blocks : (bs done : List Block) → AreBlocks bs → Goes (record { done = done; current = None }) (transcript_text bs) (done ++ map block_read bs)
+goes_blocks : (bs done : List Block) → AreBlocks bs → Takes (record { done = done; current = None }) (transcript_text bs) (done ++ map block_read bs)
 goes_blocks [] done are = λ number. ap (λ bs. Ok bs) (sym (append-nil done))
 goes_blocks (block.Unread refusal ∷ bs) done are =
     let between : Reading = record { done = done; current = None } in
     let rest = goes_blocks bs (done ++ block.Unread refusal ∷ []) are.1 in
-    subst (λ t. Goes between t (done ++ map block_read (block.Unread refusal ∷ bs))) (sym (split_line (codes "unread " ++ refusal_code refusal) (transcript_text bs)))
+    subst (λ t. Takes between t (done ++ map block_read (block.Unread refusal ∷ bs))) (sym (split_line (codes "unread " ++ refusal_code refusal) (transcript_text bs)))
     (goes_line between (Unread refusal) (transcript_text bs) (done ++ map block_read (block.Unread refusal ∷ bs)) are.0 (λ number. refl)
-    (subst (λ all. Goes (record { done = done ++ block.Unread refusal ∷ []; current = None }) (transcript_text bs) all) (append_assoc done (block.Unread refusal ∷ []) (map block_read bs)) rest))
+    (subst (λ all. Takes (record { done = done ++ block.Unread refusal ∷ []; current = None }) (transcript_text bs) all) (append_assoc done (block.Unread refusal ∷ []) (map block_read bs)) rest))
 goes_blocks (block.Heard word b ∷ bs) done are =
     let between : Reading = record { done = done; current = None } in
     let made : Block = block.Heard word (body_read b) in
@@ -261,10 +261,10 @@ goes_blocks (block.Heard word b ∷ bs) done are =
     let rest = goes_blocks bs (done ++ made ∷ []) are.1 in
     let whole : (codes "word " ++ word_text word ++ codes "\n" ++ body_text b) ++ transcript_text bs ≡ (codes "word " ++ word_text word) ++ 10 ∷ (body_text b ++ transcript_text bs) =
     append_assoc (codes "word " ++ word_text word ++ codes "\n") (body_text b) (transcript_text bs) ∙ split_line (codes "word " ++ word_text word) (body_text b ++ transcript_text bs) in
-    subst (λ t. Goes between t all) (sym whole)
+    subst (λ t. Takes between t all) (sym whole)
     (goes_line between (Heard word) (body_text b ++ transcript_text bs) all are.0.0 (λ number. refl)
     (goes_body b done word (transcript_text bs) all are.0.1
-    (subst (λ all. Goes (record { done = done ++ made ∷ []; current = None }) (transcript_text bs) all) (append_assoc done (made ∷ []) (map block_read bs)) rest)))
+    (subst (λ all. Takes (record { done = done ++ made ∷ []; current = None }) (transcript_text bs) all) (append_assoc done (made ∷ []) (map block_read bs)) rest)))
 
 -- ---- a text without its very last newline
 -- some blocks' text ends with a line that is not empty

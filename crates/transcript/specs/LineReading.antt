@@ -1,13 +1,13 @@
 -- What reading a line of a block gives, part by part.
 use Rattle.std.specs.Prelude.{ℕ, List, [], Option, Some, None, Result, Ok, Err, option_map, bytes_eq, codes, if◌then◌else◌}
-use Rattle.plain_text.specs.NumberText.{number_of}
+use Rattle.plain_text.specs.NumberText.{number_in}
 use Rattle.plain_text.specs.Cuts.{cut}
 use Rattle.control_words.specs.declared.words.Word.{Word}
 use Rattle.control_words.specs.declared.refusal.WordRefusal.{WordRefusal}
 use Rattle.control_words.specs.declared.refusal.WordRefusal.TheVariants.{Unknown, BadNumber}
 use Rattle.control_words.specs.Words.{reading}
-use Rattle.call_text.specs.Reading.{some_if, joined}
-use Rattle.call_text.specs.ReportReading.{report_of}
+use Rattle.call_text.specs.Reading.{some_if, both_of}
+use Rattle.call_text.specs.ReportReading.{report_in}
 use Rattle.transcript.specs.Codes.{is_code}
 use Rattle.transcript.specs.EntryReading.{entry_of}
 use Rattle.transcript.specs.BlockLine.{Line, Heard, Unread, Nothing, Refused, Made, Ended}
@@ -30,7 +30,7 @@ plain_about text first rest =
     if bytes_eq first (codes "word") then option_map Heard (word_of rest)
     else if bytes_eq first (codes "unread") then option_map Unread (unread_of rest)
     else if bytes_eq first (codes "refused") then some_if (is_code rest) (Refused rest)
-    else option_map Ended (report_of [] text)
+    else option_map Ended (report_in [] text)
 
 abbrev pub plain_from : List ℕ → Option (List ℕ × List ℕ) → Option Line
 plain_from text None = some_if (bytes_eq text (codes "nothing")) Nothing
@@ -43,13 +43,13 @@ plain_of text = plain_from text (cut 32 text)
 
 -- the number of a call, and what follows it
 abbrev pub numbered : List ℕ → Option (ℕ × List ℕ)
-numbered text = joined 32 number_of (λ rest. Some rest) text
+numbered text = both_of 32 number_in (λ rest. Some rest) text
 
-abbrev pub call_of : ℕ → List ℕ → Option Line
-call_of n rest = option_map (Made n) (entry_of rest)
+abbrev pub made_line : ℕ → List ℕ → Option Line
+made_line n rest = option_map (Made n) (entry_of rest)
 
 abbrev pub line_from : List ℕ → Option (ℕ × List ℕ) → Option Line
-line_from text (Some p) = call_of p.0 p.1
+line_from text (Some p) = made_line p.0 p.1
 line_from text None = plain_of text
 
 abbrev pub line_of : List ℕ → Option Line

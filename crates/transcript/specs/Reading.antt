@@ -13,7 +13,7 @@ use Rattle.lines_text.specs.Reading.{unless_refused, reading_of}
 use Rattle.lines_text.specs.declared.refusal.TextRefusal.{TextRefusal}
 use Rattle.lines_text.specs.declared.refusal.TextRefusal.TheVariants as text
 use Rattle.transcript.specs.BlockLine.{Line, Heard, Unread, Nothing, Refused, Made, Ended}
-use Rattle.transcript.specs.LineReading.{plain_of, call_of, line_of}
+use Rattle.transcript.specs.LineReading.{plain_of, made_line, line_of}
 
 ---- Who was ready
 
@@ -62,9 +62,9 @@ fault_between number (Heard word) = None
 fault_between number (Unread refusal) = None
 fault_between number _ = Some (text.Line number)
 
-abbrev pub fault_of : ℕ → Line → Option Opened → Option TextRefusal
-fault_of number line None = fault_between number line
-fault_of number line (Some o) = fault_within number line o
+abbrev pub fault_at : ℕ → Line → Option Opened → Option TextRefusal
+fault_at number line None = fault_between number line
+fault_at number line (Some o) = fault_within number line o
 
 abbrev pub if_fitting : Line → Option TextRefusal → Result Line TextRefusal
 if_fitting line None = Ok line
@@ -72,7 +72,7 @@ if_fitting line (Some refusal) = Err refusal
 
 abbrev pub if_formed : ℕ → Option Opened → Option Line → Result Line TextRefusal
 if_formed number current None = Err (text.Line number)
-if_formed number current (Some line) = if_fitting line (fault_of number line current)
+if_formed number current (Some line) = if_fitting line (fault_at number line current)
 
 -- a line other than a call, with its number, or why it is refused
 abbrev pub plain_here : ℕ → Reading → List ℕ → Result Line TextRefusal
@@ -80,7 +80,7 @@ plain_here number r line = if_formed number r.current (plain_of line)
 
 -- a call that has the number n in its block, or why it is refused
 abbrev pub call_here : ℕ → Reading → ℕ → List ℕ → Result Line TextRefusal
-call_here number r n rest = if_formed number r.current (call_of n rest)
+call_here number r n rest = if_formed number r.current (made_line n rest)
 
 -- any line
 abbrev pub line_here : ℕ → Reading → List ℕ → Result Line TextRefusal

@@ -2,7 +2,7 @@
 ghost use Rattle.std.specs.Prelude.{◌≡◌, ◌≢◌, List, [], map, Ok, Err, OnOk, IfOk, IfErr, IsErrOf, IsOk, option_map};
 ghost use Rattle.transcript.specs.BlockLine.{seen as seen_line, IsLine};
 ghost use Rattle.transcript.specs.Block.{AreBlocks, IsTextOf, block_read};
-ghost use Rattle.transcript.specs.Reading.{fault_within, fault_of, call_here, known_after, last_count, with_entry, with_block, with_line, ran, begun, blocks_of};
+ghost use Rattle.transcript.specs.Reading.{fault_within, fault_at, call_here, known_after, last_count, with_entry, with_block, with_line, ran, begun, blocks_of};
 ghost use Rattle.word_runner.specs.declared.block.Block.{Block as Done};
 
 use crate::block_line::BlockLine;
@@ -41,7 +41,7 @@ impl Current {
     }
 
     /// Why a line with this number, other than a call, can't stand here.
-    fn fault_of(&self, number: usize, line: &BlockLine<'_>) -> Option<TextRefusal>
+    fn fault_at(&self, number: usize, line: &BlockLine<'_>) -> Option<TextRefusal>
         ensures { result ≡ fault_within number (seen_line line.now) (seen_current self.now) }
     {
         match line {
@@ -84,11 +84,11 @@ impl BlocksReader {
     }
 
     /// Why a line with this number, other than a call, can't stand here.
-    fn fault_of(&self, number: usize, line: &BlockLine<'_>) -> Option<TextRefusal>
-        ensures { result ≡ fault_of number (seen_line line.now) (seen self.now).current }
+    fn fault_at(&self, number: usize, line: &BlockLine<'_>) -> Option<TextRefusal>
+        ensures { result ≡ fault_at number (seen_line line.now) (seen self.now).current }
     {
         match &self.current {
-            Some(current) => current.fault_of(number, line),
+            Some(current) => current.fault_at(number, line),
             None => match line {
                 BlockLine::Heard(_) | BlockLine::Unread(_) => None,
                 _ => Some(TextRefusal::Line(number)),
@@ -200,7 +200,7 @@ impl TakesLines for BlocksReader {
         let Some(found) = BlockLine::read(line) else {
             return Err(TextRefusal::Line(number));
         };
-        match self.fault_of(number, &found) {
+        match self.fault_at(number, &found) {
             Some(refusal) => Err(refusal),
             None => Ok(self.add_line(alloc, &found)?),
         }

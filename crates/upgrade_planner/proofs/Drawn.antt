@@ -16,7 +16,7 @@ use Rattle.plan_steps.proofs.StepTrees.{length-trees}
 use Rattle.rollback_plan.specs.declared.draft.Draft.{Draft}
 use Rattle.rollback_plan.specs.Drafts.{steps_in, IsMade, AreFit}
 use Rattle.rollback_plan.proofs.DraftTrees.{at_place_is}
-use Rattle.upgrade_planner.specs.Trees.{master_of, heir_of, way_back, coming_calls, coming_part, staying_part, taking_over, beginning, IsDrawn}
+use Rattle.upgrade_planner.specs.Trees.{old_image, new_image, way_back, coming_calls, coming_part, staying_part, taking_over, beginning, IsDrawn}
 use Rattle.upgrade_planner.specs.declared.upgrade.Upgrade.{Upgrade}
 use Rattle.upgrade_planner.specs.declared.drawing.Drawn.{Drawn}
 use Rattle.upgrade_planner.proofs.Endings.{IsLast, beginning_onward, from_last, old_part_end, relieve_last, tries_all_end, tries_end}
@@ -33,36 +33,36 @@ low d place tree made = omega (arith, made.below, length-trees (steps_in d))
 
 taking_over_last : (u : Upgrade) → IsLast (taking_over u)
 taking_over_last u =
-    let heir = heir_of u in
-    let on = relieve u.attended (master_of u) u.old.crew u.new.crew u.old.numbers u.rounds u.path u.workers in
-    let back = from_last (master_of u) heir u.old.crew u.old.numbers u.rounds u.path in
+    let heir = new_image u in
+    let on = relieve u.attended (old_image u) u.old.crew u.new.crew u.old.numbers u.rounds u.path u.workers in
+    let back = from_last (old_image u) heir u.old.crew u.old.numbers u.rounds u.path in
     tries_all_end is_last heir (pid_calls u.path WritePid) _ (way_back u)
-    (tries_end is_last heir (Census u.new.crew.generation) u.new.numbers on (way_back u) (relieve_last u.attended (master_of u) u.old.crew u.new.crew u.old.numbers u.rounds u.path u.workers) back) back
+    (tries_end is_last heir (Census u.new.crew.generation) u.new.numbers on (way_back u) (relieve_last u.attended (old_image u) u.old.crew u.new.crew u.old.numbers u.rounds u.path u.workers) back) back
 
 pub drawn_parts : (d : Draft) (u : Upgrade) (drawn : Drawn) → IsDrawn d u drawn → AreParts (steps_in d) drawn.first.0 drawn.parts
 drawn_parts d u drawn is =
-    let by = master_of u in
+    let by = old_image u in
     let p = drawn.parts in
     let first = stands d drawn.first (beginning u) is.first in
     record {
       splits = is.splits;
       low = (low d p.new _ is.parts.new, low d p.old _ is.parts.old, low d p.ready _ is.parts.ready, low d p.back _ is.parts.back);
-      begins = ap (λ t. nat_lt 0 (to_split t)) first ∙ lt-ltb 0 (to_split (beginning u)) (begun_leads by (heir_of u) u.old.crew u.old.numbers u.rounds u.path u.note);
-      before = ap (ends_at is_onward) first ∙ beginning_onward by (heir_of u) u.old.crew u.old.numbers u.rounds u.path u.note;
-      new = ap (ends_at ends_new) (stands d p.new _ is.parts.new) ∙ tries_all_end ends_new (heir_of u) (coming_calls u.new.crew u.dropped.now u.added.now u.coming.now) (Ends JoinReady) (Ends JoinBack) refl refl;
+      begins = ap (λ t. nat_lt 0 (to_split t)) first ∙ lt-ltb 0 (to_split (beginning u)) (begun_leads by (new_image u) u.old.crew u.old.numbers u.rounds u.path u.note);
+      before = ap (ends_at is_onward) first ∙ beginning_onward by (new_image u) u.old.crew u.old.numbers u.rounds u.path u.note;
+      new = ap (ends_at ends_new) (stands d p.new _ is.parts.new) ∙ tries_all_end ends_new (new_image u) (coming_calls u.new.crew u.dropped.now u.added.now u.coming.now) (Ends JoinReady) (Ends JoinBack) refl refl;
       old = ap (ends_at ends_old) (stands d p.old _ is.parts.old) ∙ old_part_end by u.old.crew u.old.numbers u.rounds;
       ready = ap (ends_at is_last) (stands d p.ready _ is.parts.ready) ∙ taking_over_last u;
-      back = ap (ends_at is_last) (stands d p.back _ is.parts.back) ∙ from_last by (heir_of u) u.old.crew u.old.numbers u.rounds u.path;
+      back = ap (ends_at is_last) (stands d p.back _ is.parts.back) ∙ from_last by (new_image u) u.old.crew u.old.numbers u.rounds u.path;
     }
 
 pub drawn_fit : (d : Draft) (u : Upgrade) (drawn : Drawn) → IsDrawn d u drawn → AreFit d drawn.first drawn.parts
 drawn_fit d u drawn is =
     record {
-      before = ap (is_fit false) is.first.is ∙ beginning_fit (master_of u) (heir_of u) u.old.crew u.old.numbers u.rounds u.path u.note false;
+      before = ap (is_fit false) is.first.is ∙ beginning_fit (old_image u) (new_image u) u.old.crew u.old.numbers u.rounds u.path u.note false;
       new = ap (is_fit false) is.parts.new.is ∙ coming_fit u false;
-      old = ap (is_fit false) is.parts.old.is ∙ old_part_fit (master_of u) u.old.crew u.old.numbers u.rounds false;
+      old = ap (is_fit false) is.parts.old.is ∙ old_part_fit (old_image u) u.old.crew u.old.numbers u.rounds false;
       ready = ap (is_fit false) is.parts.ready.is ∙ taking_over_fit u false;
-      back = ap (is_fit false) is.parts.back.is ∙ from_fit (master_of u) (heir_of u) u.old.crew u.old.numbers u.rounds u.path false;
+      back = ap (is_fit false) is.parts.back.is ∙ from_fit (old_image u) (new_image u) u.old.crew u.old.numbers u.rounds u.path false;
     }
 
 -- the tree at its places, woven, is the one of the definition
@@ -70,7 +70,7 @@ pub drawn_tree : (d : Draft) (u : Upgrade) (drawn : Drawn) (held wanted : List A
     u.dropped.now ≡ only_in held wanted → u.added.now ≡ only_in wanted held → (turns : List Turn)
     → woven_at (steps_in d) drawn.first.0 drawn.parts turns
     ≡ upgrade_tree u.attended
-    (master_of u) u.old.crew u.new.crew u.old.numbers u.rounds u.path u.note held wanted u.workers turns
+    (old_image u) u.old.crew u.new.crew u.old.numbers u.rounds u.path u.note held wanted u.workers turns
 drawn_tree d u drawn held wanted is dropped added turns =
     let p = drawn.parts in
     let first = stands d drawn.first (beginning u) is.first in
@@ -85,7 +85,7 @@ pub drawn_length : (d : Draft) (u : Upgrade) (drawn : Drawn) (held wanted : List
     u.dropped.now ≡ only_in held wanted → u.added.now ≡ only_in wanted held
     → longest_at (steps_in d) drawn.first.0 drawn.parts
     ≡ upgrade_length u.attended
-    (master_of u) u.old.crew u.new.crew u.old.numbers u.rounds u.path u.note held wanted u.workers
+    (old_image u) u.old.crew u.new.crew u.old.numbers u.rounds u.path u.note held wanted u.workers
 drawn_length d u drawn held wanted is dropped added =
     let p = drawn.parts in
     let first = stands d drawn.first (beginning u) is.first in

@@ -13,7 +13,7 @@ use Rattle.definitions.specs.Plans.{back_alone, back_from, back_late, hand_over,
 use Rattle.call_laws.specs.Pieces.{spawn_edges}
 use Rattle.plan_pieces.proofs.Fitness.{settle_fit, quits_fit, awaits_gone_fit, remove_fit, starts_any_fit}
 use Rattle.plan_pieces.proofs.TriedFitness.{IsFit, move_fit, tries_fit, tries_all_fit}
-use Rattle.upgrade_planner.specs.Trees.{master_of, heir_of, way_back, coming_calls, coming_part, taking_over}
+use Rattle.upgrade_planner.specs.Trees.{old_image, new_image, way_back, coming_calls, coming_part, taking_over}
 use Rattle.upgrade_planner.specs.declared.upgrade.Upgrade.{Upgrade}
 
 ---- Ways back
@@ -84,7 +84,7 @@ beginning_fit by image crew ready rounds path note =
     (λ short. settle_fit by crew ready Old rounds short)
 
 pub coming_fit : (u : Upgrade) → IsFit (coming_part u)
-coming_fit u = tries_all_fit (heir_of u) (coming_calls u.new.crew u.dropped.now u.added.now u.coming.now) (Ends JoinReady) (Ends JoinBack) (λ short. refl) (λ short. refl)
+coming_fit u = tries_all_fit (new_image u) (coming_calls u.new.crew u.dropped.now u.added.now u.coming.now) (Ends JoinReady) (Ends JoinBack) (λ short. refl) (λ short. refl)
 
 pub old_part_fit : (by : ℕ) (crew : Crew) (ready : List ℕ) (rounds : ℕ) → IsFit (old_part by crew ready rounds)
 old_part_fit by crew ready zero true = refl
@@ -94,8 +94,8 @@ old_part_fit by crew ready (suc rounds) false = let h = old_part_fit by crew rea
 
 pub taking_over_fit : (u : Upgrade) → IsFit (taking_over u)
 taking_over_fit u =
-    let heir = heir_of u in
-    let on = relieve u.attended (master_of u) u.old.crew u.new.crew u.old.numbers u.rounds u.path u.workers in
-    let is_back = from_fit (master_of u) heir u.old.crew u.old.numbers u.rounds u.path in
+    let heir = new_image u in
+    let on = relieve u.attended (old_image u) u.old.crew u.new.crew u.old.numbers u.rounds u.path u.workers in
+    let is_back = from_fit (old_image u) heir u.old.crew u.old.numbers u.rounds u.path in
     tries_all_fit heir (pid_calls u.path WritePid) _ (way_back u)
-    (tries_fit heir (Census u.new.crew.generation) u.new.numbers on (way_back u) (relieve_fit u.attended (master_of u) u.old.crew u.new.crew u.old.numbers u.rounds u.path u.workers) is_back) is_back
+    (tries_fit heir (Census u.new.crew.generation) u.new.numbers on (way_back u) (relieve_fit u.attended (old_image u) u.old.crew u.new.crew u.old.numbers u.rounds u.path u.workers) is_back) is_back

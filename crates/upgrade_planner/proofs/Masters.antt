@@ -12,7 +12,7 @@ use Rattle.upgrade_planner.specs.declared.upgrade.Upgrade.{Upgrade}
 use Rattle.rollback_plan.specs.declared.draft.Draft.{Draft}
 use Rattle.rollback_plan.specs.Drafts.{tree_at}
 use Rattle.upgrade_planner.specs.declared.drawing.Drawn.{Drawn}
-use Rattle.upgrade_planner.specs.Trees.{master_of, heir_of, coming_calls, coming_part, staying_part, IsDrawn}
+use Rattle.upgrade_planner.specs.Trees.{old_image, new_image, coming_calls, coming_part, staying_part, IsDrawn}
 
 -- what a master tries is its own, as far as what follows is
 tries-by : (test : ℕ → Bool) (by : ℕ) (calls : List Call) (rest back : Tree) → test by ≡ true →
@@ -25,16 +25,16 @@ mends-by : (test : ℕ → Bool) (by : ℕ) (crew : Crew) (ready : List ℕ) (ro
 mends-by test by crew ready zero own = rw own refl
 mends-by test by crew ready (suc rounds) own = let more = mends-by test by crew ready rounds own in rw (own, more) refl
 
-pub parts-apart : (u : Upgrade) → heir_of u ≡ master_of u + 1 → are_apart (coming_part u) (staying_part u) ≡ true
+pub parts-apart : (u : Upgrade) → new_image u ≡ old_image u + 1 → are_apart (coming_part u) (staying_part u) ≡ true
 parts-apart u next =
-    apart_by (heir_of u) (master_of u) (coming_part u) (staying_part u) (λ same. absurd (omega (arith, next, same)))
-    (tries-by (λ image. image == heir_of u) (heir_of u) (coming_calls u.new.crew u.dropped.now u.added.now u.coming.now) (Ends JoinReady) (Ends JoinBack) (itself (heir_of u)) refl refl)
-    (mends-by (λ image. image == master_of u) (master_of u) u.old.crew u.old.numbers u.rounds (itself (master_of u)))
+    apart_by (new_image u) (old_image u) (coming_part u) (staying_part u) (λ same. absurd (omega (arith, next, same)))
+    (tries-by (λ image. image == new_image u) (new_image u) (coming_calls u.new.crew u.dropped.now u.added.now u.coming.now) (Ends JoinReady) (Ends JoinBack) (itself (new_image u)) refl refl)
+    (mends-by (λ image. image == old_image u) (old_image u) u.old.crew u.old.numbers u.rounds (itself (old_image u)))
   where
     itself : (image : ℕ) → (image == image) ≡ true
     itself image = grind (arith, nat_tests)
 
 -- No master has steps in both parts of an upgrade that stands in a draft.
-pub drawn_apart : (d : Draft) (u : Upgrade) (drawn : Drawn) → IsDrawn d u drawn → heir_of u ≡ master_of u + 1 →
+pub drawn_apart : (d : Draft) (u : Upgrade) (drawn : Drawn) → IsDrawn d u drawn → new_image u ≡ old_image u + 1 →
     are_apart (tree_at d drawn.parts.new) (tree_at d drawn.parts.old) ≡ true
 drawn_apart d u drawn made next = rw (made.parts.new.is, made.parts.old.is) (parts-apart u next)

@@ -22,7 +22,7 @@ use Rattle.call_laws.specs.Pieces.{quits}
 use Rattle.call_laws.specs.Lengths.{plan_length, upgrade_length}
 use Rattle.plan_steps.specs.Stretches.{is_last, aside, longest_of}
 use Rattle.plan_steps.specs.Woven.{part_end}
-use Rattle.upgrade_planner.specs.Trees.{asked_for, coming_calls, master_of, heir_of, way_back, coming_part, staying_part, taking_over, beginning}
+use Rattle.upgrade_planner.specs.Trees.{asked_for, coming_calls, old_image, new_image, way_back, coming_part, staying_part, taking_over, beginning}
 use Rattle.upgrade_planner.specs.declared.upgrade.Upgrade.{Upgrade}
 use Rattle.upgrade_planner.proofs.Lengths.{spawning, begun_split, begun_aside, begun_grafted}
 
@@ -47,10 +47,10 @@ new_part_is u held wanted d a =
     ∙ (ap (λ ks. part (coming_calls crew (only_in held wanted) (only_in wanted held) ks)) (u.come ∙ u.wanted)
     ∙ ap part (coming_is crew held wanted u.workers)))
 
-taken_over_is : (u : Upgrade) → taking_over u ≡ taken_over u.attended (master_of u) u.old.crew u.new.crew u.old.numbers u.rounds u.path u.workers (way_back u)
+taken_over_is : (u : Upgrade) → taking_over u ≡ taken_over u.attended (old_image u) u.old.crew u.new.crew u.old.numbers u.rounds u.path u.workers (way_back u)
 taken_over_is u =
-    let heir = heir_of u in
-    let on = relieve u.attended (master_of u) u.old.crew u.new.crew u.old.numbers u.rounds u.path u.workers in
+    let heir = new_image u in
+    let on = relieve u.attended (old_image u) u.old.crew u.new.crew u.old.numbers u.rounds u.path u.workers in
     ap (λ ks. tries_all heir (pid_calls u.path WritePid) (tries heir (Census u.new.crew.generation) ks on (way_back u)) (way_back u)) u.wanted
 
 ---- The whole
@@ -69,14 +69,14 @@ unmarked ready back new old turns Join h = refl
 pub woven_is : (u : Upgrade) (held wanted : List Address) → u.dropped.now ≡ only_in held wanted → u.added.now ≡ only_in wanted held → (turns : List Turn)
     → graft (part_end (taking_over u) (way_back u) (coming_part u) (staying_part u) turns) (beginning u)
     ≡ upgrade_tree u.attended
-    (master_of u) u.old.crew u.new.crew u.old.numbers u.rounds u.path u.note held wanted u.workers turns
+    (old_image u) u.old.crew u.new.crew u.old.numbers u.rounds u.path u.note held wanted u.workers turns
 woven_is u held wanted d a turns =
-    let by = master_of u in
+    let by = old_image u in
     let all = λ (ready new : Tree). graft (part_end ready (way_back u) new (staying_part u) turns) (beginning u) in
     ap (λ t. all t (coming_part u)) (taken_over_is u)
     ∙ (ap (λ t. all (taken_over u.attended by u.old.crew u.new.crew u.old.numbers u.rounds u.path u.workers (way_back u)) t) (new_part_is u held wanted d a)
     ∙ begun_grafted (part_end (taken_over u.attended by u.old.crew u.new.crew u.old.numbers u.rounds u.path u.workers (way_back u)) (way_back u) (new_part u.new.crew held wanted u.workers) (staying_part u) turns)
-    (unmarked (taken_over u.attended by u.old.crew u.new.crew u.old.numbers u.rounds u.path u.workers (way_back u)) (way_back u) (new_part u.new.crew held wanted u.workers) (staying_part u) turns) by (heir_of u) u.old.crew u.old.numbers u.rounds u.path u.note)
+    (unmarked (taken_over u.attended by u.old.crew u.new.crew u.old.numbers u.rounds u.path u.workers (way_back u)) (way_back u) (new_part u.new.crew held wanted u.workers) (staying_part u) turns) by (new_image u) u.old.crew u.old.numbers u.rounds u.path u.note)
 
 greatest : (a b c : ℕ) → c ≤ b → max (max a b) c ≡ max a b
 greatest a b c h = omega (arith, h)
@@ -85,10 +85,10 @@ greatest a b c h = omega (arith, h)
 pub length_is : (u : Upgrade) (held wanted : List Address) → u.dropped.now ≡ only_in held wanted → u.added.now ≡ only_in wanted held
     → longest_of (beginning u) (coming_part u) (staying_part u) (taking_over u) (way_back u)
     ≡ upgrade_length u.attended
-    (master_of u) u.old.crew u.new.crew u.old.numbers u.rounds u.path u.note held wanted u.workers
+    (old_image u) u.old.crew u.new.crew u.old.numbers u.rounds u.path u.note held wanted u.workers
 length_is u held wanted d a =
-    let by = master_of u in
-    let heir = heir_of u in
+    let by = old_image u in
+    let heir = new_image u in
     let start = begun_split by heir u.old.crew u.old.numbers u.rounds u.path u.note in
     let aside_too = begun_aside by heir u.old.crew u.old.numbers u.rounds u.path u.note in
     let before = height (move_aside by u.path u.note (spawning by heir (Ends Split) (Ends Done)) (Ends Done)) in

@@ -40,38 +40,38 @@ coming_calls crew dropped added numbers = Adopt ∷ (map CloseAt dropped ++ (map
 
 ---- What an upgrade is drawn of
 
-abbrev pub master_of : Upgrade → ℕ
-master_of u = u.old.crew.generation.image
+abbrev pub old_image : Upgrade → ℕ
+old_image u = u.old.crew.generation.image
 
-abbrev pub heir_of : Upgrade → ℕ
-heir_of u = u.new.crew.generation.image
+abbrev pub new_image : Upgrade → ℕ
+new_image u = u.new.crew.generation.image
 
 -- the way back from a new master that can be stopped
 abbrev pub way_back : Upgrade → Tree
-way_back u = back_from (master_of u) (heir_of u) u.old.crew u.old.numbers u.rounds u.path
+way_back u = back_from (old_image u) (new_image u) u.old.crew u.old.numbers u.rounds u.path
 
 -- the new master's part
 abbrev pub coming_part : Upgrade → Tree
-coming_part u = tries_all (heir_of u) (coming_calls u.new.crew u.dropped.now u.added.now u.coming.now) (Ends JoinReady) (Ends JoinBack)
+coming_part u = tries_all (new_image u) (coming_calls u.new.crew u.dropped.now u.added.now u.coming.now) (Ends JoinReady) (Ends JoinBack)
 
 -- the old master's part
 abbrev pub staying_part : Upgrade → Tree
-staying_part u = old_part (master_of u) u.old.crew u.old.numbers u.rounds
+staying_part u = old_part (old_image u) u.old.crew u.old.numbers u.rounds
 
 -- What follows where the new master's part is ready.
 abbrev pub taking_over : Upgrade → Tree
 taking_over u =
-    tries_all (heir_of u) (pid_calls u.path WritePid)
-    (tries (heir_of u) (Census u.new.crew.generation) u.new.numbers
-    (relieve u.attended (master_of u) u.old.crew u.new.crew u.old.numbers u.rounds u.path u.workers) (way_back u))
+    tries_all (new_image u) (pid_calls u.path WritePid)
+    (tries (new_image u) (Census u.new.crew.generation) u.new.numbers
+    (relieve u.attended (old_image u) u.old.crew u.new.crew u.old.numbers u.rounds u.path u.workers) (way_back u))
     (way_back u)
 
 -- What comes before the parts, of which the mark stands for both.
 abbrev pub beginning : Upgrade → Tree
 beginning u =
-    move_aside (master_of u) u.path u.note
-    (does (master_of u) (SpawnMaster (heir_of u)) (spawn_edges (Ends Split) (back_alone (master_of u) u.old.crew u.old.numbers u.rounds u.path)))
-    (settle (master_of u) u.old.crew u.old.numbers Old u.rounds)
+    move_aside (old_image u) u.path u.note
+    (does (old_image u) (SpawnMaster (new_image u)) (spawn_edges (Ends Split) (back_alone (old_image u) u.old.crew u.old.numbers u.rounds u.path)))
+    (settle (old_image u) u.old.crew u.old.numbers Old u.rounds)
 
 -- both parts and what follows them stand in a draft
 pub record AreInPlace (d : Draft) (u : Upgrade) (parts : Parts) : Type 0 where

@@ -8,7 +8,7 @@ ghost use Rattle.call_laws.specs.Pieces.{spawn_edges};
 ghost use Rattle.rollback_plan.specs.declared.draft.DraftRefusal.TheVariants.{TooLarge};
 ghost use Rattle.rollback_plan.specs.declared.draft.TheConstants.{MOST_STEPS};
 ghost use Rattle.rollback_plan.specs.Drafts.{trees_of, tree_at, splits_in, IsMade, Extends, GrowsWithin};
-ghost use Rattle.upgrade_planner.specs.Trees.{master_of, heir_of, way_back, AreInPlace, IsDrawn};
+ghost use Rattle.upgrade_planner.specs.Trees.{old_image, new_image, way_back, AreInPlace, IsDrawn};
 
 use crate::backing::{UpgradeWaysBack, add_ways_back};
 use crate::pid_file::add_move_aside;
@@ -34,7 +34,7 @@ fn add_parts(
 ) -> Result<Parts, DraftRefusal>
     requires room { HasSuffixRoom upgrade.now.path }
     requires stopped { IsMade draft.old back.stopped (way_back upgrade.now) }
-    requires restarted { IsMade draft.old back.restarted (back_late (master_of upgrade.now) (heir_of upgrade.now) upgrade.now.old.crew upgrade.now.old.numbers upgrade.now.rounds upgrade.now.path) }
+    requires restarted { IsMade draft.old back.restarted (back_late (old_image upgrade.now) (new_image upgrade.now) upgrade.now.old.crew upgrade.now.old.numbers upgrade.now.rounds upgrade.now.path) }
     ensures made { IfOk result (λ parts. AreInPlace draft.new upgrade.now parts) }
     ensures grows { GrowsWithin draft.old draft.new result (8 * upgrade.now.rounds + 6 * length upgrade.now.old.numbers + 2 * length upgrade.now.coming.now + length upgrade.now.dropped.now + length upgrade.now.added.now + 10) }
 {
@@ -61,7 +61,7 @@ fn add_spawn(
     requires new { parts.now.new.0 < length (trees_of draft.old) }
     requires old { parts.now.old.0 < length (trees_of draft.old) }
     requires failed { failed.0 < length (trees_of draft.old) }
-    ensures made { IfOk result (λ place. IsMade draft.new place (does (master_of upgrade.now) (call.SpawnMaster (heir_of upgrade.now)) (spawn_edges (Ends Split) (tree_at draft.old failed)))) }
+    ensures made { IfOk result (λ place. IsMade draft.new place (does (old_image upgrade.now) (call.SpawnMaster (new_image upgrade.now)) (spawn_edges (Ends Split) (tree_at draft.old failed)))) }
     ensures count { OnOk result (length (trees_of draft.new) ≡ length (trees_of draft.old) + 1) }
     ensures extends { Extends draft.old draft.new }
     ensures splits { IsTrue (splits_in parts.now.new.0 parts.now.old.0 draft.old) → IsTrue (splits_in parts.now.new.0 parts.now.old.0 draft.new) }

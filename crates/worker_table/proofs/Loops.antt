@@ -5,7 +5,7 @@ use Rattle.std.proofs.lemmas.Bool.Decides.{nat_tests}
 use Rattle.std.specs.Option.{option_flatten}
 use Rattle.listener_set.specs.Numbers.{is_in, with_number, RisesFrom, AreNumbers}
 use Rattle.listener_set.proofs.Rising.{is_in-with_number, RisesFrom-with_number, same_rising}
-use Rattle.worker_table.specs.Beats.{Workers, numbers_in, beat_of, last_beat, with_beat, is_late, overdue_numbers, kept_beat, followed}
+use Rattle.worker_table.specs.Beats.{Workers, numbers_in, beat_of, last_beat, with_beat, is_overdue, overdue_numbers, kept_beat, followed}
 use Rattle.worker_table.proofs.Orders.{Rise, Rise-filter, is_in-overdue_numbers, beat_of-followed, Rise-followed, AreBelow-followed, beat_of-above, same_workers}
 use Rattle.worker_table.proofs.PlaceLemmas.{Rise-with_beat, beat_of-with_beat}
 
@@ -14,52 +14,52 @@ use Rattle.worker_table.proofs.PlaceLemmas.{Rise-with_beat, beat_of-with_beat}
 -- the late ones below n
 pub record Gathers (ws : Workers) (now timeout n : ℕ) (late : List ℕ) : Type 0 where
   pub rises : RisesFrom 0 late
-  pub gathered : (q : ℕ) → is_in late q ≡ (nat_lt q n && is_late now timeout (last_beat ws q))
+  pub gathered : (q : ℕ) → is_in late q ≡ (nat_lt q n && is_overdue now timeout (last_beat ws q))
 
 pub Gathers-none : (ws : Workers) (now timeout : ℕ) → Gathers ws now timeout 0 []
 Gathers-none ws now timeout = record { rises = tt; gathered = λ q. grind (arith, nat_tests) }
 
-pub Gathers-one : (ws : Workers) (now timeout n : ℕ) (late : List ℕ) → Gathers ws now timeout n late → is_late now timeout (last_beat ws n) ≡ true → Gathers ws now timeout (n + 1) (with_number late n)
+pub Gathers-one : (ws : Workers) (now timeout n : ℕ) (late : List ℕ) → Gathers ws now timeout n late → is_overdue now timeout (last_beat ws n) ≡ true → Gathers ws now timeout (n + 1) (with_number late n)
 Gathers-one ws now timeout n late h overdue = record {
   rises = RisesFrom-with_number late n 0 (omega arith) h.rises;
   gathered = λ q. is_in-with_number late n q ∙ ap (λ b. nat_eq n q || b) (h.gathered q) ∙ at q (cases_eq q n);
 }
   where
-    at : (q : ℕ) → (q ≡ n) ⊎ (q ≡ n → ⊥) → (nat_eq n q || (nat_lt q n && is_late now timeout (last_beat ws q))) ≡ (nat_lt q (n + 1) && is_late now timeout (last_beat ws q))
+    at : (q : ℕ) → (q ≡ n) ⊎ (q ≡ n → ⊥) → (nat_eq n q || (nat_lt q n && is_overdue now timeout (last_beat ws q))) ≡ (nat_lt q (n + 1) && is_overdue now timeout (last_beat ws q))
     at q (inl e) =
         let same : nat_eq n q ≡ true = grind (arith, nat_tests) in
         let below : nat_lt q (n + 1) ≡ true = grind (arith, nat_tests) in
-        rw (same, below) (sym overdue ∙ ap (λ k. is_late now timeout (last_beat ws k)) (sym e))
+        rw (same, below) (sym overdue ∙ ap (λ k. is_overdue now timeout (last_beat ws k)) (sym e))
     at q (inr ne) =
         let other : nat_eq n q ≡ false = grind (arith, nat_tests) in
         let below : nat_lt q (n + 1) ≡ nat_lt q n = grind (arith, nat_tests) in
         rw (other, below) refl
 
-pub Gathers-pass : (ws : Workers) (now timeout n : ℕ) (late : List ℕ) → Gathers ws now timeout n late → is_late now timeout (last_beat ws n) ≡ false → Gathers ws now timeout (n + 1) late
+pub Gathers-pass : (ws : Workers) (now timeout n : ℕ) (late : List ℕ) → Gathers ws now timeout n late → is_overdue now timeout (last_beat ws n) ≡ false → Gathers ws now timeout (n + 1) late
 Gathers-pass ws now timeout n late h early = record {
   rises = h.rises;
   gathered = λ q. h.gathered q ∙ at q (cases_eq q n);
 }
   where
-    at : (q : ℕ) → (q ≡ n) ⊎ (q ≡ n → ⊥) → (nat_lt q n && is_late now timeout (last_beat ws q)) ≡ (nat_lt q (n + 1) && is_late now timeout (last_beat ws q))
+    at : (q : ℕ) → (q ≡ n) ⊎ (q ≡ n → ⊥) → (nat_lt q n && is_overdue now timeout (last_beat ws q)) ≡ (nat_lt q (n + 1) && is_overdue now timeout (last_beat ws q))
     at q (inl e) =
         let under : nat_lt q n ≡ false = grind (arith, nat_tests) in
         let below : nat_lt q (n + 1) ≡ true = grind (arith, nat_tests) in
-        rw (under, below) (sym early ∙ ap (λ k. is_late now timeout (last_beat ws k)) (sym e))
+        rw (under, below) (sym early ∙ ap (λ k. is_overdue now timeout (last_beat ws k)) (sym e))
     at q (inr ne) =
         let below : nat_lt q (n + 1) ≡ nat_lt q n = grind (arith, nat_tests) in
         rw below refl
 
 pub Gathers-all : (ws : Workers) (now timeout n : ℕ) (late : List ℕ) → AreNumbers 1024 (numbers_in ws) → 1024 ≤ n → Gathers ws now timeout n late → late ≡ overdue_numbers ws now timeout
 Gathers-all ws now timeout n late numbers le h =
-    same_rising late (overdue_numbers ws now timeout) 0 h.rises (Rise-filter (λ w. is_late now timeout w.1) ws 0 numbers.rising)
+    same_rising late (overdue_numbers ws now timeout) 0 h.rises (Rise-filter (λ w. is_overdue now timeout w.1) ws 0 numbers.rising)
     (λ q. h.gathered q ∙ at q (cases_lt q n) ∙ sym (is_in-overdue_numbers ws now timeout 0 q numbers.rising))
   where
-    at : (q : ℕ) → (q < n) ⊎ (n ≤ q) → (nat_lt q n && is_late now timeout (last_beat ws q)) ≡ is_late now timeout (last_beat ws q)
+    at : (q : ℕ) → (q < n) ⊎ (n ≤ q) → (nat_lt q n && is_overdue now timeout (last_beat ws q)) ≡ is_overdue now timeout (last_beat ws q)
     at q (inl low) = let yes : nat_lt q n ≡ true = grind (arith, nat_tests) in rw yes refl
     at q (inr high) =
         let no : nat_lt q n ≡ false = grind (arith, nat_tests) in
-        rw no (sym (ap (λ o. is_late now timeout (option_flatten o)) (beat_of-above ws 1024 q numbers.below (omega arith))))
+        rw no (sym (ap (λ o. is_overdue now timeout (option_flatten o)) (beat_of-above ws 1024 q numbers.below (omega arith))))
 
 -- ---- following a plan
 

@@ -4,7 +4,7 @@ use Rattle.std.proofs.lemmas.Bool.{cases_lt, cases_eq, true≢false}
 use Rattle.std.proofs.lemmas.Bool.Decides.{nat_tests}
 use Rattle.std.specs.Option.{option_flatten}
 use Rattle.listener_set.specs.Numbers.{is_in, RisesFrom, AreBelow}
-use Rattle.worker_table.specs.Beats.{Workers, numbers_in, beat_of, has_worker, with_worker, without_worker, is_late, overdue_numbers, last_beat, kept_beat, followed}
+use Rattle.worker_table.specs.Beats.{Workers, numbers_in, beat_of, has_worker, with_worker, without_worker, is_overdue, overdue_numbers, last_beat, kept_beat, followed}
 
 abbrev pub Rise : ℕ → Workers → Type 0
 Rise bound ws = RisesFrom bound (numbers_in ws)
@@ -110,20 +110,20 @@ AreBelow-numbers_in (w ∷ ws) bound limit h below =
     later q (inr high) e = let other : nat_eq q w.0 ≡ false = grind (arith, nat_tests) in below q (rw other e)
 
 -- ---- the late ones
-pub is_in-overdue_numbers : (ws : Workers) (now timeout bound q : ℕ) → Rise bound ws → is_in (overdue_numbers ws now timeout) q ≡ is_late now timeout (last_beat ws q)
+pub is_in-overdue_numbers : (ws : Workers) (now timeout bound q : ℕ) → Rise bound ws → is_in (overdue_numbers ws now timeout) q ≡ is_overdue now timeout (last_beat ws q)
 is_in-overdue_numbers [] now timeout bound q h = refl
 is_in-overdue_numbers (w ∷ ws) now timeout bound q h =
     let rest = is_in-overdue_numbers ws now timeout (w.0 + 1) q h.1 in
     elim (cases_eq q w.0) [
-      | inl e ↦ (let same : nat_eq q w.0 ≡ true = grind (arith, nat_tests) in rw same (here rest e (is_late now timeout w.1)))
-      | inr ne ↦ (let other : nat_eq q w.0 ≡ false = grind (arith, nat_tests) in rw other (there rest ne (is_late now timeout w.1)))
+      | inl e ↦ (let same : nat_eq q w.0 ≡ true = grind (arith, nat_tests) in rw same (here rest e (is_overdue now timeout w.1)))
+      | inr ne ↦ (let other : nat_eq q w.0 ≡ false = grind (arith, nat_tests) in rw other (there rest ne (is_overdue now timeout w.1)))
     ]
   where
-    here : is_in (overdue_numbers ws now timeout) q ≡ is_late now timeout (last_beat ws q) → q ≡ w.0 → (b : Bool) → is_in (numbers_in (cond b (w ∷ filter (λ u. is_late now timeout u.1) ws) (filter (λ u. is_late now timeout u.1) ws))) q ≡ b
+    here : is_in (overdue_numbers ws now timeout) q ≡ is_overdue now timeout (last_beat ws q) → q ≡ w.0 → (b : Bool) → is_in (numbers_in (cond b (w ∷ filter (λ u. is_overdue now timeout u.1) ws) (filter (λ u. is_overdue now timeout u.1) ws))) q ≡ b
     here rest e true = let same : nat_eq w.0 q ≡ true = grind (arith, nat_tests) in rw same refl
-    here rest e false = rest ∙ ap (λ o. is_late now timeout (option_flatten o)) (beat_of-below ws (w.0 + 1) q h.1 (omega arith))
+    here rest e false = rest ∙ ap (λ o. is_overdue now timeout (option_flatten o)) (beat_of-below ws (w.0 + 1) q h.1 (omega arith))
 
-    there : is_in (overdue_numbers ws now timeout) q ≡ is_late now timeout (last_beat ws q) → (q ≡ w.0 → ⊥) → (b : Bool) → is_in (numbers_in (cond b (w ∷ filter (λ u. is_late now timeout u.1) ws) (filter (λ u. is_late now timeout u.1) ws))) q ≡ is_late now timeout (last_beat ws q)
+    there : is_in (overdue_numbers ws now timeout) q ≡ is_overdue now timeout (last_beat ws q) → (q ≡ w.0 → ⊥) → (b : Bool) → is_in (numbers_in (cond b (w ∷ filter (λ u. is_overdue now timeout u.1) ws) (filter (λ u. is_overdue now timeout u.1) ws))) q ≡ is_overdue now timeout (last_beat ws q)
     there rest ne true = let other : nat_eq w.0 q ≡ false = grind (arith, nat_tests) in rw other rest
     there rest ne false = rest
 

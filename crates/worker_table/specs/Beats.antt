@@ -37,13 +37,13 @@ with_beat workers nr None = without_worker workers nr
 with_beat workers nr (Some beat) = with_worker workers nr beat
 
 -- whether a worker has beaten, and the moment is more than the timeout after its last beat
-abbrev pub is_late : ℕ → ℕ → Option ℕ → Bool
-is_late now timeout None = false
-is_late now timeout (Some last) = nat_lt last now && nat_lt timeout (now - last)
+abbrev pub is_overdue : ℕ → ℕ → Option ℕ → Bool
+is_overdue now timeout None = false
+is_overdue now timeout (Some last) = nat_lt last now && nat_lt timeout (now - last)
 
 -- the numbers of the late workers
 abbrev pub overdue_numbers : Workers → ℕ → ℕ → List ℕ
-overdue_numbers workers now timeout = numbers_in (filter (λ w. is_late now timeout w.1) workers)
+overdue_numbers workers now timeout = numbers_in (filter (λ w. is_overdue now timeout w.1) workers)
 
 -- the last beat of a number whose worker may have been started anew
 abbrev pub kept_beat : Workers → List ℕ → ℕ → Option ℕ

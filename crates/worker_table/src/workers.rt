@@ -1,7 +1,7 @@
 //! The table of workers.
 ghost use Rattle.std.specs.Prelude.{◌≡◌, ◌<◌, ℕ, [], true, None, IfOk, IfSome, IfNone, OnSome, IsTrue, OnOk, OnErr};
 ghost use Rattle.listener_set.specs.Numbers.{AreNumbers};
-ghost use Rattle.worker_table.specs.Beats.{beat_of, last_beat, has_worker, numbers_in, with_beat, with_worker, without_worker, is_late, overdue_numbers, followed, IsLowestMissing};
+ghost use Rattle.worker_table.specs.Beats.{beat_of, last_beat, has_worker, numbers_in, with_beat, with_worker, without_worker, is_overdue, overdue_numbers, followed, IsLowestMissing};
 ghost use Rattle.worker_table.specs.Calls.{adding, removing, beating};
 
 use crate::TableRefusal;
@@ -124,7 +124,7 @@ impl WorkerTable {
         let _places = &self.places;
         let mut overdue = Numbers::none();
         for nr in 0..WORKER_LIMIT {
-            if is_late(now, timeout, self.last_beat(nr)) {
+            if is_overdue(now, timeout, self.last_beat(nr)) {
                 overdue.add(nr);
             }
         }
@@ -164,8 +164,8 @@ impl WorkerTable {
 }
 
 /// Whether a worker has beaten, and `now` is more than `timeout` after its last beat.
-fn is_late(now: u64, timeout: u32, last: Option<u64>) -> bool
-    ensures { result ≡ is_late now timeout last }
+fn is_overdue(now: u64, timeout: u32, last: Option<u64>) -> bool
+    ensures { result ≡ is_overdue now timeout last }
 {
     match last {
         None => false,

@@ -14,7 +14,7 @@ use Rattle.mismatches.specs.declared.Mismatch.{Mismatch}
 use Rattle.certifier.specs.Places.{planned_start, HasTaken, StopsBy}
 use Rattle.certifier.specs.Explained.{IsReady, IsNoBeginning}
 use Rattle.plan_executor.specs.Codes.{mismatch_of}
-use Rattle.certifier.proofs.Explaining.{starts}
+use Rattle.certifier.proofs.Explaining.{origin}
 use Rattle.certifier.proofs.Holding.{shows-all}
 use Rattle.certifier.proofs.Matching.{IsExactly, plain-beginnings, exact-unready, exact-planless, exact-short, answered-beginning, complete-beginning}
 use Rattle.certifier.proofs.beginning.certify_beginning.Goals as goal
@@ -79,7 +79,7 @@ returns-in_err-replay-clause-exact c =
     let ready : IsReady t r target = record { agrees = agrees; has_plan = plan; numbers = subst (λ n. LacksNumbers t n → ⊥) longest c.in_ok-copy.ensures.numbers } in
     let image : c.state.inside.generation.image ≡ r.generation.image = ap (λ (x : Record). x.generation.image) c.state.view_is in
     let same : listed c.heir_of-heir.result ≡ heirs_of r target = c.heir_of-heir.ensures in
-    let start : planned_start c.in_ok-plan.plan c.in_ok-copy.copy.table c.state.inside.generation.image ≡ starts t r target =
+    let start : planned_start c.in_ok-plan.plan c.in_ok-copy.copy.table c.state.inside.generation.image ≡ origin t r target =
     λ i. record { trail = λ turns. begin (c.in_ok-plan.ensures.tree turns i) (c.in_ok-plan.ensures.note i); table = (c.in_ok-copy.ensures.same i).table; executing = image i ∷ [] } in
     let p = err_from_is_err_and c.from_residual-in_err-replay.result c.from_residual-in_err-replay.ensures.1 in
     let why = c.in_err-replay.field-0.0 in
@@ -104,12 +104,12 @@ returns c =
     let ready : IsReady t r target = record { agrees = agrees; has_plan = plan; numbers = subst (λ n. LacksNumbers t n → ⊥) longest c.in_ok-copy.ensures.numbers } in
     let image : c.state.inside.generation.image ≡ r.generation.image = ap (λ (x : Record). x.generation.image) c.state.view_is in
     let same : listed c.heir_of-heir.result ≡ heirs_of r target = c.heir_of-heir.ensures in
-    let start : planned_start c.in_ok-plan.plan c.in_ok-copy.copy.table c.state.inside.generation.image ≡ starts t r target =
+    let start : planned_start c.in_ok-plan.plan c.in_ok-copy.copy.table c.state.inside.generation.image ≡ origin t r target =
     λ i. record { trail = λ turns. begin (c.in_ok-plan.ensures.tree turns i) (c.in_ok-plan.ensures.note i); table = (c.in_ok-copy.ensures.same i).table; executing = image i ∷ [] } in
     let handed = handover_for r target in
     let heirs = heirs_of r target in
     let sides = sides_of r target in
-    let from = starts t r target in
+    let from = origin t r target in
     let x = c.in_ok-replay.replay in
     let taken : HasTaken handed heirs sides from es x =
     subst (λ (X : Type 0). X) (λ i. HasTaken (c.in_ok-plan.ensures.text.read i) (same i) (c.in_ok-plan.ensures.sides i) (start i) es x) c.in_ok-replay.ensures.ok in

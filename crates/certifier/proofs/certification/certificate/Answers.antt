@@ -14,7 +14,7 @@ use Rattle.mismatches.specs.declared.Mismatch.{Mismatch}
 use Rattle.certifier.specs.Places.{planned_start, HasTaken, StopsBy}
 use Rattle.certifier.specs.Explained.{IsReady, IsMismatch}
 use Rattle.plan_executor.specs.Codes.{mismatch_of}
-use Rattle.certifier.proofs.Explaining.{starts}
+use Rattle.certifier.proofs.Explaining.{origin}
 use Rattle.certifier.proofs.Holding.{ends-well, ends-badly, ends-led, stops-so}
 use Rattle.certifier.proofs.Matching.{IsExact, plain-mismatches, exact-unready, exact-planless, exact-short, answered}
 use Rattle.certifier.proofs.Complete.{IsDue, complete-by, unready-refused}
@@ -90,7 +90,7 @@ returns-in_err-replay-clause-exact c =
     let ready : IsReady t r target = record { agrees = agrees; has_plan = plan; numbers = subst (λ n. LacksNumbers t n → ⊥) longest c.in_ok-copy.ensures.numbers } in
     let image : c.state.inside.generation.image ≡ r.generation.image = ap (λ (x : Record). x.generation.image) c.state.view_is in
     let same : listed c.heir_of-heir.result ≡ heirs_of r target = c.heir_of-heir.ensures in
-    let start : planned_start c.in_ok-plan.plan c.in_ok-copy.copy.table c.state.inside.generation.image ≡ starts t r target =
+    let start : planned_start c.in_ok-plan.plan c.in_ok-copy.copy.table c.state.inside.generation.image ≡ origin t r target =
     λ i. record { trail = λ turns. begin (c.in_ok-plan.ensures.tree turns i) (c.in_ok-plan.ensures.note i); table = (c.in_ok-copy.ensures.same i).table; executing = image i ∷ [] } in
     let p = err_from_is_err_and c.from_residual-in_err-replay.result c.from_residual-in_err-replay.ensures.1 in
     let why = c.in_err-replay.field-0.0 in
@@ -98,7 +98,7 @@ returns-in_err-replay-clause-exact c =
     let stops = subst (λ (X : Type 0). X) (λ i. StopsBy (c.in_ok-plan.ensures.text.read i) (same i) (start i) es why) c.in_err-replay.ensures.err in
     let failed : Result Certificate Mismatch = Err why in
     subst (IsExact t r target es report) (sym (p.1 ∙ ap Err alike))
-    (answered (λ (it : Certificate). it.section) t r target es report ready failed tt (stops-so (handover_for r target) (heirs_of r target) (sides_of r target) (starts t r target) es report why stops))
+    (answered (λ (it : Certificate). it.section) t r target es report ready failed tt (stops-so (handover_for r target) (heirs_of r target) (sides_of r target) (origin t r target) es report why stops))
 
 pub returns-in_err-replay-clause-complete : goal.returns-in_err-replay-clause-complete
 returns-in_err-replay-clause-complete c =
@@ -135,12 +135,12 @@ returns c =
     } in
     let image : c.state.inside.generation.image ≡ r.generation.image = ap (λ (x : Record). x.generation.image) c.state.view_is in
     let same : listed c.heir_of-heir.result ≡ heirs_of r target = c.heir_of-heir.ensures in
-    let start : planned_start c.in_ok-plan.plan c.in_ok-copy.copy.table c.state.inside.generation.image ≡ starts t r target =
+    let start : planned_start c.in_ok-plan.plan c.in_ok-copy.copy.table c.state.inside.generation.image ≡ origin t r target =
     λ i. record { trail = λ turns. begin (c.in_ok-plan.ensures.tree turns i) (c.in_ok-plan.ensures.note i); table = (c.in_ok-copy.ensures.same i).table; executing = image i ∷ [] } in
     let handed = handover_for r target in
     let heirs = heirs_of r target in
     let sides = sides_of r target in
-    let from = starts t r target in
+    let from = origin t r target in
     let x = c.in_ok-replay.replay in
     let taken : HasTaken handed heirs sides from es x =
     subst (λ (X : Type 0). X) (λ i. HasTaken (c.in_ok-plan.ensures.text.read i) (same i) (c.in_ok-plan.ensures.sides i) (start i) es x) c.in_ok-replay.ensures.ok in

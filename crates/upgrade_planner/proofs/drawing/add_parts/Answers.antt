@@ -4,7 +4,7 @@ use Rattle.definitions.specs.Run.{Tree}
 use Rattle.definitions.specs.Plans.{old_part, pid_calls, relieve, tries, tries_all}
 use Rattle.rollback_plan.specs.Drafts.{IsMade, tree_at}
 use Rattle.rollback_plan.proofs.DraftTrees.{keeps_on, made_kept, at_kept}
-use Rattle.upgrade_planner.specs.Trees.{master_of, heir_of, way_back}
+use Rattle.upgrade_planner.specs.Trees.{old_image, new_image, way_back}
 use Rattle.upgrade_planner.proofs.Growing.{Grown, all_grown, grown, grown_on, refused_grown, within}
 use Rattle.upgrade_planner.proofs.drawing.add_parts.Goals as goal
 
@@ -44,8 +44,8 @@ returns-clause-made c =
     let k4 = c.in_ok-staying.ensures.grows.keeps in
     let k34 = keeps_on d2 d3 d4 k3 k4 in
     let k24 = keeps_on d1 d2 d4 c.in_ok-ready.ensures.grows.keeps k34 in
-    let on = relieve u.attended (master_of u) u.old.crew u.new.crew u.old.numbers u.rounds u.path u.workers in
-    let over = λ (rest back : Tree). tries_all (heir_of u) (pid_calls u.path WritePid) (tries (heir_of u) (Census u.new.crew.generation) u.new.numbers rest back) back in
+    let on = relieve u.attended (old_image u) u.old.crew u.new.crew u.old.numbers u.rounds u.path u.workers in
+    let over = λ (rest back : Tree). tries_all (new_image u) (pid_calls u.path WritePid) (tries (new_image u) (Census u.new.crew.generation) u.new.numbers rest back) back in
     let goes_on = c.in_ok-relief.ensures.made.is in
     let goes_back = at_kept d0 d1 c.args.back.stopped k1 c.requires.stopped.below ∙ c.requires.stopped.is in
     let ready = subst (IsMade d2 c.in_ok-ready.ready) (ap (λ t. over t (tree_at d1 c.args.back.stopped)) goes_on ∙ ap (over on) goes_back) c.in_ok-ready.ensures.made in

@@ -8,7 +8,7 @@ use Rattle.explorer.specs.declared.events.Tried.{Tried}
 use Rattle.explorer.specs.Events.{pattern_of}
 use Rattle.explorer.specs.Explored.{report_under}
 use Rattle.explorer.specs.Positions.{after_due}
-use Rattle.explorer.proofs.Ending.{reported}
+use Rattle.explorer.proofs.Ending.{reports_it}
 use Rattle.explorer.proofs.position.Position.finish.Goals as goal
 
 pub make-requires-clause-moment : goal.make-requires-clause-moment
@@ -46,5 +46,5 @@ returns-clause-report c = λ p at.
     let handed = handover_for run.state.now run.target.now in
     let over = c.in_default.ensures.none in
     let whole : c.report.result ≡ report_under run.state.now run.target.now (turns_of run.course) run.first.now.table run.tried =
-    reported handed (sides_of run.state.now run.target.now) (trail_on run.course) (pattern_of run.tried) q.0 (run_of run.state.now run.target.now (turns_of run.course) (pattern_of run.tried) run.first.now.table) c.report.result over q.1.trail (q.1.come.ends (pattern_of run.tried) (λ m le. refl)) (subst (λ sides. Reports sides (trail_on run.course) c.report.result) q.1.sides c.report.ensures) in
+    reports_it handed (sides_of run.state.now run.target.now) (trail_on run.course) (pattern_of run.tried) q.0 (run_of run.state.now run.target.now (turns_of run.course) (pattern_of run.tried) run.first.now.table) c.report.result over q.1.trail (q.1.come.ends (pattern_of run.tried) (λ m le. refl)) (subst (λ sides. Reports sides (trail_on run.course) c.report.result) q.1.sides c.report.ensures) in
     whole ∙ (λ i. report_under (kept.state i) (kept.target i) (kept.turns i) (kept.first i).table (kept.tried i))

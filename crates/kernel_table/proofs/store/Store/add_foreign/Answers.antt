@@ -1,5 +1,5 @@
 use Rattle.std.proofs.Common.{◌≡◌, ℕ, ◌+◌, List, [], ◌∷◌, ◌++◌, length, refl, ap, ◌∙◌, arith, rules}
-use Rattle.listener_set.specs.Descriptors.{descriptors_of, lowest_free, put_pair}
+use Rattle.listener_set.specs.Descriptors.{descriptors_of, lowest_unused, put_pair}
 use Rattle.kernel_rows.specs.declared.process.Row.TheVariants as row
 use Rattle.kernel_rows.specs.declared.process.Holder.{Holder}
 use Rattle.kernel_table.proofs.Foreigners.{foreign-table}
@@ -19,7 +19,7 @@ returns-clause-table c =
     let holds : c.put.new.self ≡ (fd, socket) ∷ [] = after ∙ ap (λ (ps : List (ℕ × ℕ)). put_pair ps fd socket) c.new-holds.ensures in
     let all : c.push-2.new.self.items ≡ s.holders.items ++ (record { row = row.Foreign s.next_process; holds = (fd, socket) ∷ [] }) ∷ [] =
     pushed ∙ ap (λ (hs : List (ℕ × ℕ)). let h : Holder = record { row = row.Foreign s.next_process; holds = hs } in s.holders.items ++ h ∷ []) holds in
-    foreign-table s c.args.address.now c.push.new.self.items c.push-2.new.self.items fd socket more all (low ∙ ap (λ (ps : List (ℕ × ℕ)). lowest_free (descriptors_of ps)) c.new-holds.ensures) (ap (λ n. n + 1) count) c.requires.kept
+    foreign-table s c.args.address.now c.push.new.self.items c.push-2.new.self.items fd socket more all (low ∙ ap (λ (ps : List (ℕ × ℕ)). lowest_unused (descriptors_of ps)) c.new-holds.ensures) (ap (λ n. n + 1) count) c.requires.kept
 
 pub returns-clause-grows : goal.returns-clause-grows
 returns-clause-grows c =

@@ -7,9 +7,9 @@ pub returns-clause-after : goal.returns-clause-after
 returns-clause-after c =
     let slots = c.self.inside.slots in
     let d = c.in_ok-descriptor.descriptor in
-    let is : c.lowest_free.result ≡ Some d = c.in_ok-descriptor.ensures.ok_part in
-    let within : (3 ≤ d) × (d < 67) = rw is at c.lowest_free.ensures.within in
-    let free : socket_of c.args.self.now d ≡ None = rw is at c.lowest_free.ensures.free in
+    let is : c.lowest_unused.result ≡ Some d = c.in_ok-descriptor.ensures.ok_part in
+    let within : (3 ≤ d) × (d < 67) = rw is at c.lowest_unused.ensures.within in
+    let free : socket_of c.args.self.now d ≡ None = rw is at c.lowest_unused.ensures.free in
     let place : 3 + (d - 3) ≡ d = omega (arith, within.0) in
     let empty : get_or slots (d - 3) None ≡ None = sym (socket_within slots d within.0) ∙ ap (λ ps. socket_of ps d) c.self.view_is ∙ free in
     ap (pairs_of 3) c.put.ensures

@@ -3,7 +3,7 @@ use Rattle.std.specs.Prelude.{Contains}
 use Rattle.std.proofs.lemmas.List.{length-take-le, length-map, map_more}
 use Rattle.vocabulary.specs.declared.table.Listener.{Listener}
 use Rattle.master_listeners.specs.Listeners.{AreListed}
-use Rattle.master_listeners.proofs.Additions.{added}
+use Rattle.master_listeners.proofs.Additions.{is_added}
 use Rattle.master_listeners.proofs.Listed.{absent_before}
 use Rattle.master_listeners.proofs.listeners.Listeners.addresses.Goals as goal
 
@@ -16,7 +16,7 @@ loop-listener-preserved c =
     let listed : AreListed all = rw (← c.as_slice-all.ensures.items) at c.as_slice-all.ensures.listed in
     let n = ap length c.loop-listener.invariant ∙ length-map (take i all) (λ (m : Listener). m.address) ∙ length-take-le i all (omega (arith, c.loop-listener-test.true)) in
     let address : l.address ≡ (get_or all i l).address = ap (λ (m : Listener). m.address) c.listener-item.is in
-    added c.add.result _ c.add.ensures.ok
+    is_added c.add.result _ c.add.ensures.ok
     (λ e. absent_before 3 all i l listed c.loop-listener-test.true (subst (Contains (map (λ (m : Listener). m.address) (take i all))) address (rw c.loop-listener.invariant at (c.add.ensures.doubled.0 e))))
     (λ e. let full = (c.add.ensures.too_many.0 e).0 in omega (arith, n, full, c.loop-listener-test.true, most))
     ∙ ap (λ bs. bs ++ l.address ∷ []) c.loop-listener.invariant

@@ -1,9 +1,9 @@
 use Rattle.std.proofs.Common.{sym, ◌∙◌, ap, arith}
-use Rattle.worker_table.specs.Beats.{is_late}
+use Rattle.worker_table.specs.Beats.{is_overdue}
 use Rattle.worker_table.proofs.PlaceLemmas.{AreNumbers-places}
 use Rattle.worker_table.proofs.Loops.{Gathers-none, Gathers-one, Gathers-pass, Gathers-all}
 use Rattle.worker_table.proofs.workers.WorkerTable.overdue.Goals as goal
-use Rattle.worker_table.proofs.workers.WorkerTable.overdue.Goals.{then-is_late, else-is_late}
+use Rattle.worker_table.proofs.workers.WorkerTable.overdue.Goals.{then-is_overdue, else-is_overdue}
 
 pub loop-nr-init : goal.loop-nr-init
 loop-nr-init c = rw c.none-overdue.ensures (Gathers-none c.args.self.now c.args.now c.args.timeout)
@@ -11,10 +11,10 @@ loop-nr-init c = rw c.none-overdue.ensures (Gathers-none c.args.self.now c.args.
 pub loop-nr-preserved : goal.loop-nr-preserved
 loop-nr-preserved c =
     let ws = c.args.self.now in
-    let test = ap (λ b. is_late c.args.now c.args.timeout b) (sym c.last_beat.ensures) ∙ sym c.is_late.ensures in
-    elim c.if-is_late.branch [
-      | then-is_late w ↦ rw (w.overdue-is, w.add.ensures) (Gathers-one ws c.args.now c.args.timeout c.loop-nr.nr c.loop-nr.overdue c.loop-nr.invariant (test ∙ w.if-is_late.true))
-      | else-is_late w ↦ rw w.overdue-is (Gathers-pass ws c.args.now c.args.timeout c.loop-nr.nr c.loop-nr.overdue c.loop-nr.invariant (test ∙ w.if-is_late.false))
+    let test = ap (λ b. is_overdue c.args.now c.args.timeout b) (sym c.last_beat.ensures) ∙ sym c.is_overdue.ensures in
+    elim c.if-is_overdue.branch [
+      | then-is_overdue w ↦ rw (w.overdue-is, w.add.ensures) (Gathers-one ws c.args.now c.args.timeout c.loop-nr.nr c.loop-nr.overdue c.loop-nr.invariant (test ∙ w.if-is_overdue.true))
+      | else-is_overdue w ↦ rw w.overdue-is (Gathers-pass ws c.args.now c.args.timeout c.loop-nr.nr c.loop-nr.overdue c.loop-nr.invariant (test ∙ w.if-is_overdue.false))
     ]
 
 pub returns-clause-overdue : goal.returns-clause-overdue

@@ -1,10 +1,10 @@
 use Rattle.std.proofs.Common.{refl, ◌+◌, ◌<◌, ◌≤◌, ap, sym, ◌∙◌, length, arith, true≢false}
 use Rattle.std.specs.Prelude.{is_some}
-use Rattle.listener_set.specs.Descriptors.{socket_of, lowest_free, descriptors_of, pairs_of}
+use Rattle.listener_set.specs.Descriptors.{socket_of, lowest_unused, descriptors_of, pairs_of}
 use Rattle.listener_set.specs.DescriptorLemmas.{socket_of-pairs_of}
 use Rattle.listener_set.specs.Slots.{IsFirstFree}
-use Rattle.listener_set.proofs.DescriptorSlots.{lowest_free_is, length-free, length-front, length-most}
-use Rattle.listener_set.proofs.descriptors.DescriptorTable.lowest_free.Goals as goal
+use Rattle.listener_set.proofs.DescriptorSlots.{lowest_unused_is, length-free, length-front, length-most}
+use Rattle.listener_set.proofs.descriptors.DescriptorTable.lowest_unused.Goals as goal
 
 first : (c : goal.In_ok-place) → IsFirstFree c.self.inside.slots c.in_ok-place.place
 first c = rw c.in_ok-place.was at c.first_empty.ensures.some
@@ -12,7 +12,7 @@ first c = rw c.in_ok-place.was at c.first_empty.ensures.some
 pub returns-clause-lowest : goal.returns-clause-lowest
 returns-clause-lowest c =
     let f = first c in
-    lowest_free_is c.self.inside.slots c.in_ok-place.place f.within f.free f.taken ∙ ap (λ ps. lowest_free (descriptors_of ps)) c.self.view_is
+    lowest_unused_is c.self.inside.slots c.in_ok-place.place f.within f.free f.taken ∙ ap (λ ps. lowest_unused (descriptors_of ps)) c.self.view_is
 
 pub returns-clause-free : goal.returns-clause-free
 returns-clause-free c =
