@@ -91,7 +91,7 @@ forked s g nr fds (Err fault.NoImage) = answers s answer.Again
 abbrev pub forking : State → Generation → ℕ → Option (List ℕ) → Turn
 forking s g nr fds =
     if nat_lt s.starts 4294967295
-    then starts_child (role.Worker g nr (s.starts + 1)) (forked (record s { starts_child = s.starts + 1 }) g nr fds)
+    then starts_child (role.Worker g nr (s.starts + 1)) (forked (record s { starts = s.starts + 1 }) g nr fds)
     else answers s answer.Again
 
 -- what was heard of a worker that starts

@@ -4,7 +4,7 @@ use Rattle.child_family.specs.Talk.{says, hears}
 use Rattle.child_edge.specs.State.{State, ChildMaster, state_of}
 use Rattle.child_family.specs.Lines.{is_line}
 use Rattle.child_edge.specs.Table.{answers, alone, ended_master, living}
-use Rattle.child_edge.proofs.Turning.{goes-from, goes-into, goes-both, goes-stops}
+use Rattle.child_edge.proofs.Turning.{goes-from, goes-into, goes-both, goes-stops_child}
 use Rattle.child_edge.proofs.masters.alive.Goals as goal
 
 living-of : (s : State) (image : ℕ) (child : Option ChildMaster) (m : ChildMaster) → child ≡ Some m → m.image ≡ image
@@ -30,4 +30,4 @@ returns-clause-turn g c =
     let yes = answers s answer.IsAlive in
     let no = ended_master s m.id in
     goes-from _ _ _ _ _ (living-of s c.args.image c.args.state.now.child m c.in-Some.is (omega (arith, c.if-master-image.false)))
-    (goes-both _ _ _ _ _ _ (goes-into _ _ _ _ _ (ap (λ (b : Bool). if b then yes else no) c.if-answers_alive.false) (c.answers_alive.ensures yes no)) (goes-stops _ _ m.id (answers (alone s) answer.Gone) c.stop.ensures))
+    (goes-both _ _ _ _ _ _ (goes-into _ _ _ _ _ (ap (λ (b : Bool). if b then yes else no) c.if-answers_alive.false) (c.answers_alive.ensures yes no)) (goes-stops_child _ _ m.id (answers (alone s) answer.Gone) c.stop.ensures))
