@@ -51,15 +51,12 @@ void take_address(struct addresses *addresses, const char *text) {
 }
 
 void release_address(struct addresses *addresses, const char *text) {
-    char said[256];
-    int length = snprintf(said, sizeof said, "-%s", text);
     for (int at = 0; at < addresses->count; at++) {
         struct address *address = &addresses->of[at];
         if (strcmp(address->text, text) || address->listener < 0)
             continue;
         close(address->listener);
         address->listener = -1;
-        /* A keeper that has ended holds nothing. */
-        send(addresses->hold, said, (size_t)length, MSG_NOSIGNAL);
+        /* The program still has it: it is not given up before the program ends. */
     }
 }

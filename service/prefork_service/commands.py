@@ -53,14 +53,14 @@ def parted(text: bytes) -> tuple[bytes, list[str] | None]:
         if not is_command(command):
             return text, None
         return "".join(f"{json.dumps(key)} = {toml_of(value)}\n" for key, value in found.items()).encode(), command
-    except ValueError:
+    except (ValueError, RecursionError):
         return text, None
 
 
 def is_toml(text: bytes) -> bool:
     try:
         tomllib.loads(text.decode())
-    except ValueError:
+    except (ValueError, RecursionError):
         return False
     return True
 
@@ -163,7 +163,7 @@ class Commands:
         """Whether the configuration that was read last has a pid file."""
         try:
             return "pid" in tomllib.loads(self.text.decode())
-        except ValueError:
+        except (ValueError, RecursionError):
             return False
 
     def has_changed(self) -> bool:

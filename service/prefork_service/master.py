@@ -107,5 +107,9 @@ class Master:
 
 
 def pass_on(text: bytes) -> None:
-    sys.stderr.buffer.write(text)
-    sys.stderr.flush()
+    try:
+        sys.stderr.buffer.write(text)
+        sys.stderr.flush()
+    except (OSError, AttributeError):
+        # A standard error that is full, or has no reader, is no reason to serve nobody.
+        pass

@@ -33,7 +33,7 @@ def groups_of(text: bytes) -> list[tuple[int, int]]:
         found = tomllib.loads(text.decode())
         groups = found.get("groups", [found])
         return [(int(group["workers"]), len(group["listeners"])) for group in groups]
-    except (ValueError, KeyError, TypeError):
+    except (ValueError, KeyError, TypeError, RecursionError):
         return []
 
 
@@ -43,7 +43,7 @@ def addresses_of(text: bytes) -> list[str]:
         found = tomllib.loads(text.decode())
         groups = found.get("groups", [found])
         return [str(address) for group in groups for address in group["listeners"]]
-    except (ValueError, KeyError, TypeError):
+    except (ValueError, KeyError, TypeError, RecursionError):
         return []
 
 

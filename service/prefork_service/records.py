@@ -24,6 +24,7 @@ TICK = re.compile(r"word tick \d+\n")
 CENSUS = re.compile(r"\d+ m\d+ census \S+ : counted \S+")
 # What ends the name of a part before which blocks are lost.
 GAP = ".gap"
+OWN = re.compile(r"from\.toml|to\.\d+\.toml|blocks\.\d+(\.gap)?")
 
 
 def is_quiet(body: list[str]) -> bool:
@@ -146,7 +147,7 @@ def forget_part(files: list[tuple[pathlib.Path, pathlib.Path]], current: pathlib
 
 def masters_in(place: pathlib.Path) -> list[pathlib.Path]:
     """The folders of masters, oldest first."""
-    found = [folder for folder in place.iterdir() if folder.name.isdigit()] if place.is_dir() else []
+    found = [folder for folder in place.iterdir() if folder.name.isdigit() and folder.is_dir()] if place.is_dir() else []
     return sorted(found, key=lambda folder: int(folder.name))
 
 
@@ -156,7 +157,7 @@ def part_number(file: pathlib.Path) -> int:
 
 def files_of(folder: pathlib.Path) -> list[pathlib.Path]:
     """The files of a master, its parts in their order."""
-    files = list(folder.iterdir())
+    files = [file for file in folder.iterdir() if OWN.fullmatch(file.name)]
     parts = [file for file in files if file.name.startswith("blocks.")]
     return [*(file for file in files if file not in parts), *sorted(parts, key=part_number)]
 

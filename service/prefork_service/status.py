@@ -69,11 +69,22 @@ def descends(process: int, ancestor: int) -> bool:
     return False
 
 
+def files_in(place: pathlib.Path) -> list[pathlib.Path]:
+    """The files of a folder; none if it has gone."""
+    try:
+        return list(place.iterdir())
+    except OSError:
+        return []
+
+
 def started_workers(place: pathlib.Path) -> dict[tuple[str, int], int]:
     """The processes of workers, by generation and number. The files of those that have ended are removed."""
     found = {}
-    for file in place.iterdir():
-        text = file.read_text().strip()
+    for file in files_in(place):
+        try:
+            text = file.read_text().strip()
+        except (OSError, ValueError):
+            continue
         if text.isdigit() and descends(int(text), os.getpid()):
             generation, _, number = file.name.rpartition(".")
             found[generation, int(number)] = int(text)

@@ -15,7 +15,7 @@ def timeout_of(text: bytes) -> int:
     """After how many seconds without a beat a worker of a configuration is overdue."""
     try:
         found = tomllib.loads(text.decode()).get("timeout", TIMEOUT)
-    except ValueError:
+    except (ValueError, RecursionError):
         return TIMEOUT
     return found if isinstance(found, int) else TIMEOUT
 

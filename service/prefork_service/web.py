@@ -8,6 +8,7 @@ from collections.abc import Callable
 
 from .door import Door
 from .folder import say
+from .keeper import remove_stale
 
 # How long a visit may take, and how long a question may be. How many visits there may be, and how many that say nothing.
 SECONDS, LONGEST, MOST_VISITS, MOST_SILENT = 10.0, 8192, 16, 16
@@ -23,6 +24,7 @@ def opened(address: str) -> socket.socket:
     one = socket.socket(socket.AF_UNIX if address.startswith("/") else socket.AF_INET)
     try:
         if address.startswith("/"):
+            remove_stale(address)
             one.bind(address)
         else:
             one.setsockopt(socket.SOL_SOCKET, socket.SO_REUSEADDR, 1)
@@ -59,7 +61,10 @@ class Site:
         self.hear(client)
 
     def hear(self, client: socket.socket) -> None:
-        visit = self.visits[client]
+        visit = self.visits.get(client)
+        if not visit:
+            # It has been dropped in this very turn.
+            return
         try:
             got = client.recv(LONGEST)
         except BlockingIOError:
@@ -92,7 +97,9 @@ class Site:
         return head.encode() + (b"" if words[0] == "HEAD" else body)
 
     def say_more(self, client: socket.socket) -> None:
-        visit = self.visits[client]
+        visit = self.visits.get(client)
+        if not visit:
+            return
         try:
             visit.unsaid = visit.unsaid[client.send(visit.unsaid) :]
             if not visit.unsaid:
