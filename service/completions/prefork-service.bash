@@ -33,7 +33,7 @@ _prefork_service() {
             mapfile -t COMPREPLY < <(compgen -W 'done' -- "$cur")
             return
             ;;
-        --wsgi | --records-size | --page | --socket-mode | --threads | --timeout | --keep | --answer-within | --ready-within | --probe | --probe-within | --probe-limit | --least | --env | --finish | --clients | --rate | --seconds | --patience | --path | --slow) return ;;
+        --wsgi | --warm | --after-load | --after-fork | --records-size | --page | --socket-mode | --threads | --timeout | --keep | --answer-within | --ready-within | --probe | --probe-within | --probe-limit | --least | --env | --finish | --clients | --rate | --seconds | --patience | --path | --slow) return ;;
     esac
     case ${COMP_WORDS[0]##*/} in
         prefork-serve) 
@@ -41,7 +41,7 @@ _prefork_service() {
                 compopt -o default
                 return
             fi
-            options='--folder --prefork --records --records-size --metrics --page --answer-within --defer-accept --socket-mode --socket-group --wsgi --python --threads --timeout --keep --chdir --ready --ready-within --probe --probe-within --probe-limit --stop --finish --usr1 --env --no-listen-fds --blocking --help'
+            options='--folder --prefork --records --records-size --metrics --page --answer-within --defer-accept --socket-mode --socket-group --wsgi --preload --python --threads --timeout --keep --chdir --warm --after-load --after-fork --ready --ready-within --probe --probe-within --probe-limit --stop --finish --usr1 --env --no-listen-fds --blocking --help'
             ;;
         prefork-ctl) options='--folder --json --events --forbid --require --least --records --prefork --help' ;;
         prefork-checkworker) options='--path --slow --one --patience --help' ;;

@@ -17,6 +17,7 @@ import tomllib
 from typing import Any
 
 from .folder import Folder, say
+from .templates import Templates
 
 # How long the master's program may take to say whether it reads a configuration.
 ASKING_SECONDS = 10.0
@@ -103,6 +104,8 @@ class Commands:
         self.place.mkdir(mode=0o700, exist_ok=True)
         self.now, self.next = folder.path / "config.toml", folder.path / "next.toml"
         self.accepted = folder.path / "accepted.toml"
+        # What workers by the default are forked by, if they are.
+        self.templates: Templates | None = None
         self.known: list[pathlib.Path] = []
         self.proposed: list[str] | None = None
         self.is_changing = False
@@ -177,7 +180,7 @@ class Commands:
         """Forgets all generations: a master is about to start."""
         for file in self.generations():
             file.unlink()
-        self.write_next(self.current)
+        self.write_next(self.started_by(self.current, False))
 
     def generations(self) -> list[pathlib.Path]:
         return [file for file in self.place.iterdir() if file.name[0].isdigit()]
@@ -205,7 +208,7 @@ class Commands:
         one afterwards, for its generation, and the next reload has a generation of the same name."""
         self.known, self.is_changing = [file for file in self.generations() if running in ("", file.name)], True
         self.proposed = self.read(self.next)
-        self.write_next(self.proposed)
+        self.write_next(self.started_by(self.proposed, True))
         self.forget_others()
 
     def next_text(self) -> bytes:
@@ -223,9 +226,24 @@ class Commands:
             self.accept()
             for file in self.known:
                 file.unlink(missing_ok=True)
+            self.settle_templates(True)
         else:
             self.forget_others()
-            self.write_next(self.current)
+            self.write_next(self.started_by(self.current, False))
+            self.settle_templates(False)
+
+    def started_by(self, command: list[str] | None, is_next: bool) -> list[str] | None:
+        """What starts a worker by a command: a stand-in, if a template has loaded what the command line says."""
+        is_forked = self.templates and command and command == self.default
+        return self.templates.words(is_next) if self.templates and is_forked else command
+
+    def is_forked(self) -> bool:
+        """Whether workers that run were forked by a template."""
+        return self.templates is not None and self.templates.now is not None
+
+    def settle_templates(self, has_changed: bool) -> None:
+        if self.templates:
+            self.templates.settle(has_changed)
 
     def clear(self) -> None:
         for file in [*self.place.iterdir(), self.now, self.next, self.accepted]:

@@ -42,8 +42,8 @@ class Leaving:
     def take(self, name: str) -> None:
         """Takes the worker of this name, if it runs."""
         try:
-            text = (self.folder / "workers" / name).read_text().strip()
-        except OSError:
+            text = (self.folder / "workers" / name).read_text().split()[0]
+        except (OSError, IndexError):
             return
         if not self.seconds or not text.isdigit():
             return

@@ -40,11 +40,16 @@ def limits_of(given: argparse.Namespace) -> list[str]:
     adapter ends its program before its master ends it."""
     if not given.answer_within:
         return []
-    limits, has_adapter = [ANSWER, str(given.answer_within)], bool(given.program or given.wsgi)
+    limits, has_adapter = [ANSWER, str(given.answer_within)], bool(given.program and not given.preload or given.wsgi)
     said = [seconds_said(text) for text in [*given.ready_within[-1:], *given.finish[-1:]]]
     own = max([ADAPTER_SECONDS, *said]) + EARLIER if has_adapter else max([0.0, *said])
     is_less = own <= TIMES * given.answer_within if has_adapter else not own
     return limits if is_less else [*limits, READY, str(min(math.ceil(own), MOST))]
+
+
+def ready_seconds(given: argparse.Namespace) -> float:
+    """How long an application may load in a template."""
+    return seconds_said(given.ready_within[-1]) if given.ready_within else ADAPTER_SECONDS
 
 
 def end_seconds(limits: list[str]) -> int:

@@ -40,12 +40,13 @@ from .convention import Unfit
 from .folder import Folder, say
 from .keeper import DEFER, socket_options
 from .keeping import Keeping
-from .limits import limits_of
+from .limits import limits_of, ready_seconds
 from .needs import addresses_of, needs_of, shortages
 from .options import arguments, fault_of, processes_each, program_of, worker_command
 from .records import MEGABYTE
 from .service import Service
 from .systemd import inherited, notify
+from .templates import Templates
 from .titles import set_title
 
 
@@ -68,7 +69,8 @@ def is_fit(given: argparse.Namespace, commands: Commands) -> bool:
         return False
     refusal, text = refusal_of(given.prefork, commands.source()), commands.now.read_bytes()
     is_adapted, sites = commands.has_adapter(), bool(given.page) + bool(given.metrics)
-    faults = [refusal] if refusal else shortages(needs_of(text, processes_each(given), sites, is_adapted))
+    is_forked = given.preload and is_adapted
+    faults = [refusal] if refusal else shortages(needs_of(text, processes_each(given), sites, is_adapted, is_forked))
     faults += [PID_OF_MASTER] if commands.names_master() else []
     for fault in faults:
         say(f"{given.config}: {fault}")
@@ -90,6 +92,8 @@ def serve(given: argparse.Namespace, folder: Folder, commands: Commands, stored:
     chronicle, service = Chronicle(folder, place, int(given.records_size * MEGABYTE)), None
     try:
         keeping.hold(addresses_of(commands.now.read_bytes()))
+        if given.preload and commands.default:
+            commands.templates = Templates(keeping.events, folder, commands.default, ready_seconds(given))
         service = Service(keeping, supervise, commands, chronicle, limits_of(given))
         service.telling.open(keeping.events, given.metrics, given.page)
         service.run()
@@ -99,6 +103,8 @@ def serve(given: argparse.Namespace, folder: Folder, commands: Commands, stored:
         notify("STOPPING=1")
         if service:
             service.telling.end()
+        if commands.templates:
+            commands.templates.end()
         keeping.end()
         chronicle.end()
         commands.clear()

@@ -36,6 +36,9 @@ FAILED_START = re.compile(r"^\d+ m\d+ (?:fork|await-ready|spawn-master|adopt) .*
 OLD_SERVES = "the workers that run are of the version before. One that ends is started again from the files as they are " \
     "now: put the old version back, or mend the new one"
 
+TEMPLATE_SERVES = "the workers that run are of the version before. One that ends is forked again from the template that has " \
+    "loaded that version, and only if the template has ended too, it is loaded from the files as they are then"
+
 
 def is_broken(word: str, block: str) -> bool:
     """Whether a block says that a new version did not start, and that the old one runs."""
@@ -88,6 +91,8 @@ class Service:
                 key.data(key.fileobj)
             self.door.tend()
             self.keeping.tend()
+            if self.commands.templates:
+                self.commands.templates.tend()
             if self.keeping.has_lost():
                 self.ticks.hurry()
             self.end_late()
@@ -258,8 +263,9 @@ class Service:
         self.keeping.refusals.clear()
         found = [*self.chronicle.end_word(word.text, block, refusals, self.mistake(word, block))]
         if is_broken(word.text, block) and not refusals:
-            say(OLD_SERVES)
-            found.append(OLD_SERVES)
+            told = TEMPLATE_SERVES if self.commands.is_forked() else OLD_SERVES
+            say(told)
+            found.append(told)
         if word.text not in (START, *STOPS) and not word.text.startswith("tick "):
             found.append(self.runs_now())
         return found
@@ -366,6 +372,7 @@ class Service:
             "waiting": len(self.waiting),
             "file_has_changed": self.commands.has_changed(),
             "records_waiting": self.chronicle.waiting(),
+            **({"templates": self.commands.templates.status()} if self.commands.templates else {}),
         }
 
     def status(self) -> Status:

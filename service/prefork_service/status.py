@@ -82,13 +82,14 @@ def started_workers(place: pathlib.Path) -> dict[tuple[str, int], int]:
     found = {}
     for file in files_in(place):
         try:
-            text = file.read_text().strip()
+            numbers = file.read_text().split()
         except (OSError, ValueError):
             continue
-        if text.isdigit() and descends(int(text), os.getpid()):
+        # The process that the master has started, and the one that serves, where it is another one.
+        if numbers and numbers[0].isdigit() and descends(int(numbers[0]), os.getpid()):
             generation, _, number = file.name.rpartition(".")
-            found[generation, int(number)] = int(text)
-        elif text:
+            found[generation, int(number)] = int(numbers[-1])
+        elif numbers:
             file.unlink(missing_ok=True)
     return found
 
@@ -143,6 +144,7 @@ def shown(status: Status) -> str:
         *map(shown_worker, status["workers"]),
         *shown_masters(status["masters"], status["master_restarts"]),
         f"keeper      process {keeper['process'] or 'none'}, started again {times(keeper['restarts'])}",
+        *map(shown_template, status.get("templates", [])),
         f"last word   {last['word']} at {last['at']}: {last['report']}" if last else "last word   none",
         *(f"because     {why}" for why in (last["reasons"] if last else [])),
         f"now         {shown_doing(status)}",
@@ -150,6 +152,11 @@ def shown(status: Status) -> str:
     if status["file_has_changed"]:
         lines.append("file        has changed since it was accepted; HUP reads it")
     return "".join(f"{line}\n" for line in lines)
+
+
+def shown_template(template: Status) -> str:
+    state = "its last workers finish" if template["is_leaving"] else "has loaded" if template["is_loaded"] else "loads"
+    return f"template    process {template['process']}, {state}"
 
 
 def shown_worker(worker: Status) -> str:

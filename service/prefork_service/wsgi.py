@@ -7,11 +7,14 @@ A worker of a Prefork master that serves a WSGI application, with waitress as it
 - If all threads have been at one request for more than --timeout seconds (30), the worker ends, with the stacks of
   its threads on standard error. The master starts another one.
 - An application that has not loaded --ready-within seconds (30) after `go` ends the worker: the reload is rolled back.
+
+With --template it is no worker but the template of its generation: it loads the application, and forks each worker.
 """
 import argparse
 import faulthandler
 import importlib
 import importlib.util
+import io
 import logging
 import os
 import socket
@@ -22,15 +25,20 @@ import traceback
 from collections.abc import Callable
 from typing import Any
 
+from . import convention
 from .convention import Hold, Pipes, Unfit, clear_environment, warn
+from .template import Template, Tie
 from .titles import set_title
+
+# The tie of a worker that was forked by a template.
+tie: Tie | None = None
 
 
 class Worker:
     """The master's lines, heard by a thread of their own. The application is loaded and served by the main thread."""
 
     def __init__(self, given: argparse.Namespace, pipes: Pipes):
-        self.given, self.pipes, self.start = given, pipes, ""
+        self.given, self.pipes, self.start, self.title = given, pipes, "", "worker"
         # The server, once the application is loaded.
         self.server: Any = None
         self.sockets: dict[str, socket.socket] = {}
@@ -44,6 +52,8 @@ class Worker:
                 for words in lines:
                     self.obey(*words)
                 self.end_if_stuck()
+                if tie and tie.is_broken():
+                    leave(1)
         except (Unfit, TypeError, IndexError) as fault:
             warn(f"ends: {fault}")
             leave(1)
@@ -52,7 +62,7 @@ class Worker:
     def obey(self, word: str, *rest: str) -> None:
         if word == "worker" and len(rest) == 3:
             self.start = rest[2]
-            set_title(f"worker {rest[0]}.{rest[1]}")
+            self.title = f"worker {rest[0]}.{rest[1]}"
         elif word == "listener" and not self.going.is_set():
             self.sockets[rest[0]] = self.hold.take(rest[0])
         elif word == "go" and self.sockets:
@@ -113,6 +123,8 @@ class Worker:
 def leave(status: int) -> None:
     """Ends the process, whatever its threads do."""
     sys.stderr.flush()
+    if tie:
+        tie.tell(f"ended {status}")
     os._exit(status)
 
 
@@ -147,6 +159,13 @@ def arguments() -> argparse.Namespace:
     ):
         parser.add_argument(option, type=kind, default=seconds, metavar="SECONDS", help=text)
     parser.add_argument("--chdir", default=".", metavar="FOLDER", help="where the module is (the current folder)")
+    parser.add_argument("--template", action="store_true", help="load the application, and fork workers that have it")
+    parser.add_argument("--warm", action="append", default=[], metavar="PATH", help="ask it for PATH before the first fork")
+    for option, text in (
+        ("--after-load", "is called in the template, before the first fork"),
+        ("--after-fork", "is called in each worker, with its name, such as 1.2.0"),
+    ):
+        parser.add_argument(option, action="append", default=[], metavar="MODULE:NAME", help=text)
     parser.add_argument("--check", action="store_true", help="only look at the command line, and for waitress")
     parser.add_argument("application", metavar="MODULE:APP")
     given = parser.parse_args()
@@ -164,20 +183,87 @@ def prepare(folder: str) -> None:
     logging.getLogger("waitress.queue").setLevel(logging.ERROR)
 
 
+def asked(application: Callable, path: str) -> None:
+    """Asks an application for a page, in this process. What it loads for that is there for all workers."""
+    environ: dict[str, Any] = {
+        "REQUEST_METHOD": "GET", "SCRIPT_NAME": "", "PATH_INFO": path.partition("?")[0], "QUERY_STRING": path.partition("?")[2],
+        "SERVER_NAME": "localhost", "SERVER_PORT": "80", "SERVER_PROTOCOL": "HTTP/1.1", "HTTP_HOST": "localhost",
+        "REMOTE_ADDR": "127.0.0.1", "wsgi.version": (1, 0), "wsgi.url_scheme": "http", "wsgi.input": io.BytesIO(),
+        "wsgi.errors": sys.stderr, "wsgi.multithread": True, "wsgi.multiprocess": True, "wsgi.run_once": False,
+    }
+    answered: list[str] = []
+    found = application(environ, lambda status, headers, fault=None: answered.append(status))
+    try:
+        for _ in found:
+            pass
+    finally:
+        if hasattr(found, "close"):
+            found.close()
+    if not answered or answered[-1][:1] not in "23":
+        raise Unfit(f"{path} is answered: {answered[-1] if answered else 'nothing'}")
+
+
+def forked(given: argparse.Namespace) -> Callable:
+    """Is the template: loads the application, and forks workers. Returns the application in each of them."""
+    global tie
+    template = Template()
+    set_title("prefork-template")
+    faulthandler.dump_traceback_later(given.ready_within, exit=True)
+    clear_environment()
+    try:
+        from . import wsgi_server as _
+
+        prepare(given.chdir)
+        application = loaded(given.application)
+        for path in given.warm:
+            asked(application, path)
+        for name in given.after_load:
+            loaded(name)()
+    except BaseException as fault:
+        traceback.print_exc()
+        template.fail(f"{given.application}: {type(fault).__name__}: {fault}")
+        leave(1)
+    faulthandler.cancel_dump_traceback_later()
+    tie = template.run(warn)
+    convention.NAME = tie.name
+    set_title(f"worker {tie.name}")
+    tie.fasten()
+    for name in given.after_fork:
+        loaded(name)(tie.name)
+    os.environ["PREFORK_KEEPER"] = tie.keeper
+    return application
+
+
 def main() -> int:
     given = arguments()
     if given.check:
         return 0
+    try:
+        application = forked(given) if given.template else None
+    except BaseException as fault:
+        # Of a worker that was forked: a function that is called after the fork has failed.
+        traceback.print_exc()
+        warn(f"after the fork: {type(fault).__name__}: {fault}")
+        leave(1)
     pipes = Pipes()
     worker = Worker(given, pipes)
     threading.Thread(target=worker.converse, daemon=True).start()
     worker.going.wait()
+    # Of the process: in the thread that hears the master it would be that thread's.
+    set_title(worker.title)
     clear_environment()
     try:
-        prepare(given.chdir)
-        worker.serve(loaded(given.application))
-    except BaseException:
+        if not application:
+            prepare(given.chdir)
+            application = loaded(given.application)
+            for path in given.warm:
+                asked(application, path)
+            for name in given.after_fork:
+                loaded(name)(convention.NAME)
+        worker.serve(application)
+    except BaseException as fault:
         # Threads of an application that fails, or that exits, must not keep it.
         traceback.print_exc()
+        warn(f"{given.application}: {type(fault).__name__}: {fault}")
         leave(1)
     return 0

@@ -27,6 +27,9 @@ class NeedsTest(unittest.TestCase):
         self.assertEqual(needs_of(SITE, 3, is_adapted=True).keeper, needs.KEEPER_REST + 2 * 200 + 4)
         self.assertEqual(found.master, needs.MASTER_REST + 2 * 200 * 2)
         self.assertEqual(found.serve, needs.SERVE_REST + 4)
+        forked = needs_of(SITE, 3, is_forked=True)
+        self.assertEqual((forked.template, found.template), (needs.TEMPLATE_REST + 200, 0))
+        self.assertEqual((forked.serve - found.serve, forked.processes - found.processes), (needs.DOORS, needs.TEMPLATES))
         self.assertEqual(needs_of(SITE, 3, 2).serve, needs.SERVE_REST + 4 + 2 * needs.SITE)
         self.assertEqual(found.processes, needs.OWN_PROCESSES + 2 * 200 * 3)
 

@@ -1,4 +1,5 @@
 """prefork-wsgi: a worker that serves a WSGI application."""
+import pathlib
 import socket
 import subprocess
 import threading
@@ -57,6 +58,7 @@ class WsgiTest(WorkerTest):
         talk, address = self.begun()
         self.assertEqual(talk.hear(), "ready")
         self.assertIn("version 1 ", answer_of(address))
+        self.assertEqual(pathlib.Path(f"/proc/{talk.process.pid}/comm").read_text(), "worker 1.1.0\n")
         talk.say("ping", "tick 12345", "usr1", "close 127.0.0.1:1", "ping", "quit")
         self.assertEqual([talk.hear() for _ in range(5)], ["pong", "beat 12345 7", "pong", "gone", END])
         self.assertEqual(talk.wait(), 0)

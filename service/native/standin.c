@@ -1,0 +1,215 @@
+/* prefork-standin DOOR
+ *
+ * What a master starts as a worker of a generation that has a template: a process that has loaded the application, and
+ * forks each worker. To its master this program is the worker: it hands its descriptors 0, 1 and 2 to the template at the
+ * socket DOOR, and ends when the worker ends, with its status.
+ *
+ * The worker ends with it, too. It is given the end of a pipe of which this process alone has the other one, and asks the
+ * system to be killed when that is closed. Signals are passed on.
+ *
+ * See docs/workers/templates.md for what is said at the door. */
+#define _GNU_SOURCE
+#include "ask.h"
+#include "reason.h"
+
+#include <errno.h>
+#include <fcntl.h>
+#include <poll.h>
+#include <signal.h>
+#include <stdarg.h>
+#include <stdbool.h>
+#include <stdio.h>
+#include <stdlib.h>
+#include <string.h>
+#include <sys/prctl.h>
+#include <sys/signalfd.h>
+#include <sys/socket.h>
+#include <sys/syscall.h>
+#include <unistd.h>
+
+#define LONGEST_LINE 4096
+/* What is handed over: input, output, errors, and the end of the pipe. */
+#define HANDED 4
+
+static void fail(const char *form, ...) __attribute__((format(printf, 1, 2), noreturn));
+
+static void fail(const char *form, ...) {
+    char text[1024];
+    va_list values;
+    va_start(values, form);
+    vsnprintf(text, sizeof text, form, values);
+    va_end(values);
+    dprintf(2, "prefork-standin: %s\n", text);
+    note_reason(0, text);
+    exit(1);
+}
+
+/* The name of the worker, such as 1.2.0. */
+static const char *name_of(void) {
+    const char *name = getenv("PREFORK_WORKER");
+    return name ? name : "worker";
+}
+
+/* What `ps -o comm` shows. */
+static void show_name(void) {
+    char title[16];
+    snprintf(title, sizeof title, "standin %.7s", name_of());
+    prctl(PR_SET_NAME, title, 0, 0, 0);
+}
+
+/* A descriptor at which the signals come that are passed on. */
+static int open_signals(void) {
+    static const int passed[] = {SIGTERM, SIGINT, SIGHUP, SIGQUIT, SIGUSR1, SIGUSR2, SIGCONT};
+    sigset_t set;
+    sigemptyset(&set);
+    for (size_t at = 0; at < sizeof passed / sizeof *passed; at++)
+        sigaddset(&set, passed[at]);
+    sigprocmask(SIG_BLOCK, &set, 0);
+    return signalfd(-1, &set, SFD_CLOEXEC);
+}
+
+/* Whether the master has told the worker to quit while it waits for the template: its lines stay in the pipe for the
+ * worker. */
+static bool is_told_to_quit(void) {
+    char text[LONGEST_LINE + 1];
+    int copy[2];
+    if (pipe2(copy, O_CLOEXEC) < 0)
+        return false;
+    ssize_t length = tee(0, copy[1], LONGEST_LINE, SPLICE_F_NONBLOCK);
+    if (length > 0 && read(copy[0], text, (size_t)length) != length)
+        length = 0;
+    close(copy[0]);
+    close(copy[1]);
+    return length >= 6 && !memcmp(text + length - 6, "\nquit\n", 6);
+}
+
+/* Ends as a worker does that was told to quit, if it was. */
+static void leave_if_told(void) {
+    if (is_told_to_quit())
+        exit(write(1, "gone\n", 5) == 5 ? 0 : 1);
+}
+
+/* Waits until the template takes descriptors. A template that loads takes its time; a master that has gone, or no longer
+ * wants the worker, is not kept waiting. */
+static void await_template(int door, int signals) {
+    for (;;) {
+        struct pollfd watched[] = {{door, POLLIN, 0}, {signals, POLLIN, 0}, {0, 0, 0}};
+        if (poll(watched, 3, 100) < 0 && errno != EINTR)
+            fail("poll: %s", strerror(errno));
+        if (watched[1].revents)
+            exit(0);
+        if (watched[0].revents)
+            return;
+        if (watched[2].revents & (POLLHUP | POLLERR))
+            exit(0);
+        leave_if_told();
+    }
+}
+
+/* What the template or the worker says; the empty text if it has gone. */
+static const char *hear(int door) {
+    static char text[LONGEST_LINE];
+    ssize_t length = recv(door, text, sizeof text - 1, 0);
+    text[length > 0 ? length : 0] = 0;
+    return text;
+}
+
+static void hand_over(int door, int leash) {
+    char text[200];
+    const char *keeper = getenv("PREFORK_KEEPER");
+    union {
+        struct cmsghdr header;
+        char bytes[CMSG_SPACE(HANDED * sizeof(int))];
+    } control;
+    int numbers[HANDED] = {0, 1, 2, leash};
+    int length = snprintf(text, sizeof text, "fork %.40s %.110s", name_of(), keeper ? keeper : "");
+    struct iovec piece = {text, (size_t)length};
+    struct msghdr message = {
+        .msg_iov = &piece, .msg_iovlen = 1, .msg_control = &control, .msg_controllen = sizeof control};
+    struct cmsghdr *header = CMSG_FIRSTHDR(&message);
+    header->cmsg_level = SOL_SOCKET;
+    header->cmsg_type = SCM_RIGHTS;
+    header->cmsg_len = CMSG_LEN(sizeof numbers);
+    memcpy(CMSG_DATA(header), numbers, sizeof numbers);
+    if (sendmsg(door, &message, MSG_NOSIGNAL) < 0)
+        fail("the template has gone");
+    /* The pipes are the worker's alone. */
+    close(0);
+    close(1);
+    close(leash);
+}
+
+/* Notes the process of the worker beside this one in the folder `workers`, for the status. */
+static void note_worker(int number) {
+    char path[4096];
+    const char *folder = getenv("PREFORK_FOLDER");
+    snprintf(path, sizeof path, "%s/workers/%s", folder ? folder : "", name_of());
+    int file = folder ? open(path, O_WRONLY | O_APPEND | O_CLOEXEC) : -1;
+    if (file >= 0) {
+        dprintf(file, "%d\n", number);
+        close(file);
+    }
+}
+
+/* The process of the worker, which has told its number and holds the other end of this connection: while that is open the
+ * number is its own. */
+static int open_worker(int door) {
+    const char *text = hear(door);
+    int number;
+    if (!*text)
+        fail("the template has gone, or its worker before it began");
+    if (!strncmp(text, "no ", 3))
+        fail("%s", text + 3);
+    if (sscanf(text, "pid %d", &number) != 1)
+        fail("the template says: %.100s", text);
+    int worker = (int)syscall(SYS_pidfd_open, number, 0);
+    struct pollfd watched = {door, 0, 0};
+    if (worker < 0 || (poll(&watched, 1, 0) == 1 && watched.revents & POLLHUP))
+        fail("the worker has ended before it began");
+    note_worker(number);
+    return worker;
+}
+
+/* Passes signals on until the worker has ended; its status. */
+static int await_end(int door, int worker, int signals) {
+    int status = 1;
+    for (;;) {
+        struct pollfd watched[] = {{worker, POLLIN, 0}, {signals, POLLIN, 0}, {door, POLLIN, 0}};
+        if (poll(watched, 3, -1) < 0 && errno != EINTR)
+            fail("poll: %s", strerror(errno));
+        if (watched[1].revents) {
+            struct signalfd_siginfo taken;
+            if (read(signals, &taken, sizeof taken) == sizeof taken)
+                syscall(SYS_pidfd_send_signal, worker, (int)taken.ssi_signo, 0, 0);
+        }
+        if (watched[2].revents && sscanf(hear(door), "ended %d", &status) != 1 && watched[2].revents & POLLHUP)
+            door = -1;
+        if (watched[0].revents) {
+            if (door >= 0 && recv(door, 0, 0, MSG_PEEK | MSG_DONTWAIT) >= 0)
+                sscanf(hear(door), "ended %d", &status);
+            return status;
+        }
+    }
+}
+
+int main(int count, char **words) {
+    int leash[2];
+    if (count != 2) {
+        dprintf(2, "usage: prefork-standin DOOR\n");
+        return 2;
+    }
+    show_name();
+    int signals = open_signals(), door = connect_keeper(words[1]);
+    if (door < 0)
+        fail("%s: no template: %s", words[1], strerror(errno));
+    if (signals < 0 || pipe2(leash, O_CLOEXEC) < 0)
+        fail("no pipe: %s", strerror(errno));
+    await_template(door, signals);
+    const char *said = hear(door);
+    if (strcmp(said, "give")) {
+        leave_if_told();
+        fail("%s", !strncmp(said, "no ", 3) ? said + 3 : "the template has ended before it had loaded");
+    }
+    hand_over(door, leash[0]);
+    return await_end(door, open_worker(door), signals);
+}

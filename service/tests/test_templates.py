@@ -1,0 +1,234 @@
+"""prefork-standin and templates: who ends with whom, and what those that wait are told."""
+import os
+import pathlib
+import selectors
+import signal
+import socket
+import subprocess
+import threading
+import time
+import types
+import unittest
+from typing import Any
+
+from kit import BIN, WorkerTest, answer_of, free_address, until
+from prefork_service.conversation import END
+from prefork_service.status import fields_of
+from prefork_service.templates import Templates
+from test_wsgi import PYTHON
+
+APPLICATION = """import os, time
+time.sleep(float(os.environ.get("LOADS", "0")))
+def application(environ, start):
+    text = b"version 1 process %d\\n" % os.getpid()
+    start("200 OK", [("Content-Type", "text/plain"), ("Content-Length", str(len(text)))])
+    return [text]
+"""
+
+
+def runs(process: int) -> bool:
+    fields = fields_of(process)
+    return bool(fields) and fields[0] != "Z"
+
+
+@unittest.skipUnless(PYTHON, "no Python with waitress")
+class TemplatesTest(WorkerTest):
+    """The loop of a service is a thread here."""
+
+    def setUp(self) -> None:
+        super().setUp()
+        (self.room / "reasons").touch()
+        (self.room / "app.py").write_text(APPLICATION)
+        os.environ["PREFORK_FOLDER"] = str(self.room)
+        self.addCleanup(os.environ.pop, "PREFORK_FOLDER")
+        self.ends, self.templates = False, None  # type: ignore[assignment]
+
+    def begun(self, *options: str, application: str = "app") -> None:
+        command = [str(PYTHON), str(BIN / "prefork-wsgi"), "--chdir", str(self.room), *options, "--template", application]
+        events = selectors.DefaultSelector()
+        self.templates = Templates(events, types.SimpleNamespace(path=self.room), command, 5.0 if options[:1] == ("--ready-within",) else 30.0)
+        self.word = self.templates.words(False)
+        waked, self.wake = os.pipe()
+        events.register(waked, selectors.EVENT_READ, lambda number: os.read(number, 1))
+        self.thread = threading.Thread(target=self.loop, args=(events,))
+        self.thread.start()
+        self.addCleanup(self.finish)
+
+    def loop(self, events: selectors.BaseSelector) -> None:
+        while not self.ends:
+            for key, _ in events.select(0.1):
+                key.data(key.fileobj)
+            self.templates.tend()
+        self.templates.end()
+
+    def finish(self) -> None:
+        self.ends = True
+        self.thread.join()
+
+    def worker(self, number: int = 0, go: bool = True):
+        address = free_address()
+        talk = self.started(*self.word, addresses=(address,), go=go, PREFORK_WORKER=f"1.1.{number}")
+        return talk, address
+
+    def process_at(self, address: str) -> int:
+        return int(answer_of(address).split()[3])
+
+    def reasons(self) -> str:
+        return (self.room / "reasons").read_text()
+
+    def test_workers_are_forked_by_one_template(self) -> None:
+        self.begun()
+        talks = [self.worker(number) for number in range(4)]
+        self.assertEqual([talk.hear() for talk, _ in talks], ["ready"] * 4)
+        template = self.templates.now.process.pid
+        processes = [self.process_at(address) for _, address in talks]
+        self.assertEqual({int(fields_of(process)[1]) for process in processes}, {template})
+        self.assertEqual(self.templates.now.starts, 1)
+        # (they are all told the same first line)
+        for process in processes:
+            self.assertEqual(pathlib.Path(f"/proc/{process}/comm").read_text(), "worker 1.1.0\n")
+        for talk, _ in talks:
+            talk.say("quit")
+            self.assertEqual((talk.hear(), talk.hear(), talk.wait()), ("gone", END, 0))
+        self.assertTrue(until(lambda: not any(map(runs, processes))))
+
+    def test_each_ends_when_the_other_is_killed(self) -> None:
+        self.begun()
+        for kills_worker in (True, False):
+            for is_stopped in (True, False):
+                talk, address = self.worker()
+                self.assertEqual(talk.hear(), "ready")
+                process = self.process_at(address)
+                if is_stopped:
+                    os.kill(process, signal.SIGSTOP)
+                os.kill(process if kills_worker else talk.process.pid, signal.SIGKILL)
+                self.assertEqual(talk.hear(5), END)
+                self.assertIn(talk.wait(5), (1, -9))
+                self.assertTrue(until(lambda: not runs(process), 5))
+
+    def test_signals_are_passed_on(self) -> None:
+        self.begun()
+        talk, address = self.worker()
+        self.assertEqual(talk.hear(), "ready")
+        process = self.process_at(address)
+        os.kill(talk.process.pid, signal.SIGTERM)
+        self.assertTrue(until(lambda: not runs(process), 5))
+        self.assertEqual(talk.wait(5), 1)
+
+    def test_a_killed_template(self) -> None:
+        self.begun()
+        talk, address = self.worker()
+        self.assertEqual(talk.hear(), "ready")
+        process, template = self.process_at(address), self.templates.now.process.pid
+        os.kill(template, signal.SIGKILL)
+        self.assertTrue(until(lambda: not runs(template)))
+        talk.say("ping")
+        self.assertEqual((talk.hear(), self.process_at(address)), ("pong", process))
+        other, other_address = self.worker(1)
+        self.assertEqual(other.hear(), "ready")
+        self.assertNotEqual(self.templates.now.process.pid, template)
+        self.assertNotEqual(self.process_at(other_address), process)
+        # The worker that has lost its template still ends with its stand-in, and its stand-in with it.
+        talk.process.kill()
+        self.assertTrue(until(lambda: not runs(process), 5))
+
+    def test_a_template_that_hangs(self) -> None:
+        self.begun()
+        talk, _ = self.worker()
+        self.assertEqual(talk.hear(), "ready")
+        template = self.templates.now.process.pid
+        os.kill(template, signal.SIGSTOP)
+        other, _ = self.worker(1)
+        self.assertEqual(other.hear(30), "ready")
+        self.assertNotEqual(self.templates.now.process.pid, template)
+
+    def test_an_application_that_does_not_load(self) -> None:
+        (self.room / "app.py").write_text("1 / 0")
+        self.begun()
+        talks = [self.worker(number)[0] for number in range(3)]
+        self.assertEqual([talk.hear() for talk in talks], [END] * 3)
+        self.assertEqual([talk.wait() for talk in talks], [1] * 3)
+        for number in range(3):
+            self.assertIn(f"1.1.{number} app: ZeroDivisionError: division by zero\n", self.reasons())
+        self.assertEqual(self.templates.now.starts, 1)
+        # Mended, the next worker has it loaded.
+        (self.room / "app.py").write_text(APPLICATION)
+        talk, _ = self.worker()
+        self.assertEqual(talk.hear(), "ready")
+
+    def test_an_application_that_exits_or_hangs_while_it_loads(self) -> None:
+        for text, told in (("import os; os._exit(7)", "status 7"), ("import time; time.sleep(60)", "has not loaded after 5 seconds")):
+            (self.room / "app.py").write_text(text)
+            if not self.templates:
+                self.begun("--ready-within", "5")
+            talk, _ = self.worker()
+            self.assertEqual((talk.hear(40), talk.wait()), (END, 1))
+            self.assertIn(told, self.reasons())
+
+    def test_quit_and_the_end_of_a_master_while_it_loads(self) -> None:
+        os.environ["LOADS"] = "3"
+        self.addCleanup(os.environ.pop, "LOADS")
+        self.begun()
+        began = time.monotonic()
+        talk, _ = self.worker()
+        talk.say("quit")
+        self.assertEqual((talk.hear(), talk.wait()), ("gone", 0))
+        other, _ = self.worker()
+        other.process.stdin.close()
+        self.assertEqual(other.wait(), 0)
+        self.assertLess(time.monotonic() - began, 2.5)
+
+    def test_a_generation_that_ends(self) -> None:
+        self.begun()
+        talk, address = self.worker()
+        self.assertEqual(talk.hear(), "ready")
+        old, process = self.templates.now, self.process_at(address)
+        self.finish()
+        template = old.process.pid
+        # It stays for its worker, and forks no other one.
+        time.sleep(0.5)
+        self.assertTrue(runs(template) and runs(process))
+        other, _ = self.worker(1)
+        self.assertEqual(other.hear(), END)
+        self.assertIn("no template", self.reasons())
+        talk.say("quit")
+        self.assertEqual((talk.hear(), talk.wait()), ("gone", 0))
+        self.assertEqual(old.process.wait(10), 0)
+
+    def test_what_an_application_opens_and_starts_while_it_loads(self) -> None:
+        text = "import socket, sqlite3, threading, time\n"
+        text += "a = socket.socketpair()\nb = sqlite3.connect('base'); b.execute('create table t(x)')\n"
+        text += "threading.Thread(target=time.sleep, args=(60,), name='poller', daemon=True).start()\n"
+        (self.room / "app.py").write_text(text + APPLICATION)
+        command = [str(PYTHON), str(BIN / "prefork-wsgi"), "--chdir", str(self.room), "--template", "app"]
+        with socket.socket(socket.AF_UNIX, socket.SOCK_SEQPACKET) as door:
+            door.bind(str(self.room / "door"))
+            door.listen()
+            given: dict[str, Any] = {"capture_output": True, "text": True, "pass_fds": [door.fileno()]}
+            told = subprocess.run(command, **given, input="", env={**os.environ, "PREFORK_DOOR": str(door.fileno())})
+        self.assertEqual((told.returncode, told.stdout), (0, "loaded\n"))
+        for text in ("threads (poller)", "a connection (descriptor", "/base (descriptor"):
+            self.assertIn(text, told.stderr)
+
+    def test_hooks_and_a_page_before_the_first_fork(self) -> None:
+        text = "import pathlib, os\ndef note(text):\n    open('notes', 'a').write(f'{text} {os.getpid()}\\n')\n"
+        text += "def loaded():\n    note('loaded')\ndef forked(name):\n    note(name)\n"
+        (self.room / "hooks.py").write_text(text)
+        self.begun("--after-load", "hooks:loaded", "--after-fork", "hooks:forked", "--warm", "/")
+        talks = [self.worker(number) for number in range(2)]
+        self.assertEqual([talk.hear() for talk, _ in talks], ["ready"] * 2)
+        notes = [line.split() for line in (self.room / "notes").read_text().splitlines()]
+        self.assertEqual(notes[0], ["loaded", str(self.templates.now.process.pid)])
+        wanted = sorted([f"1.1.{at}", str(self.process_at(address))] for at, (_, address) in enumerate(talks))
+        self.assertEqual(sorted(notes[1:]), wanted)
+
+    def test_a_function_that_fails_after_the_fork(self) -> None:
+        (self.room / "hooks.py").write_text("def forked(name):\n    1 / 0\n")
+        self.begun("--after-fork", "hooks:forked")
+        talk, _ = self.worker()
+        self.assertEqual((talk.hear(), talk.wait()), (END, 1))
+        self.assertIn("1.1.0 after the fork: ZeroDivisionError: division by zero\n", self.reasons())
+
+
+if __name__ == "__main__":
+    unittest.main()
