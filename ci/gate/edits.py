@@ -135,8 +135,8 @@ class Trials:
             thread.start()
 
     def proofs_ended(self):
-        """Beside the scripts, checks take half of the processors."""
-        self.turns.proofs_ended(max(1, kit.processors() // 2))
+        """Beside the scripts, checks take a quarter of the processors: those of services and their loads are not many."""
+        self.turns.proofs_ended(max(1, kit.processors() // 4))
 
     def proved(self, name):
         """A crate and all below it are proved: its edits can be tried."""

@@ -67,8 +67,8 @@ def waiting_for(name: str) -> str:
 
 
 def run_side_by_side(room: pathlib.Path) -> Iterator[str]:
-    """On four processors three run at a time, on one processor one, and `json` before what computes."""
-    for processors, wanted in ((1, 1), (2, 2), (4, 3)):
+    """On eight processors three run at a time, on two and four two, on one one, and `json` before what computes."""
+    for processors, wanted in ((1, 1), (2, 2), (4, 2), (8, 3)):
         # The first of both lanes, which a busy machine may otherwise begin one after the other.
         beside = {"adapters": waiting_for("cases"), "cases": waiting_for("adapters")} if wanted > 1 else {}
         scripts = laid_out(room, processors, **beside)

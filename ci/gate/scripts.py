@@ -49,8 +49,9 @@ AHEAD = -5
 COMPUTING = ("cases", "hostile", "rehearsals", "roundtrips", "reader", "limits", "explorations", "documents",
              "terminals", "deployments", "pictures")
 NICE = 10
-# From this number of processors on, two of those that wait run side by side.
-MANY = 4
+# From this number of processors on, two of those that wait run side by side. On four, two of them have starved each
+# other's services: eighteen checks of time failed in one run.
+MANY = 8
 # For how many seconds the proofs must leave room for a script beside them, and which part of the processors that is.
 LOOKS, ROOM = 10, 0.45
 # How long scripts may take to end once they are told to.

@@ -25,6 +25,14 @@ class Tally:
     passed: int = 0
     failed: int = 0
     wrong: list[str] = dataclasses.field(default_factory=list)
+    # Whether a request was lost: that no second run takes back.
+    is_lost: bool = False
+
+    def check_lost(self, faults: Iterable[str]) -> None:
+        """Counts one check of requests, of which none may be lost."""
+        failed = self.failed
+        self.check(faults)
+        self.is_lost |= self.failed > failed
 
     def check(self, faults: Iterable[str]) -> None:
         """Counts one check, which passes where there are no faults."""
@@ -38,6 +46,7 @@ class Tally:
         self.passed += other.passed
         self.failed += other.failed
         self.wrong += other.wrong
+        self.is_lost |= other.is_lost
 
     def end(self) -> int:
         """Prints what is wrong and the counts, and gives the exit status: 1 if a check failed or no check was made."""

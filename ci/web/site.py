@@ -278,7 +278,8 @@ class Site:
     def check_load(
         self, found: dict[str, Any], versions: Iterable[str], may_fail: int = 0, perhaps: Iterable[str] = (),
     ) -> None:
-        self.check(f"{found['failed']} requests failed: {found['failures']}", found["failed"] <= may_fail)
+        lost = f"{self.name}: {found['failed']} requests failed: {found['failures']}"
+        self.tally.check_lost([lost] if found["failed"] > may_fail else [])
         self.check(f"answers of {found['versions']}", set(found["versions"]) - set(perhaps) == set(versions))
 
     def nothing_left(self) -> None:
