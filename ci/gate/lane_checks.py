@@ -5,7 +5,7 @@ import threading
 import time
 from collections.abc import Callable, Iterator
 
-from gate.scripts import COMPUTING, FIRST, SCRIPTS, WAITING, WITHOUT_PROGRAM, Scripts, lanes
+from gate.scripts import COMPUTING, EXPECTED, FIRST, SCRIPTS, WAITING, WITHOUT_PROGRAM, Scripts, lanes
 from gate.waiting import comes
 
 PROCESSORS = (1, 2, 4, 8)
@@ -143,6 +143,18 @@ def tell_what_failed(room: pathlib.Path) -> Iterator[str]:
         yield f"told: {scripts.wrong()}"
 
 
+def miss_lost_checks(room: pathlib.Path) -> Iterator[str]:
+    """A script that makes fewer checks than are expected of it has failed."""
+    (room / EXPECTED).write_text("# the fewest\ncases 1\njson 2\n")
+    scripts = laid_out(room, 4)
+    with scripts:
+        scripts.begin()
+        scripts.run()
+    failed = {name: counted for name, counted in scripts.counted.items() if counted[1]}
+    if failed != {"json": (1, 1)} or "json: 1 checks, and 2" not in " ".join(scripts.wrong()):
+        yield f"a lost check: {failed}, {scripts.wrong()}"
+
+
 def leave_none_behind(room: pathlib.Path) -> Iterator[str]:
     """A run that is broken off ends its scripts and what they started, and begins no more of them."""
     scripts = laid_out(room, 4, adapters=LASTS, cases=LASTS)
@@ -180,7 +192,7 @@ def leave_out_the_rest(room: pathlib.Path) -> Iterator[str]:
 
 CHECKS: tuple[Callable[[pathlib.Path], Iterator[str]], ...] = (
     each_is_in_a_lane, run_side_by_side, begin_with_what_waits, begin_where_there_is_room, tell_what_failed,
-    leave_none_behind, leave_out_the_rest,
+    miss_lost_checks, leave_none_behind, leave_out_the_rest,
 )
 
 

@@ -58,6 +58,15 @@ LOOKS, ROOM = 10, 0.45
 END_SECONDS = 10.0
 # The result of a script: how much it counts as passed and as failed.
 Counted = tuple[int, int]
+# Where the fewest checks of each script stand, a line each, beside the scripts. Without the file none is expected.
+EXPECTED = "expected"
+
+
+def fewest_in(folder: pathlib.Path) -> dict[str, int]:
+    """How many checks each script makes at least: one that makes fewer has lost some."""
+    file = folder / EXPECTED
+    rows = [line.split() for line in file.read_text().splitlines()] if file.exists() else []
+    return {row[0]: int(row[1]) for row in rows if row and not row[0].startswith("#")}
 
 
 class Lane:
@@ -96,6 +105,7 @@ class Scripts:
         self.folder, self.program, self.say, self.processors = folder, program, say, processors
         *self.waiting, self.computing = lanes(processors)
         self.counted: dict[str, Counted] = {}
+        self.fewest = fewest_in(folder)
         self.seconds: dict[str, float] = {}
         self.failed: dict[str, list[str]] = {}
         self.mark, self.telling = Mark("PREFORK_GATE"), threading.Lock()
@@ -188,6 +198,9 @@ class Scripts:
         except Exception:
             # (this script fails, and the others go on)
             lines, counted = traceback.format_exc().rstrip().split("\n"), (0, 1)
+        if sum(counted) < self.fewest.get(name, 0):
+            lines = [*lines, f"{sum(counted)} checks, and {self.fewest[name]} at least are expected (ci/{EXPECTED})"]
+            counted = (counted[0], counted[1] + 1)
         self.seconds[name], self.counted[name] = time.monotonic() - began, counted
         if counted[1]:
             self.failed[name] = lines
