@@ -58,7 +58,7 @@ LOOKS, ROOM = 10, 0.45
 END_SECONDS = 10.0
 # The result of a script: how much it counts as passed and as failed.
 Counted = tuple[int, int]
-# Where the fewest checks of each script stand, a line each, beside the scripts. Without the file none is expected.
+# The file beside the scripts with the fewest checks of each, a line for each. Without the file none is expected.
 EXPECTED = "expected"
 
 

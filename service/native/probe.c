@@ -52,7 +52,7 @@ static void ask(struct probe *probe) {
     end_request(probe);
 }
 
-/* Looks at the first bytes of an answer: HTTP/1.1 200. */
+/* Looks at the first bytes of an answer: HTTP/1.x with a status from 100 to 499. */
 static void judge(struct probe *probe) {
     if (probe->is_told || probe->length < 12)
         return;

@@ -3,7 +3,7 @@ import dataclasses
 from collections.abc import Callable, Iterator
 
 from gate.documents import (
-    claims, codes, commands, explained, house, links, names, options, service_options, shape, versions, words,
+    claims, codes, commands, explained, house, links, names, options, pairs, service_options, shape, versions, words,
 )
 from gate.documents.pages import Tree
 
@@ -16,6 +16,7 @@ CHECKS: dict[str, Check] = {
     "codes": codes.faults,
     "explained": explained.faults,
     "commands": commands.faults,
+    "pairs": pairs.faults,
     "claims": claims.faults,
     "tables": shape.table_faults,
     "length": shape.length_faults,
@@ -64,6 +65,8 @@ MISTAKES = (
     Mistake("commands", "docs/prefork-plan.1", r"\-\-workers 2 TTOU", r"\-\-workers two TTOU", "status 2"),
     Mistake("commands", "docs/prefork.toml.5", "workers = 2\npid", "workers = 3\npid", "workers = 3"),
     Mistake("commands", "docs/prefork-plan.1", ".SH EXIT STATUS", ".SH ENDS", "no section EXIT STATUS"),
+    Mistake("pairs", "docs/CHILDREN.md", "`Edge::tick_reigning`", "`Edge::write_handover`", "Edge has no write_handover"),
+    Mistake("pairs", "docs/architecture/words.md", "`certifier::certificate`", "`certifier::carry_out`", "no carry_out"),
     Mistake("claims", "crates/certifier/README.md", "`IsCertified`", "`IsCertain`", "IsCertain"),
     Mistake("claims", "crates/certifier/README.md", "## Tested only", "## Tested", "Tested only"),
     Mistake("claims", "docs/PROVED.md", "(`Says`)", "(`SaysAll`)", "SaysAll"),
