@@ -4,11 +4,12 @@ The program that prefork-launch starts has the folder in PREFORK_FOLDER and its 
 PREFORK_WORKER. An adapter that ends since something is wrong appends a line to the file `reasons` there: its name,
 and why.
 """
+import functools
 import os
 import pathlib
 import re
 import subprocess
-from collections.abc import Iterable
+from collections.abc import Callable, Iterable
 from typing import Any
 
 from . import places
@@ -23,6 +24,8 @@ PLAIN = {
 # What prefork-launch calls a new master.
 NEW_MASTER = "adopt"
 MOST_BYTES, MOST_REASONS = 1 << 16, 5
+# How long the loop of the service waits to learn why no process could be started.
+START_SECONDS = 2.0
 UNKNOWN = "why is not known; the messages of workers are on the standard error of the service"
 
 
@@ -67,24 +70,24 @@ def cause_of(block: str) -> str | None:
 
 def explained(block: str, noted: dict[str, str], others: Iterable[str] = ()) -> list[str]:
     """Each call of a block that went wrong, with the reason; calls that went wrong alike once. `others` are reasons
-    that nobody has noted for one worker."""
+    that nobody has noted for one worker. However many starts have failed, one process is started to learn why."""
     found: dict[str, str] = {}
-    rest = list(dict.fromkeys(others))
+    rest, start = list(dict.fromkeys(others)), functools.cache(reason_of_start)
     for line in block.splitlines():
         call = CALL.fullmatch(line)
         if call and not is_plain(line):
-            why = reason_of(call, noted) or "; ".join(rest) or UNKNOWN
+            why = reason_of(call, noted, start) or "; ".join(rest) or UNKNOWN
             found.setdefault(f"{call[2]} {call[5]} {why}", f"{line}: {why}")
     return list(found.values())[:MOST_REASONS]
 
 
-def reason_of(call: re.Match, noted: dict[str, str]) -> str | None:
-    """Why a call failed, as far as it is known."""
+def reason_of(call: re.Match, noted: dict[str, str], start: Callable[[], str]) -> str | None:
+    """Why a call failed, as far as it is known. `start` says why a process could not be started."""
     kind, generation, number, answer = call[2], call[3], call[4], call[5]
     if kind == "fork":
-        return reason_of_start()
+        return start()
     if kind in ("spawn-master", "adopt", "alive"):
-        return noted.get(NEW_MASTER) or (reason_of_start() if kind == "spawn-master" else None)
+        return noted.get(NEW_MASTER) or (start() if kind == "spawn-master" else None)
     if kind == "ask":
         return "its operator said back"
     if kind == "await-ready" and answer == "late":
@@ -96,7 +99,9 @@ def reason_of_start() -> str:
     """Why a process could not be started, if that is so still."""
     streams: dict[str, Any] = dict.fromkeys(("stdin", "stdout", "stderr"), subprocess.DEVNULL)
     try:
-        subprocess.run([places.LAUNCH], **streams, check=False)
+        subprocess.run([places.LAUNCH], **streams, check=False, timeout=START_SECONDS)
     except OSError as fault:
         return f"{places.LAUNCH}: {fault.strerror}"
-    return "the system had no room for another process at that moment"
+    except subprocess.TimeoutExpired:
+        return f"{places.LAUNCH} has not started after {START_SECONDS:g} seconds"
+    return "the master had no process or descriptor left at that moment (its limits, or those of the system)"

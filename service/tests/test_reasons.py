@@ -60,7 +60,14 @@ class ReasonsTest(unittest.TestCase):
             with mock.patch.object(places, "LAUNCH", launch):
                 self.assertEqual(explained(block(line), {}), [f"{line}: {launch}: Permission denied"])
                 launch.chmod(0o755)
-                self.assertIn("no room for another process", explained(block(line), {})[0])
+                self.assertIn("no process or descriptor left", explained(block(line), {})[0])
+
+    def test_many_failed_starts_start_one_process(self) -> None:
+        """The loop waits for it, and a tick of a big service can fail to start hundreds of workers."""
+        failed = block(*(f"{number} m1 fork 1.2 {number} : again" for number in range(1, 201)))
+        with mock.patch("prefork_service.reasons.subprocess.run") as run:
+            self.assertEqual(len(explained(failed, {})), 1)
+        self.assertEqual(run.call_count, 1)
 
     def test_plain_calls_need_no_reason(self) -> None:
         for line in ("1 m1 open 127.0.0.1:80 : opened 4", "2 m1 fork 1.2 0 fds 3-4 : forked", "3 m1 census 1.2 : counted 0-2",
