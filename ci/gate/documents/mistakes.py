@@ -3,7 +3,8 @@ import dataclasses
 from collections.abc import Callable, Iterator
 
 from gate.documents import (
-    claims, codes, commands, explained, house, links, names, options, pairs, service_options, shape, versions, words,
+    claims, codes, commands, edits, explained, house, links, names, options, pairs, service_options, shape, versions,
+    words,
 )
 from gate.documents.pages import Tree
 
@@ -26,6 +27,7 @@ CHECKS: dict[str, Check] = {
     "sizes": house.size_faults,
     "functions": house.function_faults,
     "types": house.type_faults,
+    "edits": edits.faults,
 }
 
 
@@ -67,6 +69,8 @@ MISTAKES = (
     Mistake("commands", "docs/prefork-plan.1", ".SH EXIT STATUS", ".SH ENDS", "no section EXIT STATUS"),
     Mistake("pairs", "docs/CHILDREN.md", "`Edge::tick_reigning`", "`Edge::write_handover`", "Edge has no write_handover"),
     Mistake("pairs", "docs/architecture/words.md", "`certifier::certificate`", "`certifier::carry_out`", "no carry_out"),
+    Mistake("edits", "crates/explorer/must-fail/begins_with_a_shortfall.edit", "old: shortfall", "old: surplus", "has 0 times"),
+    Mistake("edits", "crates/explorer/must-fail/begins_with_a_shortfall.edit", "0,\nnew", "1,\nnew", "has 0 times"),
     Mistake("claims", "crates/certifier/README.md", "`IsCertified`", "`IsCertain`", "IsCertain"),
     Mistake("claims", "crates/certifier/README.md", "## Tested only", "## Tested", "Tested only"),
     Mistake("claims", "docs/PROVED.md", "(`Says`)", "(`SaysAll`)", "SaysAll"),
