@@ -70,7 +70,7 @@ MISTAKES = (
     Mistake("pairs", "docs/CHILDREN.md", "`Edge::tick_reigning`", "`Edge::write_handover`", "Edge has no write_handover"),
     Mistake("pairs", "docs/architecture/words.md", "`certifier::certificate`", "`certifier::carry_out`", "no carry_out"),
     Mistake("edits", "crates/explorer/must-fail/begins_with_a_shortfall.edit", "old: shortfall", "old: surplus", "has 0 times"),
-    Mistake("edits", "crates/explorer/must-fail/begins_with_a_shortfall.edit", "0,\nnew", "1,\nnew", "has 0 times"),
+    Mistake("edits", "crates/explorer/must-fail/begins_with_a_shortfall.edit", "0,\nnew", "1,\nnew", "it changes nothing"),
     Mistake("claims", "crates/certifier/README.md", "`IsCertified`", "`IsCertain`", "IsCertain"),
     Mistake("claims", "crates/certifier/README.md", "## Tested only", "## Tested", "Tested only"),
     Mistake("claims", "docs/PROVED.md", "(`Says`)", "(`SaysAll`)", "SaysAll"),
