@@ -17,7 +17,7 @@ import tomllib
 from typing import Any
 
 from .folder import Folder, say
-from .templates import Templates
+from .preloading import Preloading
 
 # How long the master's program may take to say whether it reads a configuration.
 ASKING_SECONDS = 10.0
@@ -105,7 +105,7 @@ class Commands:
         self.now, self.next = folder.path / "config.toml", folder.path / "next.toml"
         self.accepted = folder.path / "accepted.toml"
         # What workers by the default are forked by, if they are.
-        self.templates: Templates | None = None
+        self.preloading: Preloading | None = None
         self.known: list[pathlib.Path] = []
         self.proposed: list[str] | None = None
         self.is_changing = False
@@ -226,24 +226,24 @@ class Commands:
             self.accept()
             for file in self.known:
                 file.unlink(missing_ok=True)
-            self.settle_templates(True)
+            self.settle_preloading(True)
         else:
             self.forget_others()
             self.write_next(self.started_by(self.current, False))
-            self.settle_templates(False)
+            self.settle_preloading(False)
 
     def started_by(self, command: list[str] | None, is_next: bool) -> list[str] | None:
-        """What starts a worker by a command: a stand-in, if a template has loaded what the command line says."""
-        is_forked = self.templates and command and command == self.default
-        return self.templates.words(is_next) if self.templates and is_forked else command
+        """What starts a worker by a command: a shim, if a preloader has loaded what the command line says."""
+        is_forked = self.preloading and command and command == self.default
+        return self.preloading.words(is_next) if self.preloading and is_forked else command
 
     def is_forked(self) -> bool:
-        """Whether workers that run were forked by a template."""
-        return self.templates is not None and self.templates.now is not None
+        """Whether workers that run were forked by a preloader."""
+        return self.preloading is not None and self.preloading.now is not None
 
-    def settle_templates(self, has_changed: bool) -> None:
-        if self.templates:
-            self.templates.settle(has_changed)
+    def settle_preloading(self, has_changed: bool) -> None:
+        if self.preloading:
+            self.preloading.settle(has_changed)
 
     def clear(self) -> None:
         for file in [*self.place.iterdir(), self.now, self.next, self.accepted]:

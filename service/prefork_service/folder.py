@@ -49,7 +49,7 @@ class Folder:
                 say("waits for processes of an earlier service to end")
             is_told = True
             time.sleep(0.1)
-        for left in (self.words, self.keeper, *self.path.glob("template.*")):
+        for left in (self.words, self.keeper, *self.path.glob("preloader.*")):
             left.unlink(missing_ok=True)
         shutil.rmtree(self.workers, ignore_errors=True)
         self.workers.mkdir(mode=0o700)

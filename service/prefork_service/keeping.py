@@ -7,11 +7,11 @@ prefork-serve.
 import os
 import selectors
 import socket
-import subprocess
 import time
 from typing import Any
 
 from . import places
+from .burying import started
 from .convention import Hold
 from .folder import Folder, say
 from .keeper import ANSWERS, ASKS, CLOSED, ENDS, LONGEST_ADDRESS, LOST, OPENED, QUEUE, REFUSED, SETTLED
@@ -58,7 +58,7 @@ class Keeping:
         command = [places.KEEPER, *self.options, "--door", str(self.door.fileno()), self.folder.keeper]
         given = [self.folder.lock, self.door.fileno()]
         try:
-            self.process = subprocess.Popen(command, stdin=theirs, start_new_session=True, pass_fds=given)
+            self.process = started(command, stdin=theirs, start_new_session=True, pass_fds=given)
         except OSError as fault:
             self.channel.close()
             say(f"the keeper is not started: {fault.strerror}")

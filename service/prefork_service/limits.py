@@ -48,7 +48,7 @@ def limits_of(given: argparse.Namespace) -> list[str]:
 
 
 def ready_seconds(given: argparse.Namespace) -> float:
-    """How long an application may load in a template."""
+    """How long an application may load in a preloader."""
     return seconds_said(given.ready_within[-1]) if given.ready_within else ADAPTER_SECONDS
 
 

@@ -6,6 +6,7 @@ import sys
 from collections.abc import Callable
 from typing import Any
 
+from .burying import started
 from .folder import Folder
 from .limits import killed_by
 from .questions import ASKS, LOG
@@ -30,7 +31,7 @@ class Master:
         self.unread_errors, self.is_silent = b"", False
         # In a session of its own: ^C in a terminal is a word to the service, and does not end its master.
         pipes: dict[str, Any] = {"stdin": subprocess.PIPE, "stdout": subprocess.PIPE, "stderr": subprocess.PIPE}
-        self.process: Any = subprocess.Popen(command, **pipes, start_new_session=True, pass_fds=[folder.lock])
+        self.process: Any = started(command, **pipes, start_new_session=True, pass_fds=[folder.lock])
         self.output, self.errors = self.process.stdout.fileno(), self.process.stderr.fileno()
         os.set_blocking(self.errors, False)
 

@@ -13,8 +13,8 @@ import tomllib
 KEEPER_REST, SERVE_REST, MASTER_REST, PIPES = 80, 160, 24, 2
 # Those of visitors of a page, or of metrics at an address.
 SITE = 40
-# Of a template beside one for each worker, and of prefork-serve for its templates; how many templates run at a time.
-TEMPLATE_REST, DOORS, TEMPLATES = 64, 16, 2
+# Of a preloader beside one for each worker, and of prefork-serve for its preloaders; how many preloaders run at a time.
+PRELOADER_REST, PRELOADED, PRELOADERS = 64, 16, 2
 # prefork-serve, its keeper, two masters, and a word on its way.
 OWN_PROCESSES = 5
 
@@ -27,7 +27,7 @@ class Needs:
     serve: int
     master: int
     processes: int
-    template: int = 0
+    preloader: int = 0
 
 
 def groups_of(text: bytes) -> list[tuple[int, int]]:
@@ -52,14 +52,14 @@ def addresses_of(text: bytes) -> list[str]:
 
 def needs_of(text: bytes, processes_each: int, sites: int = 0, is_adapted: bool = False, is_forked: bool = False) -> Needs:
     """What the configuration needs, whose workers are some processes each, where prefork-serve has some pages. A worker
-    with an adapter has one connection to the keeper. One that is forked by a template has that too."""
+    with an adapter has one connection to the keeper. One that is forked by a preloader has that too."""
     groups = groups_of(text)
     workers, listeners = sum(count for count, _ in groups), sum(count for _, count in groups)
     connections = workers if is_adapted else sum(workers * listeners for workers, listeners in groups)
     return Needs(
-        KEEPER_REST + 2 * connections + listeners, SERVE_REST + listeners + SITE * sites + DOORS * is_forked,
-        MASTER_REST + 2 * PIPES * workers, OWN_PROCESSES + 2 * processes_each * workers + TEMPLATES * is_forked,
-        (TEMPLATE_REST + workers) * is_forked,
+        KEEPER_REST + 2 * connections + listeners, SERVE_REST + listeners + SITE * sites + PRELOADED * is_forked,
+        MASTER_REST + 2 * PIPES * workers, OWN_PROCESSES + 2 * processes_each * workers + PRELOADERS * is_forked,
+        (PRELOADER_REST + workers) * is_forked,
     )
 
 
@@ -85,7 +85,7 @@ def shortages(needs: Needs) -> list[str]:
     found = []
     for process, needed, limit in (
         ("its keeper", needs.keeper, hard), ("its master", needs.master, soft), ("prefork-serve", needs.serve, soft),
-        ("its template", needs.template, soft),
+        ("its preloader", needs.preloader, soft),
     ):
         if limit != resource.RLIM_INFINITY and needed > limit:
             found.append(f"a reload needs {needed} descriptors in {process}, and {limit} are allowed: ulimit -n, LimitNOFILE=")

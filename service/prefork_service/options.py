@@ -13,7 +13,7 @@ from .limits import seconds_of, seconds_said
 
 USAGE = """prefork-serve [OPTIONS] CONFIG -- PROGRAM ARGUMENT..
        prefork-serve [OPTIONS] --wsgi MODULE:APP CONFIG
-       prefork-serve [OPTIONS] --preload CONFIG -- TEMPLATE ARGUMENT..
+       prefork-serve [OPTIONS] --preload CONFIG -- PRELOADER ARGUMENT..
        prefork-serve [OPTIONS] CONFIG"""
 WSGI_THREADS = 4
 Options = dict[str, tuple[str | None, str]]
@@ -41,8 +41,8 @@ WSGI: Options = {
     "--warm": ("PATH", "ask it for PATH before it serves, or before the first fork"),
     "--after-fork": ("MODULE:NAME", "call this in each worker, with its name"),
 }
-# Of a template, beside those of a worker.
-TEMPLATE: Options = {"--after-load": ("MODULE:NAME", "call this once it has loaded, before the first fork")}
+# Of a preloader, beside those of a worker.
+PRELOADER: Options = {"--after-load": ("MODULE:NAME", "call this once it has loaded, before the first fork")}
 
 
 def parser() -> argparse.ArgumentParser:
@@ -64,11 +64,11 @@ def parser() -> argparse.ArgumentParser:
     made.add_argument("--metrics", metavar="FILE-OR-ADDRESS", help=measured)
     made.add_argument("--page", metavar="ADDRESS", help="show the service on a page at HOST:PORT, or at a Unix socket")
     made.add_argument("--wsgi", metavar="MODULE:APP", help="a WSGI application; it is served by waitress")
-    preload = "load the application once in each generation, and fork workers; PROGRAM is a template then"
+    preload = "load the application once in each generation, and fork workers; PROGRAM is a preloader then"
     made.add_argument("--preload", action="store_true", help=preload)
     python = "the Python that runs it (that of prefork-serve)"
     made.add_argument("--python", default=sys.executable, metavar="PROGRAM", help=python)
-    groups: dict[str, Options] = {"": SHARED, " PROGRAM": PROGRAM, " MODULE:APP": WSGI, " MODULE:APP with --preload": TEMPLATE}
+    groups: dict[str, Options] = {"": SHARED, " PROGRAM": PROGRAM, " MODULE:APP": WSGI, " MODULE:APP with --preload": PRELOADER}
     for title, options in groups.items():
         group = made.add_argument_group(f"options of a worker{title}")
         for option, (name, text) in options.items():
@@ -110,9 +110,9 @@ def arguments(words: list[str]) -> argparse.Namespace:
         made.error(fault)
     if given.preload and not given.wsgi and not given.program:
         made.error("--preload is an option of --wsgi or a PROGRAM, and there is none")
-    is_adapted, is_template = given.program and not given.preload, given.wsgi and given.preload
+    is_adapted, is_preloader = given.program and not given.preload, given.wsgi and given.preload
     for options, is_for, kind in [
-        (PROGRAM, is_adapted, "a PROGRAM"), (WSGI, given.wsgi, "--wsgi"), (TEMPLATE, is_template, "--wsgi with --preload")
+        (PROGRAM, is_adapted, "a PROGRAM"), (WSGI, given.wsgi, "--wsgi"), (PRELOADER, is_preloader, "--wsgi with --preload")
     ]:
         strange = handed_on(given, options)
         if strange and not is_for:
@@ -136,9 +136,9 @@ def handed_on(given: argparse.Namespace, options: Options) -> list[str]:
 
 
 def worker_command(given: argparse.Namespace) -> list[str] | None:
-    """What starts a worker, or the template that forks it, if the command line says it."""
+    """What starts a worker, or the preloader that forks it, if the command line says it."""
     if given.wsgi:
-        options = handed_on(given, SHARED | WSGI | TEMPLATE) + (["--template"] if given.preload else [])
+        options = handed_on(given, SHARED | WSGI | PRELOADER) + (["--preloader"] if given.preload else [])
         return checked([given.python, str(places.WSGI), *options], [given.wsgi])
     if given.preload:
         return given.program
@@ -172,7 +172,7 @@ def processes_each(given: argparse.Namespace) -> int:
     """How many processes and threads a worker is at least: those of its adapter and of the application."""
     threads = int(given.threads[-1]) if given.threads else WSGI_THREADS
     each = 2 + threads if given.wsgi else 3 if given.program and not given.preload else 1
-    # (and its stand-in)
+    # (and its shim)
     return each + given.preload
 
 

@@ -7,6 +7,7 @@ import tempfile
 from collections.abc import Sequence
 from typing import Any
 
+from .burying import started
 from .chronicle import Done
 from .reasons import is_plain
 from .rehearsing import rehearsal
@@ -136,7 +137,7 @@ class NextPlan:
         self.output.truncate()
         try:
             command = rehearsal("plan", "HUP", status, [])
-            self.process = subprocess.Popen(command, stdin=subprocess.DEVNULL, stdout=self.output, stderr=self.output)
+            self.process = started(command, stdin=subprocess.DEVNULL, stdout=self.output, stderr=self.output)
         except OSError as fault:
             self.text = f"It is not made: {fault}\n"
 

@@ -6,7 +6,7 @@ HOME = pathlib.Path(__file__).resolve().parent.parent
 BIN = HOME / "bin"
 KEEPER, WSGI = BIN / "prefork-keeper", BIN / "prefork-wsgi"
 ACTIVATE, LAUNCH = HOME / "out" / "prefork-activate", HOME / "out" / "prefork-launch"
-STANDIN = HOME / "out" / "prefork-standin"
+SHIM = HOME / "out" / "prefork-shim"
 
 
 def check() -> None:

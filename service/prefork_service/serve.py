@@ -34,6 +34,7 @@ import socket
 import sys
 
 from . import places
+from .burying import adopt_orphans
 from .chronicle import Chronicle
 from .commands import PID_OF_MASTER, Commands, refusal_of
 from .convention import Unfit
@@ -43,10 +44,10 @@ from .keeping import Keeping
 from .limits import limits_of, ready_seconds
 from .needs import addresses_of, needs_of, shortages
 from .options import arguments, fault_of, processes_each, program_of, worker_command
+from .preloading import Preloading
 from .records import MEGABYTE
 from .service import Service
 from .systemd import inherited, notify
-from .templates import Templates
 from .titles import set_title
 
 
@@ -93,7 +94,8 @@ def serve(given: argparse.Namespace, folder: Folder, commands: Commands, stored:
     try:
         keeping.hold(addresses_of(commands.now.read_bytes()))
         if given.preload and commands.default:
-            commands.templates = Templates(keeping.events, folder, commands.default, ready_seconds(given))
+            adopt_orphans()
+            commands.preloading = Preloading(keeping.events, folder, commands.default, ready_seconds(given))
         service = Service(keeping, supervise, commands, chronicle, limits_of(given))
         service.telling.open(keeping.events, given.metrics, given.page)
         service.run()
@@ -103,8 +105,8 @@ def serve(given: argparse.Namespace, folder: Folder, commands: Commands, stored:
         notify("STOPPING=1")
         if service:
             service.telling.end()
-        if commands.templates:
-            commands.templates.end()
+        if commands.preloading:
+            commands.preloading.end()
         keeping.end()
         chronicle.end()
         commands.clear()

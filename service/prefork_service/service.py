@@ -9,6 +9,7 @@ import sys
 import time
 from typing import Any
 
+from .burying import bury_orphans
 from .chronicle import Chronicle
 from .commands import PID_OF_MASTER, Commands, mistake_of, refusal_of
 from .door import Door
@@ -36,8 +37,8 @@ FAILED_START = re.compile(r"^\d+ m\d+ (?:fork|await-ready|spawn-master|adopt) .*
 OLD_SERVES = "the workers that run are of the version before. One that ends is started again from the files as they are " \
     "now: put the old version back, or mend the new one"
 
-TEMPLATE_SERVES = "the workers that run are of the version before. One that ends is forked again from the template that has " \
-    "loaded that version, and only if the template has ended too, it is loaded from the files as they are then"
+PRELOADER_SERVES = "the workers that run are of the version before. One that ends is forked again from the preloader that has " \
+    "loaded that version, and only if the preloader has ended too, it is loaded from the files as they are then"
 
 
 def is_broken(word: str, block: str) -> bool:
@@ -91,10 +92,11 @@ class Service:
                 key.data(key.fileobj)
             self.door.tend()
             self.keeping.tend()
-            if self.commands.templates:
-                self.commands.templates.tend()
+            if self.commands.preloading:
+                self.commands.preloading.tend()
             if self.keeping.has_lost():
                 self.ticks.hurry()
+            bury_orphans()
             self.end_late()
             self.chronicle.tend()
             self.telling.tend()
@@ -263,7 +265,7 @@ class Service:
         self.keeping.refusals.clear()
         found = [*self.chronicle.end_word(word.text, block, refusals, self.mistake(word, block))]
         if is_broken(word.text, block) and not refusals:
-            told = TEMPLATE_SERVES if self.commands.is_forked() else OLD_SERVES
+            told = PRELOADER_SERVES if self.commands.is_forked() else OLD_SERVES
             say(told)
             found.append(told)
         if word.text not in (START, *STOPS) and not word.text.startswith("tick "):
@@ -372,7 +374,7 @@ class Service:
             "waiting": len(self.waiting),
             "file_has_changed": self.commands.has_changed(),
             "records_waiting": self.chronicle.waiting(),
-            **({"templates": self.commands.templates.status()} if self.commands.templates else {}),
+            **({"preloaders": self.commands.preloading.status()} if self.commands.preloading else {}),
         }
 
     def status(self) -> Status:

@@ -144,7 +144,7 @@ def shown(status: Status) -> str:
         *map(shown_worker, status["workers"]),
         *shown_masters(status["masters"], status["master_restarts"]),
         f"keeper      process {keeper['process'] or 'none'}, started again {times(keeper['restarts'])}",
-        *map(shown_template, status.get("templates", [])),
+        *map(shown_preloader, status.get("preloaders", [])),
         f"last word   {last['word']} at {last['at']}: {last['report']}" if last else "last word   none",
         *(f"because     {why}" for why in (last["reasons"] if last else [])),
         f"now         {shown_doing(status)}",
@@ -154,9 +154,9 @@ def shown(status: Status) -> str:
     return "".join(f"{line}\n" for line in lines)
 
 
-def shown_template(template: Status) -> str:
-    state = "its last workers finish" if template["is_leaving"] else "has loaded" if template["is_loaded"] else "loads"
-    return f"template    process {template['process']}, {state}"
+def shown_preloader(preloader: Status) -> str:
+    state = "its last workers finish" if preloader["is_leaving"] else "has loaded" if preloader["is_loaded"] else "loads"
+    return f"preloader   process {preloader['process']}, {state}"
 
 
 def shown_worker(worker: Status) -> str:

@@ -8,7 +8,7 @@ A worker of a Prefork master that serves a WSGI application, with waitress as it
   its threads on standard error. The master starts another one.
 - An application that has not loaded --ready-within seconds (30) after `go` ends the worker: the reload is rolled back.
 
-With --template it is no worker but the template of its generation: it loads the application, and forks each worker.
+With --preloader it is no worker but the preloader of its generation: it loads the application, and forks each worker.
 """
 import argparse
 import faulthandler
@@ -27,11 +27,11 @@ from typing import Any
 
 from . import convention
 from .convention import Hold, Pipes, Unfit, clear_environment, warn
-from .template import Template, Tie
+from .preloader import Preloader, Lifeline
 from .titles import set_title
 
-# The tie of a worker that was forked by a template.
-tie: Tie | None = None
+# The lifeline of a worker that was forked by a preloader.
+lifeline: Lifeline | None = None
 
 
 class Worker:
@@ -52,7 +52,7 @@ class Worker:
                 for words in lines:
                     self.obey(*words)
                 self.end_if_stuck()
-                if tie and tie.is_broken():
+                if lifeline and lifeline.is_broken():
                     leave(1)
         except (Unfit, TypeError, IndexError) as fault:
             warn(f"ends: {fault}")
@@ -123,8 +123,8 @@ class Worker:
 def leave(status: int) -> None:
     """Ends the process, whatever its threads do."""
     sys.stderr.flush()
-    if tie:
-        tie.tell(f"ended {status}")
+    if lifeline:
+        lifeline.tell(f"ended {status}")
     os._exit(status)
 
 
@@ -159,10 +159,10 @@ def arguments() -> argparse.Namespace:
     ):
         parser.add_argument(option, type=kind, default=seconds, metavar="SECONDS", help=text)
     parser.add_argument("--chdir", default=".", metavar="FOLDER", help="where the module is (the current folder)")
-    parser.add_argument("--template", action="store_true", help="load the application, and fork workers that have it")
+    parser.add_argument("--preloader", action="store_true", help="load the application, and fork workers that have it")
     parser.add_argument("--warm", action="append", default=[], metavar="PATH", help="ask it for PATH before the first fork")
     for option, text in (
-        ("--after-load", "is called in the template, before the first fork"),
+        ("--after-load", "is called in the preloader, before the first fork"),
         ("--after-fork", "is called in each worker, with its name, such as 1.2.0"),
     ):
         parser.add_argument(option, action="append", default=[], metavar="MODULE:NAME", help=text)
@@ -204,10 +204,10 @@ def asked(application: Callable, path: str) -> None:
 
 
 def forked(given: argparse.Namespace) -> Callable:
-    """Is the template: loads the application, and forks workers. Returns the application in each of them."""
-    global tie
-    template = Template()
-    set_title("prefork-template")
+    """Is the preloader: loads the application, and forks workers. Returns the application in each of them."""
+    global lifeline
+    preloader = Preloader()
+    set_title("prefork-preload")
     faulthandler.dump_traceback_later(given.ready_within, exit=True)
     clear_environment()
     try:
@@ -221,16 +221,16 @@ def forked(given: argparse.Namespace) -> Callable:
             loaded(name)()
     except BaseException as fault:
         traceback.print_exc()
-        template.fail(f"{given.application}: {type(fault).__name__}: {fault}")
+        preloader.fail(f"{given.application}: {type(fault).__name__}: {fault}")
         leave(1)
     faulthandler.cancel_dump_traceback_later()
-    tie = template.run(warn)
-    convention.NAME = tie.name
-    set_title(f"worker {tie.name}")
-    tie.fasten()
+    lifeline = preloader.run(warn)
+    convention.NAME = lifeline.name
+    set_title(f"worker {lifeline.name}")
+    lifeline.fasten()
     for name in given.after_fork:
-        loaded(name)(tie.name)
-    os.environ["PREFORK_KEEPER"] = tie.keeper
+        loaded(name)(lifeline.name)
+    os.environ["PREFORK_KEEPER"] = lifeline.keeper
     return application
 
 
@@ -239,7 +239,7 @@ def main() -> int:
     if given.check:
         return 0
     try:
-        application = forked(given) if given.template else None
+        application = forked(given) if given.preloader else None
     except BaseException as fault:
         # Of a worker that was forked: a function that is called after the fork has failed.
         traceback.print_exc()

@@ -11,8 +11,8 @@ from typing import Any
 
 from kit import BIN, OUT, built, until
 from prefork_service.commands import Commands, mistake_of, parted, refusal_of
-from prefork_service.places import STANDIN
-from prefork_service.templates import Templates
+from prefork_service.places import SHIM
+from prefork_service.preloading import Preloading
 
 
 def words_of(file: pathlib.Path) -> list[str]:
@@ -123,46 +123,46 @@ class CommandsTest(unittest.TestCase):
         self.commands.settle("done cause none pid no-file")
         self.assertEqual((self.start("1.1"), words_of(self.place / "next")), (["one"], ["one"]))
 
-    def test_templates_have_names_of_their_own(self) -> None:
-        """The name of a generation comes again after one that was rolled back. Its template does not."""
+    def test_preloaders_have_names_of_their_own(self) -> None:
+        """The name of a generation comes again after one that was rolled back. Its preloader does not."""
         self.configure("workers = 1\n")
         commands = self.commands = self.made(["program"])
-        commands.templates = Templates(selectors.DefaultSelector(), types.SimpleNamespace(path=self.room), ["program"], 1.0)
-        self.addCleanup(commands.templates.end)
+        commands.preloading = Preloading(selectors.DefaultSelector(), types.SimpleNamespace(path=self.room), ["program"], 1.0)
+        self.addCleanup(commands.preloading.end)
         commands.begin()
 
-        def door(generation: str) -> str:
+        def socket_of(generation: str) -> str:
             program, place = self.start(generation)
-            self.assertEqual(program, str(STANDIN))
+            self.assertEqual(program, str(SHIM))
             return place.removeprefix(f"{self.room}/")
 
-        self.assertEqual(door("1.1"), "template.1")
+        self.assertEqual(socket_of("1.1"), "preloader.1")
         for number in (2, 3):
             commands.change("1.1")
-            self.assertEqual((door("1.2"), door("1.1")), (f"template.{number}", "template.1"))
+            self.assertEqual((socket_of("1.2"), socket_of("1.1")), (f"preloader.{number}", "preloader.1"))
             commands.settle("rolled-back cause 2 pid no-file")
-            # One that was late is forked by the template that runs, and none by the one that was given up.
-            self.assertEqual(door("1.3"), "template.1")
-            self.assertEqual([file.name for file in self.room.glob("template.*")], ["template.1"])
-        # A master that is started again has the template, and so the version, that ran.
+            # One that was late is forked by the preloader that runs, and none by the one that was given up.
+            self.assertEqual(socket_of("1.3"), "preloader.1")
+            self.assertEqual([file.name for file in self.room.glob("preloader.*")], ["preloader.1"])
+        # A master that is started again has the preloader, and so the version, that ran.
         commands.begin()
-        self.assertEqual(door("1.1"), "template.1")
+        self.assertEqual(socket_of("1.1"), "preloader.1")
         commands.change("1.1")
-        self.assertEqual(door("1.2"), "template.4")
+        self.assertEqual(socket_of("1.2"), "preloader.4")
         commands.settle("done cause none pid no-file")
-        self.assertEqual((door("1.2"), door("1.3")), ("template.4", "template.4"))
-        self.assertEqual([file.name for file in self.room.glob("template.*")], ["template.4"])
-        # A configuration with a command has no template, and the one after it a new one.
+        self.assertEqual((socket_of("1.2"), socket_of("1.3")), ("preloader.4", "preloader.4"))
+        self.assertEqual([file.name for file in self.room.glob("preloader.*")], ["preloader.4"])
+        # A configuration with a command has no preloader, and the one after it a new one.
         self.configure('command = ["one"]\nworkers = 1\n')
         commands.change("1.2")
         self.assertEqual(self.start("1.3"), ["one"])
         commands.settle("done cause none pid no-file")
-        self.assertEqual([*self.room.glob("template.*")], [])
+        self.assertEqual([*self.room.glob("preloader.*")], [])
         self.configure("workers = 1\n")
         commands.change("1.3")
-        self.assertEqual(door("1.4"), "template.5")
+        self.assertEqual(socket_of("1.4"), "preloader.5")
         commands.settle("done cause none pid no-file")
-        self.assertEqual(door("1.4"), "template.5")
+        self.assertEqual(socket_of("1.4"), "preloader.5")
 
     def test_the_program_of_the_command_line_is_for_configurations_without_a_command(self) -> None:
         commands = self.made(["program"])

@@ -28,8 +28,8 @@ class NeedsTest(unittest.TestCase):
         self.assertEqual(found.master, needs.MASTER_REST + 2 * 200 * 2)
         self.assertEqual(found.serve, needs.SERVE_REST + 4)
         forked = needs_of(SITE, 3, is_forked=True)
-        self.assertEqual((forked.template, found.template), (needs.TEMPLATE_REST + 200, 0))
-        self.assertEqual((forked.serve - found.serve, forked.processes - found.processes), (needs.DOORS, needs.TEMPLATES))
+        self.assertEqual((forked.preloader, found.preloader), (needs.PRELOADER_REST + 200, 0))
+        self.assertEqual((forked.serve - found.serve, forked.processes - found.processes), (needs.PRELOADED, needs.PRELOADERS))
         self.assertEqual(needs_of(SITE, 3, 2).serve, needs.SERVE_REST + 4 + 2 * needs.SITE)
         self.assertEqual(found.processes, needs.OWN_PROCESSES + 2 * 200 * 3)
 

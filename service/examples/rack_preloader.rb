@@ -1,8 +1,8 @@
 #!/usr/bin/env ruby
-# rack_template.rb CONFIG.RU [THREADS]
+# rack_preloader.rb CONFIG.RU [THREADS]
 #
-# A template in Ruby: prefork-serve --preload CONFIG -- ruby rack_template.rb config.ru. It loads a Rack application once,
-# and forks workers that serve it with puma. See docs/workers/templates.md.
+# A preloader in Ruby: prefork-serve --preload CONFIG -- ruby rack_preloader.rb config.ru. It loads a Rack application once,
+# and forks workers that serve it with puma. See docs/workers/preloaders.md.
 require "fcntl"
 require "socket"
 require "puma"
@@ -42,22 +42,22 @@ def work(app, input, output, keeper, threads)
   server.stop(true)
 end
 
-# The descriptors of the worker, as the stand-in has handed them over.
+# The descriptors of the worker, as the shim has handed them over.
 def become(connection, text, given, app, threads)
-  input, output, errors, leash = given
+  input, output, errors, lifeline = given
   STDERR.reopen(errors)
   _, name, keeper = text.split(" ", 3)
   Process.setproctitle("worker #{name}")
-  leash.fcntl(SETOWN, $$)
-  leash.fcntl(SETSIG, Signal.list["KILL"])
-  leash.fcntl(Fcntl::F_SETFL, leash.fcntl(Fcntl::F_GETFL) | ASYNC)
-  exit!(1) if leash.wait_readable(0)
+  lifeline.fcntl(SETOWN, $$)
+  lifeline.fcntl(SETSIG, Signal.list["KILL"])
+  lifeline.fcntl(Fcntl::F_SETFL, lifeline.fcntl(Fcntl::F_GETFL) | ASYNC)
+  exit!(1) if lifeline.wait_readable(0)
   connection.send("pid #{$$}", 0)
   work(app, input, output, keeper, threads)
   connection.send("ended 0", 0)
 end
 
-life, said, door = STDIN.dup, STDOUT.dup, Socket.for_fd(Integer(ENV.delete("PREFORK_DOOR")))
+life, said, door = STDIN.dup, STDOUT.dup, Socket.for_fd(Integer(ENV.delete("PREFORK_FORK_SOCKET")))
 STDIN.reopen("/dev/null") && STDOUT.reopen(STDERR)
 app, = Rack::Builder.parse_file(ARGV[0])
 GC.compact
@@ -72,7 +72,7 @@ loop do
     text, _, _, *more = connection.recvmsg(LONGEST, scm_rights: true)
     given = more.empty? ? [] : more[0].unix_rights
   rescue SystemCallError
-    # The stand-in has ended meanwhile.
+    # The shim has ended meanwhile.
     given = []
   end
   if given.size == 4

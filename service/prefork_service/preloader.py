@@ -1,10 +1,10 @@
-"""A template: a process that has loaded an application, and forks each worker of its generation.
+"""A preloader: a process that has loaded an application, and forks each worker of its generation.
 
 prefork-serve starts it. Its input is open as long as its generation may need workers; on its output it says `loaded`, or
-`failed` and why, and `forked` for each worker; PREFORK_DOOR is the number of a socket that listens. prefork-standin connects there for each worker, is
+`failed` and why, and `forked` for each worker; PREFORK_FORK_SOCKET is the number of a socket that listens. prefork-shim connects there for each worker, is
 told `give`, and sends `fork NAME KEEPER` with four descriptors: the input, output and errors of the worker, and the end of a pipe
-that is closed when the stand-in ends, and with which the worker ends then. The worker answers `pid NUMBER` on that
-connection, and may say `ended STATUS` there before it ends. See docs/workers/templates.md.
+that is closed when the shim ends, and with which the worker ends then. The worker answers `pid NUMBER` on that
+connection, and may say `ended STATUS` there before it ends. See docs/workers/preloaders.md.
 """
 import fcntl
 import gc
@@ -17,24 +17,24 @@ import threading
 import time
 from collections.abc import Callable
 
-DOOR = "PREFORK_DOOR"
+FORK_SOCKET = "PREFORK_FORK_SOCKET"
 # Of Linux, and not in the module fcntl: which signal tells that something has happened to a descriptor.
 F_SETSIG = 10
 LONGEST_LINE, HANDED = 200, 4
 
 
-class Tie:
-    """What ties a worker to its stand-in: each ends when the other one does."""
+class Lifeline:
+    """What ties a worker to its shim: each ends when the other one does."""
 
-    def __init__(self, name: str, keeper: str, connection: socket.socket, leash: int):
-        self.name, self.keeper, self.connection, self.leash = name, keeper, connection, leash
+    def __init__(self, name: str, keeper: str, connection: socket.socket, lifeline: int):
+        self.name, self.keeper, self.connection, self.end = name, keeper, connection, lifeline
 
     def fasten(self) -> None:
-        """The system kills this process when the stand-in ends: also if it hangs, or was stopped."""
+        """The system kills this process when the shim ends: also if it hangs, or was stopped."""
         try:
-            fcntl.fcntl(self.leash, fcntl.F_SETOWN, os.getpid())
-            fcntl.fcntl(self.leash, F_SETSIG, signal.SIGKILL)
-            fcntl.fcntl(self.leash, fcntl.F_SETFL, fcntl.fcntl(self.leash, fcntl.F_GETFL) | os.O_ASYNC)
+            fcntl.fcntl(self.end, fcntl.F_SETOWN, os.getpid())
+            fcntl.fcntl(self.end, F_SETSIG, signal.SIGKILL)
+            fcntl.fcntl(self.end, fcntl.F_SETFL, fcntl.fcntl(self.end, fcntl.F_GETFL) | os.O_ASYNC)
         except OSError:
             # A system without that: the thread that hears the master looks, too.
             pass
@@ -45,27 +45,27 @@ class Tie:
 
     def is_broken(self) -> bool:
         watched = selectors.PollSelector()
-        watched.register(self.leash, selectors.EVENT_READ)
+        watched.register(self.end, selectors.EVENT_READ)
         return bool(watched.select(0))
 
     def tell(self, text: str) -> None:
         try:
             self.connection.send(text.encode())
         except OSError:
-            # The stand-in has ended, and so does this process.
+            # The shim has ended, and so does this process.
             pass
 
     def close(self) -> None:
         """In a process that the application forks."""
         self.connection.close()
         try:
-            os.close(self.leash)
+            os.close(self.end)
         except OSError:
             pass
 
 
-class Template:
-    """The door, and the workers that were forked and run."""
+class Preloader:
+    """The socket at which shims ask for workers, and the workers that were forked and run."""
 
     def __init__(self) -> None:
         # Away from the numbers at which the application reads and prints.
@@ -74,19 +74,19 @@ class Template:
         os.dup2(nothing, 0)
         os.close(nothing)
         os.dup2(2, 1)
-        self.door = socket.socket(fileno=int(os.environ[DOOR]))
-        self.door.setblocking(False)
-        os.set_inheritable(self.door.fileno(), False)
+        self.fork_socket = socket.socket(fileno=int(os.environ[FORK_SOCKET]))
+        self.fork_socket.setblocking(False)
+        os.set_inheritable(self.fork_socket.fileno(), False)
         # The workers by the descriptors of their processes.
         self.workers: dict[int, tuple[int, str]] = {}
         self.events = selectors.DefaultSelector()
-        # Forked by the application while it loads, a process must not keep the door open.
+        # Forked by the application while it loads, a process must not keep the socket open.
         self.is_forking = False
         os.register_at_fork(after_in_child=self.leave_to_parent)
         self.before = descriptors()
 
     def leave_to_parent(self) -> None:
-        """In a process that the application has forked, and not this module: the template is not its own."""
+        """In a process that the application has forked, and not this module: the preloader is not its own."""
         if not self.is_forking and self.events:
             self.forget()
 
@@ -100,7 +100,7 @@ class Template:
             # prefork-serve has gone. The end of the input follows.
             pass
 
-    def run(self, warn: Callable[[str], None]) -> Tie:
+    def run(self, warn: Callable[[str], None]) -> Lifeline:
         """Forks workers until the generation needs no more and the last one has ended. Returns in each worker."""
         for text in self.doubts():
             warn(text)
@@ -108,11 +108,11 @@ class Template:
         gc.freeze()
         self.tell("loaded")
         self.events.register(self.life, selectors.EVENT_READ, self.hear_life)
-        self.events.register(self.door, selectors.EVENT_READ, self.open_door)
-        while self.door.fileno() >= 0 or self.workers:
+        self.events.register(self.fork_socket, selectors.EVENT_READ, self.accept_shim)
+        while self.fork_socket.fileno() >= 0 or self.workers:
             for key, _ in self.events.select():
-                if tie := key.data(key.fileobj):
-                    return tie
+                if lifeline := key.data(key.fileobj):
+                    return lifeline
         os._exit(0)
 
     def doubts(self) -> list[str]:
@@ -131,12 +131,12 @@ class Template:
         """prefork-serve says nothing: this is the end of the generation, or of the service."""
         if not os.read(self.life, 4096):
             self.events.unregister(self.life)
-            self.events.unregister(self.door)
-            self.door.close()
+            self.events.unregister(self.fork_socket)
+            self.fork_socket.close()
 
-    def open_door(self, door: socket.socket) -> None:
+    def accept_shim(self, listener: socket.socket) -> None:
         try:
-            connection, _ = door.accept()
+            connection, _ = listener.accept()
         except OSError:
             return
         connection.setblocking(False)
@@ -147,8 +147,8 @@ class Template:
             return
         self.events.register(connection, selectors.EVENT_READ, self.hear)
 
-    def hear(self, connection: socket.socket) -> Tie | None:
-        """A stand-in hands over its descriptors, or has gone."""
+    def hear(self, connection: socket.socket) -> Lifeline | None:
+        """A shim hands over its descriptors, or has gone."""
         self.events.unregister(connection)
         try:
             said, given, _, _ = socket.recv_fds(connection, LONGEST_LINE, HANDED)
@@ -160,7 +160,7 @@ class Template:
         self.put_away(connection, given)
         return None
 
-    def fork(self, name: str, keeper: str, connection: socket.socket, given: list[int]) -> Tie | None:
+    def fork(self, name: str, keeper: str, connection: socket.socket, given: list[int]) -> Lifeline | None:
         self.is_forking = True
         try:
             number = os.fork()
@@ -184,7 +184,7 @@ class Template:
         try:
             connection.send(f"no {why}".encode())
         except OSError:
-            # The stand-in has gone.
+            # The shim has gone.
             pass
 
     def put_away(self, connection: socket.socket, given: list[int]) -> None:
@@ -202,18 +202,18 @@ class Template:
             # The application has said that nobody waits for children.
             pass
 
-    def become(self, name: str, keeper: str, connection: socket.socket, given: list[int]) -> Tie:
+    def become(self, name: str, keeper: str, connection: socket.socket, given: list[int]) -> Lifeline:
         """In the worker."""
-        *streams, leash = given
+        *streams, lifeline = given
         for to, one in enumerate(streams):
             os.dup2(one, to)
             os.close(one)
         self.forget(connection)
         connection.setblocking(True)
-        return Tie(name, keeper, connection, leash)
+        return Lifeline(name, keeper, connection, lifeline)
 
     def forget(self, kept: socket.socket | None = None) -> None:
-        """Closes what belongs to the template alone."""
+        """Closes what belongs to the preloader alone."""
         for key in list(self.events.get_map().values()):
             one = key.fileobj
             if isinstance(one, socket.socket):
@@ -222,7 +222,7 @@ class Template:
             elif isinstance(one, int) and one != self.life:
                 os.close(one)
         self.events.close()
-        self.door.close()
+        self.fork_socket.close()
         os.close(self.life)
         os.close(self.said)
         self.events = None  # type: ignore[assignment]

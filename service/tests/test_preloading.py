@@ -1,4 +1,4 @@
-"""prefork-standin and templates: who ends with whom, and what those that wait are told."""
+"""prefork-shim and preloaders: who ends with whom, and what those that wait are told."""
 import os
 import pathlib
 import selectors
@@ -14,7 +14,7 @@ from typing import Any
 from kit import BIN, WorkerTest, answer_of, free_address, until
 from prefork_service.conversation import END
 from prefork_service.status import fields_of
-from prefork_service.templates import Templates
+from prefork_service.preloading import Preloading
 from test_wsgi import PYTHON
 
 APPLICATION = """import os, time
@@ -32,7 +32,7 @@ def runs(process: int) -> bool:
 
 
 @unittest.skipUnless(PYTHON, "no Python with waitress")
-class TemplatesTest(WorkerTest):
+class PreloadingTest(WorkerTest):
     """The loop of a service is a thread here."""
 
     def setUp(self) -> None:
@@ -41,13 +41,13 @@ class TemplatesTest(WorkerTest):
         (self.room / "app.py").write_text(APPLICATION)
         os.environ["PREFORK_FOLDER"] = str(self.room)
         self.addCleanup(os.environ.pop, "PREFORK_FOLDER")
-        self.ends, self.templates = False, None  # type: ignore[assignment]
+        self.ends, self.preloading = False, None  # type: ignore[assignment]
 
     def begun(self, *options: str, application: str = "app") -> None:
-        command = [str(PYTHON), str(BIN / "prefork-wsgi"), "--chdir", str(self.room), *options, "--template", application]
+        command = [str(PYTHON), str(BIN / "prefork-wsgi"), "--chdir", str(self.room), *options, "--preloader", application]
         events = selectors.DefaultSelector()
-        self.templates = Templates(events, types.SimpleNamespace(path=self.room), command, 5.0 if options[:1] == ("--ready-within",) else 30.0)
-        self.word = self.templates.words(False)
+        self.preloading = Preloading(events, types.SimpleNamespace(path=self.room), command, 5.0 if options[:1] == ("--ready-within",) else 30.0)
+        self.word = self.preloading.words(False)
         waked, self.wake = os.pipe()
         events.register(waked, selectors.EVENT_READ, lambda number: os.read(number, 1))
         self.thread = threading.Thread(target=self.loop, args=(events,))
@@ -58,8 +58,8 @@ class TemplatesTest(WorkerTest):
         while not self.ends:
             for key, _ in events.select(0.1):
                 key.data(key.fileobj)
-            self.templates.tend()
-        self.templates.end()
+            self.preloading.tend()
+        self.preloading.end()
 
     def finish(self) -> None:
         self.ends = True
@@ -76,14 +76,14 @@ class TemplatesTest(WorkerTest):
     def reasons(self) -> str:
         return (self.room / "reasons").read_text()
 
-    def test_workers_are_forked_by_one_template(self) -> None:
+    def test_workers_are_forked_by_one_preloader(self) -> None:
         self.begun()
         talks = [self.worker(number) for number in range(4)]
         self.assertEqual([talk.hear() for talk, _ in talks], ["ready"] * 4)
-        template = self.templates.now.process.pid
+        preloader = self.preloading.now.process.pid
         processes = [self.process_at(address) for _, address in talks]
-        self.assertEqual({int(fields_of(process)[1]) for process in processes}, {template})
-        self.assertEqual(self.templates.now.starts, 1)
+        self.assertEqual({int(fields_of(process)[1]) for process in processes}, {preloader})
+        self.assertEqual(self.preloading.now.starts, 1)
         # (they are all told the same first line)
         for process in processes:
             self.assertEqual(pathlib.Path(f"/proc/{process}/comm").read_text(), "worker 1.1.0\n")
@@ -115,32 +115,32 @@ class TemplatesTest(WorkerTest):
         self.assertTrue(until(lambda: not runs(process), 5))
         self.assertEqual(talk.wait(5), 1)
 
-    def test_a_killed_template(self) -> None:
+    def test_a_killed_preloader(self) -> None:
         self.begun()
         talk, address = self.worker()
         self.assertEqual(talk.hear(), "ready")
-        process, template = self.process_at(address), self.templates.now.process.pid
-        os.kill(template, signal.SIGKILL)
-        self.assertTrue(until(lambda: not runs(template)))
+        process, preloader = self.process_at(address), self.preloading.now.process.pid
+        os.kill(preloader, signal.SIGKILL)
+        self.assertTrue(until(lambda: not runs(preloader)))
         talk.say("ping")
         self.assertEqual((talk.hear(), self.process_at(address)), ("pong", process))
         other, other_address = self.worker(1)
         self.assertEqual(other.hear(), "ready")
-        self.assertNotEqual(self.templates.now.process.pid, template)
+        self.assertNotEqual(self.preloading.now.process.pid, preloader)
         self.assertNotEqual(self.process_at(other_address), process)
-        # The worker that has lost its template still ends with its stand-in, and its stand-in with it.
+        # The worker that has lost its preloader still ends with its shim, and its shim with it.
         talk.process.kill()
         self.assertTrue(until(lambda: not runs(process), 5))
 
-    def test_a_template_that_hangs(self) -> None:
+    def test_a_preloader_that_hangs(self) -> None:
         self.begun()
         talk, _ = self.worker()
         self.assertEqual(talk.hear(), "ready")
-        template = self.templates.now.process.pid
-        os.kill(template, signal.SIGSTOP)
+        preloader = self.preloading.now.process.pid
+        os.kill(preloader, signal.SIGSTOP)
         other, _ = self.worker(1)
         self.assertEqual(other.hear(30), "ready")
-        self.assertNotEqual(self.templates.now.process.pid, template)
+        self.assertNotEqual(self.preloading.now.process.pid, preloader)
 
     def test_an_application_that_does_not_load(self) -> None:
         (self.room / "app.py").write_text("1 / 0")
@@ -150,7 +150,7 @@ class TemplatesTest(WorkerTest):
         self.assertEqual([talk.wait() for talk in talks], [1] * 3)
         for number in range(3):
             self.assertIn(f"1.1.{number} app: ZeroDivisionError: division by zero\n", self.reasons())
-        self.assertEqual(self.templates.now.starts, 1)
+        self.assertEqual(self.preloading.now.starts, 1)
         # Mended, the next worker has it loaded.
         (self.room / "app.py").write_text(APPLICATION)
         talk, _ = self.worker()
@@ -159,7 +159,7 @@ class TemplatesTest(WorkerTest):
     def test_an_application_that_exits_or_hangs_while_it_loads(self) -> None:
         for text, told in (("import os; os._exit(7)", "status 7"), ("import time; time.sleep(60)", "has not loaded after 5 seconds")):
             (self.room / "app.py").write_text(text)
-            if not self.templates:
+            if not self.preloading:
                 self.begun("--ready-within", "5")
             talk, _ = self.worker()
             self.assertEqual((talk.hear(40), talk.wait()), (END, 1))
@@ -182,15 +182,15 @@ class TemplatesTest(WorkerTest):
         self.begun()
         talk, address = self.worker()
         self.assertEqual(talk.hear(), "ready")
-        old, process = self.templates.now, self.process_at(address)
+        old, process = self.preloading.now, self.process_at(address)
         self.finish()
-        template = old.process.pid
+        preloader = old.process.pid
         # It stays for its worker, and forks no other one.
         time.sleep(0.5)
-        self.assertTrue(runs(template) and runs(process))
+        self.assertTrue(runs(preloader) and runs(process))
         other, _ = self.worker(1)
         self.assertEqual(other.hear(), END)
-        self.assertIn("no template", self.reasons())
+        self.assertIn("no preloader", self.reasons())
         talk.say("quit")
         self.assertEqual((talk.hear(), talk.wait()), ("gone", 0))
         self.assertEqual(old.process.wait(10), 0)
@@ -200,12 +200,12 @@ class TemplatesTest(WorkerTest):
         text += "a = socket.socketpair()\nb = sqlite3.connect('base'); b.execute('create table t(x)')\n"
         text += "threading.Thread(target=time.sleep, args=(60,), name='poller', daemon=True).start()\n"
         (self.room / "app.py").write_text(text + APPLICATION)
-        command = [str(PYTHON), str(BIN / "prefork-wsgi"), "--chdir", str(self.room), "--template", "app"]
+        command = [str(PYTHON), str(BIN / "prefork-wsgi"), "--chdir", str(self.room), "--preloader", "app"]
         with socket.socket(socket.AF_UNIX, socket.SOCK_SEQPACKET) as door:
             door.bind(str(self.room / "door"))
             door.listen()
             given: dict[str, Any] = {"capture_output": True, "text": True, "pass_fds": [door.fileno()]}
-            told = subprocess.run(command, **given, input="", env={**os.environ, "PREFORK_DOOR": str(door.fileno())})
+            told = subprocess.run(command, **given, input="", env={**os.environ, "PREFORK_FORK_SOCKET": str(door.fileno())})
         self.assertEqual((told.returncode, told.stdout), (0, "loaded\n"))
         for text in ("threads (poller)", "a connection (descriptor", "/base (descriptor"):
             self.assertIn(text, told.stderr)
@@ -218,7 +218,7 @@ class TemplatesTest(WorkerTest):
         talks = [self.worker(number) for number in range(2)]
         self.assertEqual([talk.hear() for talk, _ in talks], ["ready"] * 2)
         notes = [line.split() for line in (self.room / "notes").read_text().splitlines()]
-        self.assertEqual(notes[0], ["loaded", str(self.templates.now.process.pid)])
+        self.assertEqual(notes[0], ["loaded", str(self.preloading.now.process.pid)])
         wanted = sorted([f"1.1.{at}", str(self.process_at(address))] for at, (_, address) in enumerate(talks))
         self.assertEqual(sorted(notes[1:]), wanted)
 

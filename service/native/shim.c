@@ -1,13 +1,13 @@
-/* prefork-standin DOOR
+/* prefork-shim SOCKET
  *
- * What a master starts as a worker of a generation that has a template: a process that has loaded the application, and
- * forks each worker. To its master this program is the worker: it hands its descriptors 0, 1 and 2 to the template at the
- * socket DOOR, and ends when the worker ends, with its status.
+ * What a master starts as a worker of a generation that has a preloader: a process that has loaded the application, and
+ * forks each worker. To its master this program is the worker: it hands its descriptors 0, 1 and 2 to the preloader at the
+ * socket SOCKET, and ends when the worker ends, with its status.
  *
  * The worker ends with it, too. It is given the end of a pipe of which this process alone has the other one, and asks the
  * system to be killed when that is closed. Signals are passed on.
  *
- * See docs/workers/templates.md for what is said at the door. */
+ * See docs/workers/preloaders.md for what is said at the socket. */
 #define _GNU_SOURCE
 #include "ask.h"
 #include "reason.h"
@@ -39,7 +39,7 @@ static void fail(const char *form, ...) {
     va_start(values, form);
     vsnprintf(text, sizeof text, form, values);
     va_end(values);
-    dprintf(2, "prefork-standin: %s\n", text);
+    dprintf(2, "prefork-shim: %s\n", text);
     note_reason(0, text);
     exit(1);
 }
@@ -53,7 +53,7 @@ static const char *name_of(void) {
 /* What `ps -o comm` shows. */
 static void show_name(void) {
     char title[16];
-    snprintf(title, sizeof title, "standin %.7s", name_of());
+    snprintf(title, sizeof title, "shim %.7s", name_of());
     prctl(PR_SET_NAME, title, 0, 0, 0);
 }
 
@@ -68,7 +68,7 @@ static int open_signals(void) {
     return signalfd(-1, &set, SFD_CLOEXEC);
 }
 
-/* Whether the master has told the worker to quit while it waits for the template: its lines stay in the pipe for the
+/* Whether the master has told the worker to quit while it waits for the preloader: its lines stay in the pipe for the
  * worker. */
 static bool is_told_to_quit(void) {
     char text[LONGEST_LINE + 1];
@@ -89,11 +89,11 @@ static void leave_if_told(void) {
         exit(write(1, "gone\n", 5) == 5 ? 0 : 1);
 }
 
-/* Waits until the template takes descriptors. A template that loads takes its time; a master that has gone, or no longer
+/* Waits until the preloader takes descriptors. A preloader that loads takes its time; a master that has gone, or no longer
  * wants the worker, is not kept waiting. */
-static void await_template(int door, int signals) {
+static void await_preloader(int preloader, int signals) {
     for (;;) {
-        struct pollfd watched[] = {{door, POLLIN, 0}, {signals, POLLIN, 0}, {0, 0, 0}};
+        struct pollfd watched[] = {{preloader, POLLIN, 0}, {signals, POLLIN, 0}, {0, 0, 0}};
         if (poll(watched, 3, 100) < 0 && errno != EINTR)
             fail("poll: %s", strerror(errno));
         if (watched[1].revents)
@@ -106,22 +106,22 @@ static void await_template(int door, int signals) {
     }
 }
 
-/* What the template or the worker says; the empty text if it has gone. */
-static const char *hear(int door) {
+/* What the preloader or the worker says; the empty text if it has gone. */
+static const char *hear(int preloader) {
     static char text[LONGEST_LINE];
-    ssize_t length = recv(door, text, sizeof text - 1, 0);
+    ssize_t length = recv(preloader, text, sizeof text - 1, 0);
     text[length > 0 ? length : 0] = 0;
     return text;
 }
 
-static void hand_over(int door, int leash) {
+static void hand_over(int preloader, int lifeline) {
     char text[200];
     const char *keeper = getenv("PREFORK_KEEPER");
     union {
         struct cmsghdr header;
         char bytes[CMSG_SPACE(HANDED * sizeof(int))];
     } control;
-    int numbers[HANDED] = {0, 1, 2, leash};
+    int numbers[HANDED] = {0, 1, 2, lifeline};
     int length = snprintf(text, sizeof text, "fork %.40s %.110s", name_of(), keeper ? keeper : "");
     struct iovec piece = {text, (size_t)length};
     struct msghdr message = {
@@ -131,12 +131,12 @@ static void hand_over(int door, int leash) {
     header->cmsg_type = SCM_RIGHTS;
     header->cmsg_len = CMSG_LEN(sizeof numbers);
     memcpy(CMSG_DATA(header), numbers, sizeof numbers);
-    if (sendmsg(door, &message, MSG_NOSIGNAL) < 0)
-        fail("the template has gone");
+    if (sendmsg(preloader, &message, MSG_NOSIGNAL) < 0)
+        fail("the preloader has gone");
     /* The pipes are the worker's alone. */
     close(0);
     close(1);
-    close(leash);
+    close(lifeline);
 }
 
 /* Notes the process of the worker beside this one in the folder `workers`, for the status. */
@@ -153,17 +153,17 @@ static void note_worker(int number) {
 
 /* The process of the worker, which has told its number and holds the other end of this connection: while that is open the
  * number is its own. */
-static int open_worker(int door) {
-    const char *text = hear(door);
+static int open_worker(int preloader) {
+    const char *text = hear(preloader);
     int number;
     if (!*text)
-        fail("the template has gone, or its worker before it began");
+        fail("the preloader has gone, or its worker before it began");
     if (!strncmp(text, "no ", 3))
         fail("%s", text + 3);
     if (sscanf(text, "pid %d", &number) != 1)
-        fail("the template says: %.100s", text);
+        fail("the preloader says: %.100s", text);
     int worker = (int)syscall(SYS_pidfd_open, number, 0);
-    struct pollfd watched = {door, 0, 0};
+    struct pollfd watched = {preloader, 0, 0};
     if (worker < 0 || (poll(&watched, 1, 0) == 1 && watched.revents & POLLHUP))
         fail("the worker has ended before it began");
     note_worker(number);
@@ -171,10 +171,10 @@ static int open_worker(int door) {
 }
 
 /* Passes signals on until the worker has ended; its status. */
-static int await_end(int door, int worker, int signals) {
+static int await_end(int preloader, int worker, int signals) {
     int status = 1;
     for (;;) {
-        struct pollfd watched[] = {{worker, POLLIN, 0}, {signals, POLLIN, 0}, {door, POLLIN, 0}};
+        struct pollfd watched[] = {{worker, POLLIN, 0}, {signals, POLLIN, 0}, {preloader, POLLIN, 0}};
         if (poll(watched, 3, -1) < 0 && errno != EINTR)
             fail("poll: %s", strerror(errno));
         if (watched[1].revents) {
@@ -182,34 +182,34 @@ static int await_end(int door, int worker, int signals) {
             if (read(signals, &taken, sizeof taken) == sizeof taken)
                 syscall(SYS_pidfd_send_signal, worker, (int)taken.ssi_signo, 0, 0);
         }
-        if (watched[2].revents && sscanf(hear(door), "ended %d", &status) != 1 && watched[2].revents & POLLHUP)
-            door = -1;
+        if (watched[2].revents && sscanf(hear(preloader), "ended %d", &status) != 1 && watched[2].revents & POLLHUP)
+            preloader = -1;
         if (watched[0].revents) {
-            if (door >= 0 && recv(door, 0, 0, MSG_PEEK | MSG_DONTWAIT) >= 0)
-                sscanf(hear(door), "ended %d", &status);
+            if (preloader >= 0 && recv(preloader, 0, 0, MSG_PEEK | MSG_DONTWAIT) >= 0)
+                sscanf(hear(preloader), "ended %d", &status);
             return status;
         }
     }
 }
 
 int main(int count, char **words) {
-    int leash[2];
+    int lifeline[2];
     if (count != 2) {
-        dprintf(2, "usage: prefork-standin DOOR\n");
+        dprintf(2, "usage: prefork-shim SOCKET\n");
         return 2;
     }
     show_name();
-    int signals = open_signals(), door = connect_keeper(words[1]);
-    if (door < 0)
-        fail("%s: no template: %s", words[1], strerror(errno));
-    if (signals < 0 || pipe2(leash, O_CLOEXEC) < 0)
+    int signals = open_signals(), preloader = connect_keeper(words[1]);
+    if (preloader < 0)
+        fail("%s: no preloader: %s", words[1], strerror(errno));
+    if (signals < 0 || pipe2(lifeline, O_CLOEXEC) < 0)
         fail("no pipe: %s", strerror(errno));
-    await_template(door, signals);
-    const char *said = hear(door);
+    await_preloader(preloader, signals);
+    const char *said = hear(preloader);
     if (strcmp(said, "give")) {
         leave_if_told();
-        fail("%s", !strncmp(said, "no ", 3) ? said + 3 : "the template has ended before it had loaded");
+        fail("%s", !strncmp(said, "no ", 3) ? said + 3 : "the preloader has ended before it had loaded");
     }
-    hand_over(door, leash[0]);
-    return await_end(door, open_worker(door), signals);
+    hand_over(preloader, lifeline[0]);
+    return await_end(preloader, open_worker(preloader), signals);
 }
