@@ -134,6 +134,7 @@ static void go(void) {
         open_notify();
     if (options.probe)
         open_probe(&probe, probe_path, &options);
+    arrange_addresses(&addresses);
     if (options.blocking)
         set_blocking();
     begin_waiting(&waiting, &addresses);
@@ -149,6 +150,7 @@ static void go(void) {
         fail("no process: %s", strerror(errno));
     if (options.probe)
         close(probe.listener);
+    forget_listeners(&addresses);
 }
 
 static void stop_with(int number) {
@@ -179,9 +181,10 @@ static void obey(char *text) {
     int count = sscanf(text, "%15s %256s %*s %31s", word, first, number);
     if (!strcmp(word, "worker") && count == 3)
         strcpy(start_number, number);
-    else if (!strcmp(word, "listener") && count == 2 && !holder)
-        take_address(&addresses, first);
-    else if (!strcmp(text, "go"))
+    else if (!strcmp(word, "listener") && count == 2 && !holder) {
+        if (is_of_generation(first))
+            take_address(&addresses, first);
+    } else if (!strcmp(text, "go"))
         go();
     else if (!strcmp(text, "ping"))
         say("pong");
@@ -189,9 +192,9 @@ static void obey(char *text) {
         tick(first);
     else if (!strcmp(text, "usr1"))
         stop_with(options.usr1);
-    else if (!strcmp(word, "close") && count == 2)
-        release_address(&addresses, first);
-    else if (!strcmp(text, "quit")) {
+    else if (!strcmp(word, "close") && count == 2) {
+        /* The program can't close a socket because somebody says so. It has none that its configuration does not name. */
+    } else if (!strcmp(text, "quit")) {
         was_told_to_quit = true;
         finish();
     } else

@@ -110,6 +110,7 @@ static void hold(const struct gifts *gifts, int line) {
     prctl(PR_SET_NAME, "prefork-hold");
     int ends = signalfd(-1, &child, SFD_CLOEXEC), fault = 0;
     pid_t program = start_program(gifts, &fault);
+    drop_gifts(gifts);
     if (program > 0 && !fault) {
         tell(line, NEWS_STARTED, (int)program);
         pass_on(line, ends, program);

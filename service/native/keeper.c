@@ -36,6 +36,44 @@ static void ask(struct addresses *addresses, const char *text, char *answer, siz
         fail("%s: the keeper %s", text, errno == ETIMEDOUT ? "does not answer" : "has gone");
 }
 
+/* The addresses of the generation's configuration, in its order, each with a space before and after it; the empty text
+ * where nobody has said. */
+static const char *of_generation(void) {
+    static char text[MOST_LISTENERS * 256];
+    const char *said = getenv("PREFORK_ADDRESSES");
+    if (said && *said && !*text)
+        snprintf(text, sizeof text, " %s ", said);
+    return text;
+}
+
+/* Where an address has its place among those of the generation, or null. */
+static const char *place_of(const char *text) {
+    char word[260];
+    snprintf(word, sizeof word, " %s ", text);
+    return strstr(of_generation(), word);
+}
+
+bool is_of_generation(const char *text) {
+    return !*of_generation() || place_of(text);
+}
+
+void arrange_addresses(struct addresses *addresses) {
+    for (int from = 1; *of_generation() && from < addresses->count; from++)
+        for (int at = from; at > 0 && place_of(addresses->of[at].text) < place_of(addresses->of[at - 1].text); at--) {
+            struct address moved = addresses->of[at];
+            addresses->of[at] = addresses->of[at - 1];
+            addresses->of[at - 1] = moved;
+        }
+}
+
+void forget_listeners(struct addresses *addresses) {
+    for (int at = 0; at < addresses->count; at++) {
+        if (addresses->of[at].listener >= 0)
+            close(addresses->of[at].listener);
+        addresses->of[at].listener = -1;
+    }
+}
+
 void take_address(struct addresses *addresses, const char *text) {
     char answer[256];
     if (addresses->count == MOST_LISTENERS)
@@ -48,15 +86,4 @@ void take_address(struct addresses *addresses, const char *text) {
     if (!address->text)
         fail("out of memory");
     addresses->count++;
-}
-
-void release_address(struct addresses *addresses, const char *text) {
-    for (int at = 0; at < addresses->count; at++) {
-        struct address *address = &addresses->of[at];
-        if (strcmp(address->text, text) || address->listener < 0)
-            continue;
-        close(address->listener);
-        address->listener = -1;
-        /* The program still has it: it is not given up before the program ends. */
-    }
 }

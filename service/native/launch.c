@@ -3,8 +3,10 @@
  * What a master starts as its workers, and as the new master of an upgrade. prefork-serve starts masters with it.
  *
  * `child` becomes the worker of its generation. The folder PREFORK_FOLDER has a file for each generation, commands/I.C:
- * the words of the command, each ended by a byte 0. The first worker of a generation takes commands/next for it. The
- * generation is read from the master's first line, which stays in the pipe for the worker.
+ * the words of the command, each ended by a byte 0. Words PREFORK_NAME=VALUE before them are for its environment. The
+ * first worker of a generation takes commands/next for it. The generation is read from the master's first line, which
+ * stays in the pipe for the worker. The worker starts in the folder to which the path PREFORK_PLACE leads at that moment: a
+ * symbolic link may lead elsewhere by then.
  *
  * `adopt` becomes `PREFORK_PROGRAM adopt`, with this program for its workers.
  *
@@ -109,6 +111,23 @@ static char **command_of(const char *generation) {
     return words;
 }
 
+/* Puts the words before the command into the environment; the command. */
+static char **set_variables(char **words) {
+    while (*words && !strncmp(*words, "PREFORK_", 8) && strchr(*words, '='))
+        putenv(*words++);
+    return words;
+}
+
+/* Goes to the folder in which programs start, by its text. */
+static void enter_place(void) {
+    const char *place = getenv("PREFORK_PLACE");
+    if (!place || !*place)
+        return;
+    if (chdir(place) < 0)
+        fail("%s: %s", place, strerror(errno));
+    setenv("PWD", place, 1);
+}
+
 /* Takes the standard error of the service. Without a keeper it stays as it is: the worker cannot start then, and says
  * so. */
 static void take_errors(void) {
@@ -131,9 +150,10 @@ int main(int count, char **words) {
         char name[64];
         snprintf(name, sizeof name, "%s.%u", generation, number);
         setenv("PREFORK_WORKER", name, 1);
-        char **command = command_of(generation);
+        char **command = set_variables(command_of(generation));
         note_process(generation, number);
         take_errors();
+        enter_place();
         execvp(command[0], command);
         fail("%s: %s", command[0], strerror(errno));
     }

@@ -35,6 +35,11 @@ void keep_gifts(const struct gifts *gifts, int kept) {
     close_range((unsigned)kept + 1, ~0U, 0);
 }
 
+void drop_gifts(const struct gifts *gifts) {
+    for (int at = 0; at < gift_count(gifts); at++)
+        close(gift(gifts, at));
+}
+
 static void append(char *text, size_t room, const char *more, size_t length) {
     size_t had = strlen(text);
     if (had + length >= room) {

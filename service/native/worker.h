@@ -45,8 +45,14 @@ double now(void);
 
 void read_options(int count, char **words, struct options *options);
 
-/* keeper.c: asks the keeper for an address. Ends the worker if it cannot have it. */
+/* keeper.c: whether the configuration of this generation has an address, as far as PREFORK_ADDRESSES says. While it
+ * reloads, a master names those of the configuration before, too: a program can't give a socket back that it has. */
+bool is_of_generation(const char *text);
+/* Asks the keeper for an address. Ends the worker if it cannot have it. */
 void take_address(struct addresses *addresses, const char *text);
-void release_address(struct addresses *addresses, const char *text);
+/* Puts them into the order of the configuration. */
+void arrange_addresses(struct addresses *addresses);
+/* Closes the listening sockets. They are the program's, and the worker still holds the addresses at the keeper. */
+void forget_listeners(struct addresses *addresses);
 
 #endif

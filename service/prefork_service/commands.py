@@ -17,6 +17,7 @@ import tomllib
 from typing import Any
 
 from .folder import Folder, say
+from .needs import addresses_of
 from .preloading import Preloading
 
 # How long the master's program may take to say whether it reads a configuration.
@@ -25,6 +26,8 @@ ASKING_SECONDS = 10.0
 HEADING, CODE = re.compile(r"  (?:config|file|usage|[A-Z]\d+): "), re.compile(r"  [A-Z]\d+: (.*)")
 # The rules of `command` in a configuration.
 MOST_WORDS, LONGEST_WORD = 16, 255
+# The variable that tells a worker the addresses of its generation, in their order.
+ADDRESSES = "PREFORK_ADDRESSES"
 
 
 def is_command(value: object) -> bool:
@@ -180,7 +183,7 @@ class Commands:
         """Forgets all generations: a master is about to start."""
         for file in self.generations():
             file.unlink()
-        self.write_next(self.started_by(self.current, False))
+        self.write_next(self.started_by(self.current, False), self.now)
 
     def generations(self) -> list[pathlib.Path]:
         return [file for file in self.place.iterdir() if file.name[0].isdigit()]
@@ -191,8 +194,11 @@ class Commands:
             if file not in self.known:
                 file.unlink(missing_ok=True)
 
-    def write_next(self, command: list[str] | None) -> None:
-        words = command or ["false"]
+    def write_next(self, command: list[str] | None, config: pathlib.Path) -> None:
+        """Writes the command of the next generation, and before it the addresses of its configuration: a master names
+        those of the configuration before, too, while it reloads."""
+        addresses = addresses_of(config.read_bytes()) if config.exists() else []
+        words = [*([f"{ADDRESSES}={' '.join(addresses)}"] if addresses else []), *(command or ["false"])]
         text, there = b"".join(word.encode("utf-8", "surrogateescape") + b"\0" for word in words), self.place / "next"
         if there.exists() and there.read_bytes() == text:
             # On a full disk it could not be written again.
@@ -208,7 +214,7 @@ class Commands:
         one afterwards, for its generation, and the next reload has a generation of the same name."""
         self.known, self.is_changing = [file for file in self.generations() if running in ("", file.name)], True
         self.proposed = self.read(self.next)
-        self.write_next(self.started_by(self.proposed, True))
+        self.write_next(self.started_by(self.proposed, True), self.next)
         self.forget_others()
 
     def next_text(self) -> bytes:
@@ -229,7 +235,7 @@ class Commands:
             self.settle_preloading(True)
         else:
             self.forget_others()
-            self.write_next(self.started_by(self.current, False))
+            self.write_next(self.started_by(self.current, False), self.now)
             self.settle_preloading(False)
 
     def started_by(self, command: list[str] | None, is_next: bool) -> list[str] | None:

@@ -31,6 +31,8 @@ packet each:
     ~           a worker holds its addresses no longer: it finishes, or has ended
     !ADDRESS: REASON    the keeper can't open it
     =           all who are to hold a socket have asked for it since: it may be closed, once those that finish are over
+    /ADDRESS    no configuration names it any more: it is closed, and opened anew if somebody asks for it
+    %ADDRESS    if the path of this Unix socket has been removed, it is opened anew
     ?  .        prefork-serve asks whether the keeper answers, and it does
     x           the keeper is to end, and Unix sockets are to be removed
 """
@@ -41,22 +43,19 @@ import os
 import resource
 import selectors
 import socket
-import stat
 import sys
 import time
 
 from .door import Door, has_said
+from .sockets import QUEUE, file_of, listening
 from .titles import set_title
 
 LINGER = 2.0
 # How long workers that hold a socket, and are not known to, may take to close it once they finish.
 FINISH_SECONDS = 10.0
-QUEUE = 1024
 # How many clients may have connected and not asked yet: all workers that there can be may start at a time.
 MOST_SILENT = 1024
 LONGEST_ADDRESS = 200
-# How long a connection without a byte is held back; the system counts in its own steps.
-DEFER_SECONDS = 1
 # Asked for in place of an address: the standard error of the service.
 ERRORS = "errors"
 # How a holder begins what it says of an address that it gives up.
@@ -65,7 +64,7 @@ DEFER = "--defer-accept"
 # Of Unix sockets.
 MODE, GROUP = "--socket-mode", "--socket-group"
 # What the packets to and from prefork-serve begin with.
-OPENED, CLOSED, REFUSED, SETTLED, ASKS, ANSWERS, ENDS, LOST = "+-!=?.x~"
+OPENED, CLOSED, REFUSED, SETTLED, ASKS, ANSWERS, ENDS, LOST, DROPS, RENEWS = "+-!=?.x~/%"
 
 
 def say(text: str) -> None:
@@ -82,6 +81,7 @@ class Kept:
     def __init__(self, address: str, one: socket.socket, has_strangers: bool = False):
         self.address, self.socket, self.has_strangers = address, one, has_strangers
         self.holders, self.free_since = 0, 0.0
+        self.file = file_of(address)
 
     def settle(self) -> None:
         """Strangers finish, and nobody else is one."""
@@ -98,59 +98,12 @@ class Kept:
     def remove(self) -> None:
         """Closes it, and removes it if it is a file."""
         self.socket.close()
-        if self.address.startswith("/"):
+        if self.file and file_of(self.address) == self.file:
             try:
                 os.unlink(self.address)
             except OSError:
                 # It has gone, or lies in a folder of another user: the socket of a unit is systemd's.
                 pass
-
-
-def listening(address: str, defers: bool, group: int | None = None) -> socket.socket:
-    """A socket that listens at an address. Its mode, if it is a file, is that of the umask."""
-    place: str | tuple[str, int] = address
-    if address.startswith("/"):
-        remove_stale(address)
-    else:
-        host, _, port = address.rpartition(":")
-        place = host, int(port)
-    opened = socket.socket(socket.AF_UNIX if place == address else socket.AF_INET, socket.SOCK_STREAM)
-    try:
-        opened.setsockopt(socket.SOL_SOCKET, socket.SO_REUSEADDR, 1)
-        opened.bind(place)
-        if group is not None and place == address:
-            give_group(address, group)
-        if defers and place != address:
-            opened.setsockopt(socket.IPPROTO_TCP, socket.TCP_DEFER_ACCEPT, DEFER_SECONDS)
-        opened.listen(QUEUE)
-    except OSError:
-        opened.close()
-        raise
-    # All workers are woken by a connection, and one of them gets it: the others must not wait for the next one.
-    opened.setblocking(False)
-    return opened
-
-
-def give_group(path: str, group: int) -> None:
-    """Gives a Unix socket to a group, or removes it."""
-    try:
-        os.chown(path, -1, group)
-    except OSError:
-        os.unlink(path)
-        raise
-
-
-def remove_stale(path: str) -> None:
-    """Removes a Unix socket that nobody listens on any more."""
-    try:
-        if not stat.S_ISSOCK(os.stat(path).st_mode):
-            return
-        with socket.socket(socket.AF_UNIX) as probe:
-            probe.connect(path)
-    except FileNotFoundError:
-        pass
-    except ConnectionRefusedError:
-        os.unlink(path)
 
 
 class Channel:
@@ -182,6 +135,8 @@ class Keeper:
     ):
         self.linger, self.defers, self.channel, self.group = linger, defers, channel, group
         self.kept: dict[str, Kept] = {}
+        # Addresses that were dropped once.
+        self.dropped: set[str] = set()
         self.held: dict[socket.socket, set[Kept]] = {}
         # Whether a holder has gone that prefork-serve was not told of.
         self.has_lost = False
@@ -221,7 +176,7 @@ class Keeper:
 
     def give(self, holder: socket.socket, address: str) -> None:
         """Gives a holder the socket of an address."""
-        self.take_given(address)
+        self.take_given()
         try:
             kept = self.kept.get(address) or self.opened(address)
         except (OSError, OverflowError, ValueError) as refusal:
@@ -236,14 +191,15 @@ class Keeper:
         except OSError:
             self.let_go(holder)
 
-    def take_given(self, address: str) -> None:
-        """Hears what prefork-serve has said before it opens an address: the socket may be among those that are given,
-        and be in use."""
-        while self.channel and address not in self.kept and has_said(self.channel.socket):
+    def take_given(self) -> None:
+        """Hears what prefork-serve has said before it gives an address: the socket may be among those that are given, or
+        are to be closed."""
+        while self.channel and has_said(self.channel.socket):
             self.hear_serve(self.channel.socket)
 
     def opened(self, address: str) -> Kept:
-        kept = self.kept[address] = Kept(address, listening(address, self.defers, self.group))
+        is_again = address in self.dropped
+        kept = self.kept[address] = Kept(address, listening(address, self.defers, self.group, is_again))
         kept.free_since = time.monotonic()
         if self.channel:
             self.channel.tell(OPENED + address, kept.socket)
@@ -293,6 +249,24 @@ class Keeper:
                 if self.channel:
                     self.channel.tell(CLOSED + kept.address)
 
+    def drop(self, address: str) -> None:
+        """Closes an address that no configuration names. Workers that finish may still hold it."""
+        self.dropped.add(address)
+        if kept := self.kept.pop(address, None):
+            kept.remove()
+            if self.channel:
+                self.channel.tell(CLOSED + address)
+
+    def renew(self, address: str) -> None:
+        """Opens a Unix socket anew whose path has been removed. Those who hold the old one serve its queue."""
+        kept = self.kept.get(address)
+        if not kept or (kept.file and file_of(address) == kept.file):
+            return
+        try:
+            self.opened(address)
+        except OSError as refusal:
+            say(f"{address} is not opened anew: {refusal.strerror}")
+
     def hear_serve(self, _: socket.socket) -> None:
         said, given = self.channel.hear() if self.channel else ("", None)
         kind, address = said[:1], said[1:]
@@ -301,6 +275,10 @@ class Keeper:
         elif kind == SETTLED:
             for kept in self.kept.values():
                 kept.settle()
+        elif kind == DROPS:
+            self.drop(address)
+        elif kind == RENEWS:
+            self.renew(address)
         elif kind == ASKS and self.channel:
             self.channel.tell(ANSWERS)
         elif kind == ENDS:

@@ -5,6 +5,7 @@ wait for their answer, while a keeper starts. systemd is given the sockets too, 
 prefork-serve.
 """
 import os
+import select
 import selectors
 import socket
 import time
@@ -14,13 +15,16 @@ from . import places
 from .burying import started
 from .convention import Hold
 from .folder import Folder, say
-from .keeper import ANSWERS, ASKS, CLOSED, ENDS, LONGEST_ADDRESS, LOST, OPENED, QUEUE, REFUSED, SETTLED
+from .keeper import ANSWERS, ASKS, CLOSED, DROPS, ENDS, LONGEST_ADDRESS, LOST, OPENED, REFUSED, RENEWS, SETTLED
+from .sockets import QUEUE, file_of, seal
 from .systemd import store, unstore
 
 # How long it may take to answer, before it is killed; how often it is asked, and the least time between two starts.
 ANSWER_SECONDS, ASK_SECONDS, PAUSE_SECONDS = 10.0, 1.0, 1.0
 # How long the first one may take to open an address of the start.
 START_SECONDS = 60.0
+# How long workers may take to accept the connections that wait at a stop, and how often it is looked.
+DRAIN_SECONDS, LOOK_SECONDS = 1.0, 0.01
 
 
 class Keeping:
@@ -28,6 +32,10 @@ class Keeping:
 
     def __init__(self, events: selectors.BaseSelector, folder: Folder, options: list[str], held: dict[str, socket.socket]):
         self.events, self.folder, self.options, self.held = events, folder, options, held
+        # Those that systemd has opened or stored: it gives them to the next start. And those that take no new connection.
+        self.of_systemd, self.sealed = set(held), set[str]()
+        # The files of Unix sockets.
+        self.files = {address: file_of(address) for address in held}
         # The keeper and the socket to it, once it is started; when it was begun and asked last, and whether it owes an
         # answer.
         self.process: Any = None
@@ -85,11 +93,11 @@ class Keeping:
             said, given = b"", []
         kind, text = said.decode()[:1], said.decode()[1:]
         if kind == OPENED and given:
-            self.held[text] = socket.socket(fileno=given[0])
+            self.forget(text)
+            self.held[text], self.files[text] = socket.socket(fileno=given[0]), file_of(text)
             store(text, self.held[text])
         elif kind == CLOSED:
-            unstore(text)
-            self.held.pop(text).close()
+            self.forget(text)
         elif kind == REFUSED:
             self.refusals.append(text)
             say(f"an address is not opened: {text}")
@@ -99,6 +107,66 @@ class Keeping:
             self.lost = True
         elif not kind:
             self.bury()
+
+    def forget(self, address: str) -> None:
+        """Closes the copy of a socket that the keeper has closed, or opened anew."""
+        if one := self.held.pop(address, None):
+            unstore(address)
+            one.close()
+        self.sealed.discard(address)
+        self.files.pop(address, None)
+
+    def drop_others(self, addresses: list[str]) -> None:
+        """The configuration that runs names these addresses. At the others new connections are refused from now on, though
+        workers that finish may still have the sockets. A socket of systemd's is closed later, and never refuses."""
+        for address in set(self.held) - set(addresses) - self.of_systemd:
+            self.drop(address)
+
+    def drop(self, address: str) -> None:
+        seal(self.held[address])
+        if self.process:
+            self.tell(DROPS + address)
+        else:
+            self.forget(address)
+
+    def renew(self) -> None:
+        """A new generation follows: Unix sockets whose paths have been removed are opened anew for it."""
+        for address in self.lost_paths():
+            self.tell(RENEWS + address)
+
+    def lost_paths(self) -> list[str]:
+        """The Unix sockets to which their paths no longer lead."""
+        found = [address for address in self.held if address.startswith("/") and address not in self.of_systemd]
+        return [address for address in found if not self.files[address] or file_of(address) != self.files[address]]
+
+    def seal(self) -> None:
+        """The service is about to stop: from now on new connections are refused, and those that wait stay. Where systemd
+        may store the sockets, connections wait for the next start."""
+        for address in set(self.held) - self.of_systemd - self.sealed:
+            if os.environ.get("NOTIFY_SOCKET"):
+                continue
+            self.sealed.add(address)
+            seal(self.held[address])
+            if address.startswith("/") and file_of(address) == self.files[address]:
+                try:
+                    os.unlink(address)
+                except OSError:
+                    pass
+
+    def drain(self) -> None:
+        """Lets workers accept the connections that wait at sealed addresses, for a while: a stop would reset them."""
+        deadline, looks = time.monotonic() + DRAIN_SECONDS, 0
+        while looks < 2 and time.monotonic() < deadline:
+            watched = select.poll()
+            for address in self.sealed:
+                watched.register(self.held[address], select.POLLIN)
+            looks = 0 if watched.poll(0) else looks + 1
+            time.sleep(LOOK_SECONDS)
+
+    def open_again(self) -> None:
+        """The service did not stop: who asks for a sealed address is given a new socket."""
+        for address in list(self.sealed):
+            self.drop(address)
 
     def bury(self) -> None:
         """The keeper has ended, or hears no more."""

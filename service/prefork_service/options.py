@@ -22,6 +22,8 @@ SHARED: Options = {
     "--ready-within": ("SECONDS", "how long it may take to be ready (30; by a command of CONFIG, eight times --answer-within)"),
     "--finish": ("SECONDS", "how long it may take to finish (the same)"),
 }
+# Where workers start. The path is read anew at each start: a symbolic link may lead elsewhere by then.
+CHDIR: Options = {"--chdir": ("FOLDER", "where it starts, by this path as it leads at each start (the current folder)")}
 PROGRAM: Options = {
     "--ready": ("HOW", "when it is ready: accept (default), notify, or probe PATH"),
     "--probe": ("PATH", "ask it for PATH before each beat"),
@@ -37,7 +39,6 @@ WSGI: Options = {
     "--threads": ("N", "how many requests a worker answers at a time (4)"),
     "--timeout": ("SECONDS", "end a worker whose threads have all been at one request for this long (30)"),
     "--keep": ("SECONDS", "how long a kept connection may be idle (75)"),
-    "--chdir": ("FOLDER", "where MODULE is (the current folder)"),
     "--warm": ("PATH", "ask it for PATH before it serves, or before the first fork"),
     "--after-fork": ("MODULE:NAME", "call this in each worker, with its name"),
 }
@@ -68,7 +69,7 @@ def parser() -> argparse.ArgumentParser:
     made.add_argument("--preload", action="store_true", help=preload)
     python = "the Python that runs it (that of prefork-serve)"
     made.add_argument("--python", default=sys.executable, metavar="PROGRAM", help=python)
-    groups: dict[str, Options] = {"": SHARED, " PROGRAM": PROGRAM, " MODULE:APP": WSGI, " MODULE:APP with --preload": PRELOADER}
+    groups: dict[str, Options] = {"": SHARED | CHDIR, " PROGRAM": PROGRAM, " MODULE:APP": WSGI, " MODULE:APP with --preload": PRELOADER}
     for title, options in groups.items():
         group = made.add_argument_group(f"options of a worker{title}")
         for option, (name, text) in options.items():
@@ -106,6 +107,7 @@ def arguments(words: list[str]) -> argparse.Namespace:
     if given.wsgi and given.program:
         made.error("give --wsgi or a PROGRAM, not both")
     fault = None if given.wsgi or given.program and not given.preload else fault_of_limits(given)
+    fault = fault or fault_of_folder(place_of(given))
     if fault:
         made.error(fault)
     if given.preload and not given.wsgi and not given.program:
@@ -126,6 +128,30 @@ def fault_of_limits(given: argparse.Namespace) -> str | None:
     return next((f"argument {name}: invalid number of seconds: {text!r}" for name, text in said if not seconds_said(text) > 0), None)
 
 
+def current_folder() -> str:
+    """The path of the current folder with its symbolic links, as the shell names it; the empty text if there is none."""
+    here = os.environ.get("PWD", "")
+    try:
+        if not os.path.isabs(here) or not os.path.samefile(here, "."):
+            here = os.getcwd()
+    except OSError:
+        here = ""
+    return here
+
+
+def place_of(given: argparse.Namespace) -> str:
+    """The path of the folder in which workers start."""
+    return os.path.join(current_folder(), *given.chdir[-1:])
+
+
+def fault_of_folder(folder: str) -> str | None:
+    """What is wrong with a folder of --chdir."""
+    if not folder or os.access(folder, os.X_OK) and os.path.isdir(folder):
+        return None
+    why = errno.ENOTDIR if os.path.exists(folder) and not os.path.isdir(folder) else errno.EACCES
+    return f"--chdir: {folder}: {os.strerror(why if os.path.exists(folder) else errno.ENOENT)}"
+
+
 def handed_on(given: argparse.Namespace, options: Options) -> list[str]:
     """Those of the options that were given, with their values."""
     found = []
@@ -139,12 +165,14 @@ def worker_command(given: argparse.Namespace) -> list[str] | None:
     """What starts a worker, or the preloader that forks it, if the command line says it."""
     if given.wsgi:
         options = handed_on(given, SHARED | WSGI | PRELOADER) + (["--preloader"] if given.preload else [])
-        return checked([given.python, str(places.WSGI), *options], [given.wsgi])
+        # (a path, which is not that of the folder in which it starts)
+        python = os.path.join(current_folder(), given.python) if "/" in given.python else given.python
+        return checked([python, str(places.WSGI), *options], [given.wsgi], place_of(given))
     if given.preload:
         return given.program
     if given.program:
         options = handed_on(given, SHARED | PROGRAM)
-        return checked([str(places.ACTIVATE), *options], ["--", *given.program])
+        return checked([str(places.ACTIVATE), *options], ["--", *given.program], place_of(given))
     return None
 
 
@@ -158,13 +186,14 @@ def program_of(given: argparse.Namespace, command: list[str] | None) -> str | No
     return given.program[0] if given.program else None
 
 
-def fault_of(program: str) -> str | None:
-    """Why a program cannot be executed, if that is so."""
+def fault_of(program: str, folder: str = "") -> str | None:
+    """Why a program cannot be executed that is started in a folder, if that is so."""
     if "/" not in program:
         return None if shutil.which(program) else f"{program}: it is in no folder of PATH"
-    if not os.path.exists(program):
+    path = os.path.join(folder, program)
+    if not os.path.exists(path):
         return f"{program}: {os.strerror(errno.ENOENT)}"
-    is_fit = os.access(program, os.X_OK) and not os.path.isdir(program)
+    is_fit = os.access(path, os.X_OK) and not os.path.isdir(path)
     return None if is_fit else f"{program}: {os.strerror(errno.EACCES)}"
 
 
@@ -176,9 +205,9 @@ def processes_each(given: argparse.Namespace) -> int:
     return each + given.preload
 
 
-def checked(adapter: list[str], program: list[str]) -> list[str]:
-    """The adapter's command, whose options the adapter itself has looked at."""
-    streams: dict[str, Any] = {"stdin": subprocess.DEVNULL, "capture_output": True, "text": True}
+def checked(adapter: list[str], program: list[str], folder: str) -> list[str]:
+    """The adapter's command, whose options the adapter itself has looked at, in the folder in which it starts."""
+    streams: dict[str, Any] = {"stdin": subprocess.DEVNULL, "capture_output": True, "text": True, "cwd": folder or None}
     try:
         found = subprocess.run([*adapter, "--check", *program], **streams)
     except OSError as fault:

@@ -57,10 +57,13 @@ class KeptPreloader:
         environment["PREFORK_FORK_SOCKET"] = str(self.fork_socket.fileno())
         # Not the lock of the folder: workers would have it, and the next service would wait for the last of them.
         given: dict[str, Any] = {"pass_fds": [self.fork_socket.fileno()], "start_new_session": True}
+        if place := environment.get("PREFORK_PLACE"):
+            # By its path: a symbolic link may lead elsewhere by now.
+            given["cwd"] = environment["PWD"] = place
         try:
             self.process = started(self.command, stdin=life, stdout=said, env=environment, **given)
         except OSError as fault:
-            self.heard = f"failed {self.command[0]}: {fault.strerror}\n"
+            self.heard = f"failed {fault.filename or self.command[0]}: {fault.strerror}\n"
             self.close_pipes()
             self.refuse_all()
             self.events.register(self.fork_socket, selectors.EVENT_READ, self.begin)

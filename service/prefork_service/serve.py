@@ -43,7 +43,7 @@ from .keeper import DEFER, socket_options
 from .keeping import Keeping
 from .limits import limits_of, ready_seconds
 from .needs import addresses_of, needs_of, shortages
-from .options import arguments, fault_of, processes_each, program_of, worker_command
+from .options import arguments, fault_of, place_of, processes_each, program_of, worker_command
 from .preloading import Preloading
 from .records import MEGABYTE
 from .service import Service
@@ -77,7 +77,7 @@ def is_fit(given: argparse.Namespace, commands: Commands) -> bool:
         say(f"{given.config}: {fault}")
     program = program_of(given, None if is_adapted else commands.current)
     # A service that was killed starts again without it: the program may be back before long.
-    missing = fault_of(program) if program and not refusal and not commands.accepted.exists() else None
+    missing = fault_of(program, place_of(given)) if program and not refusal and not commands.accepted.exists() else None
     if missing:
         say(f"{'PROGRAM' if is_adapted else given.config}: {missing}")
     return bool(commands.current) and not faults and not missing
@@ -125,7 +125,8 @@ def main() -> int:
     except OSError as fault:
         sys.exit(f"prefork-serve: {fault.filename or given.folder}: {fault.strerror}")
     os.environ |= {
-        "PREFORK_KEEPER": str(folder.keeper), "PREFORK_PROGRAM": str(given.prefork), "PREFORK_FOLDER": str(folder.path)
+        "PREFORK_KEEPER": str(folder.keeper), "PREFORK_PROGRAM": str(given.prefork), "PREFORK_FOLDER": str(folder.path),
+        "PREFORK_PLACE": place_of(given),
     }
     try:
         commands = commands_of(given, folder)

@@ -18,6 +18,7 @@ from .keeping import Keeping
 from .leaving import Leaving
 from .limits import end_seconds, known
 from .master import Master
+from .needs import addresses_of
 from .questions import ANSWERS, NOT_ASKED, STATE, line_of, state
 from .reasons import NEW_MASTER
 from .status import Record, Status, masters_of, started_workers, workers_of
@@ -142,6 +143,9 @@ class Service:
         self.telling.begin_word(word.text in CHANGES)
         if word.text in STOPS:
             notify("STOPPING=1")
+            self.keeping.seal()
+        if word.text == "QUIT":
+            self.keeping.drain()
 
     def until_tick(self) -> float | None:
         return self.ticks.seconds() if self.current is None else None
@@ -166,6 +170,7 @@ class Service:
         try:
             self.commands.change(self.record.generation)
             self.chronicle.records.proposed = self.commands.next_text()
+            self.keeping.renew()
         except OSError as fault:
             self.refuse(NOT_READ, f"the configuration is not read: {fault}")
         else:
@@ -242,6 +247,8 @@ class Service:
             self.keeping.release()
         if word.text in (*CHANGES, START) and report.startswith(("done", "degraded target")):
             self.keeping.settle()
+        if word.text in CHANGES and report.startswith(("done", "degraded target")):
+            self.keeping.drop_others(addresses_of(self.commands.now.read_bytes()))
         if not word.text.startswith("tick ") or not report.startswith("done"):
             say(f"{word.text}: {report}")
         # The new master of an upgrade has gone, and its workers with it. The old one, which passed
@@ -250,6 +257,8 @@ class Service:
         if is_lost:
             self.master.process.kill()
         self.is_stopped = word.text in STOPS and (is_lost or report.startswith("done"))
+        if word.text in STOPS and not self.is_stopped:
+            self.keeping.open_again()
         if self.is_stopped:
             self.master.finish()
         elif is_lost:
@@ -300,6 +309,7 @@ class Service:
             sys.exit(f"prefork-serve: {self.command[0]} does not start as the master: it has ended with status {status} "
                      "before its first block. Is it the program prefork, in this version?")
         self.master, self.question = None, 0
+        self.keeping.open_again()
         self.telling.end_word()
         self.commands.settle("lost")
         say(f"the master has ended with status {status}, and is started again with the configuration that was accepted")
@@ -360,6 +370,7 @@ class Service:
                 "records": str(self.chronicle.records.place),
             },
             "addresses": sorted(self.keeping.held),
+            "lost_paths": self.keeping.lost_paths(),
             "generation": self.record.generation,
             "workers": self.record.workers,
             "master_restarts": max(0, self.starts - 1),

@@ -8,7 +8,7 @@ from collections.abc import Callable
 
 from .door import Door
 from .folder import say
-from .keeper import remove_stale
+from .sockets import remove_stale
 
 # How long a visit may take, and how long a question may be. How many visits there may be, and how many that say nothing.
 SECONDS, LONGEST, MOST_VISITS, MOST_SILENT = 10.0, 8192, 16, 16

@@ -103,6 +103,8 @@ class Setup:
     # The file without which the application does not load.
     needed: str
     is_there: Callable[[], bool] = lambda: True
+    # Whether it serves each address that it is given, and not the first one alone.
+    takes_all: bool = False
 
     def write(self, site: pathlib.Path, version: int) -> None:
         """Writes the application in a version, each file by a rename."""
@@ -149,22 +151,22 @@ GUNICORN_START = "gunicorn --chdir @SITE@ -w 1 -k gthread --threads 4 --log-leve
 NGINX_FILLED = 'sed "s,@ADDRESS@,$1,;s,@ROOM@,$2,g" @SITE@/nginx.conf >"$2/nginx.conf"'
 NGINX_START = f"""sh -c '{NGINX_FILLED} && exec nginx -e stderr -c "$2/nginx.conf"' sh "$2" "$3\""""
 SETUPS = [
-    Setup("wsgi", FLASK_OPTIONS, "", {"app.py": FLASK}, "app.py", lambda: FLASK_PYTHON is not None),
+    Setup("wsgi", FLASK_OPTIONS, "", {"app.py": FLASK}, "app.py", lambda: FLASK_PYTHON is not None, True),
     Setup("own program, by number", [], f'@SITE@/page "$1"', {}, "page"),
-    Setup("own program, by LISTEN_FDS", ["--ready", "notify"], f"{PYTHON} @SITE@/page.py", {}, "page.py"),
-    Setup("gunicorn", [], GUNICORN_START, {"app.py": WSGI}, "app.py", has("gunicorn")),
+    Setup("own program, by LISTEN_FDS", ["--ready", "notify"], f"{PYTHON} @SITE@/page.py", {}, "page.py", takes_all=True),
+    Setup("gunicorn", [], GUNICORN_START, {"app.py": WSGI}, "app.py", has("gunicorn"), True),
     Setup("uvicorn", [], f'{UVICORN_PYTHON} @SITE@/server.py "$1"', {"app.py": ASGI, "server.py": UVICORN}, "app.py",
           lambda: UVICORN_PYTHON is not None),
     Setup("unicorn", ["--stop", "QUIT"], 'unicorn -E none -c @SITE@/unicorn.rb -l "$2" @SITE@/app.ru',
           {"app.ru": RACK, "unicorn.rb": 'worker_processes 2\nlogger Logger.new(File::NULL)\n'}, "app.ru", has("unicorn")),
     # It closes such a connection too: it is given none.
     Setup("puma", ["--defer-accept"], "puma --bind-to-activated-sockets only -q -t 4:4 -e production @SITE@/app.ru",
-          {"app.ru": RACK}, "app.ru", has("puma")),
+          {"app.ru": RACK}, "app.ru", has("puma"), True),
     Setup("node", [], "node @SITE@/app.js", {"app.js": NODE}, "app.js", has("node")),
     Setup("nginx", ["--stop", "QUIT", "--no-listen-fds", "--env", "NGINX={fds}"],
           NGINX_START, {"nginx.conf": NGINX, "index.html": "version @VERSION@\n", "slow": SLOW_PAGE}, "nginx.conf", has("nginx")),
     Setup("lighttpd", ["--stop", "INT"], "lighttpd -D -f @SITE@/lighttpd.conf",
-          {"lighttpd.conf": LIGHTTPD, "index.html": "version @VERSION@\n", "slow": SLOW_PAGE}, "lighttpd.conf", has("lighttpd")),
+          {"lighttpd.conf": LIGHTTPD, "index.html": "version @VERSION@\n", "slow": SLOW_PAGE}, "lighttpd.conf", has("lighttpd"), True),
 ]
 PACKAGES = ["python3-waitress", "python3-flask", "gunicorn", "uvicorn", "unicorn", "puma", "nodejs", "nginx-light", "lighttpd"]
 

@@ -1,11 +1,12 @@
 """prefork-activate: a worker that is another program."""
 import os
+import pathlib
 import signal
 import socket
 import threading
 import unittest
 
-from kit import OUT, PROGRAMS, PYTHON, SERVICE, WorkerTest, answer_of, free_address, marked, until
+from kit import OUT, PROGRAMS, PYTHON, SERVICE, WorkerTest, answer_of, free_address, is_open, marked, until
 from prefork_service.conversation import END, NOTHING
 
 ACTIVATE, PAGE = OUT / "prefork-activate", OUT / "page"
@@ -83,6 +84,42 @@ class ReadyTest(WorkerTest):
         values = ("--env", "A={address1} {fds} {fpm} {other} {room}", "--env", "R={room}")
         talk = self.started(ACTIVATE, *values, "--", "sh", "-c", script, addresses=(one, two))
         self.assertEqual(talk.hear(), "ready")
+
+    def test_a_program_has_the_addresses_of_its_configuration_in_its_order(self) -> None:
+        """A master that reloads names those of the configuration before, too."""
+        old, new, stays = (free_address() for _ in range(3))
+        script = 'test "$A" = "%s 3;4; %s=3,%s=4" && exec %s 3 4' % (new, new, stays, PAGE)
+        values = ("--env", "A={address0} {fds} {fpm}")
+        told = {"addresses": (old, stays, new), "PREFORK_ADDRESSES": f"{new} {stays}"}
+        talk = self.started(ACTIVATE, *values, "--", "sh", "-c", script, **told)
+        self.assertEqual(talk.hear(), "ready")
+        self.assertFalse(is_open(old))
+        for address in (new, stays):
+            self.assertIn("version 1 ", answer_of(address))
+        talk.say(f"close {old}", "ping")
+        self.assertEqual(talk.hear(), "pong")
+
+    def test_an_address_is_not_taken_for_another_one(self) -> None:
+        one = free_address()
+        for others in (f"{one}1", f"1{one}", "x"):
+            talk = self.started(ACTIVATE, "--", PAGE, "3", addresses=(one,), PREFORK_ADDRESSES=others)
+            self.assertEqual((talk.hear(), talk.wait()), (END, 1), others)
+
+    def test_only_the_program_has_its_sockets(self) -> None:
+        place = self.room / "site.sock"
+        talk = self.started(ACTIVATE, "--", PAGE, "{fd}", addresses=(str(place),))
+        self.assertEqual(talk.hear(), "ready")
+        listens = {}
+        for number in marked(self.mark):
+            name = pathlib.Path(f"/proc/{number}/comm").read_text().strip()
+            with open("/proc/net/unix") as table:
+                inodes = {line.split()[6] for line in table if line.rstrip().endswith(str(place))}
+            links = [os.readlink(one) for one in pathlib.Path(f"/proc/{number}/fd").iterdir() if one.is_symlink()]
+            listens[name] = any(f"socket:[{inode}]" in links for inode in inodes)
+        self.assertEqual(listens.pop("page"), True, listens)
+        self.assertEqual((len(listens), any(listens.values())), (2, False), listens)
+        talk.say("quit")
+        self.assertEqual(talk.hear(), "gone")
 
     def test_ready_only_once_it_accepts(self) -> None:
         flag = self.room / "flag"

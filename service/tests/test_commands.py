@@ -76,6 +76,23 @@ class CommandsTest(unittest.TestCase):
         self.assertEqual(sorted(file.name for file in self.place.iterdir()), ["1.2", "next"])
         self.assertEqual(self.start("1.2"), ["two"])
 
+    def test_each_generation_has_the_addresses_of_its_own_configuration(self) -> None:
+        text = 'command = ["one"]\nlisteners = [%s]\nworkers = 1\n'
+        self.configure(text % '"127.0.0.1:1", "127.0.0.1:2"')
+        self.commands = self.made()
+        self.commands.begin()
+        self.assertEqual(self.start("1.1"), ["PREFORK_ADDRESSES=127.0.0.1:1 127.0.0.1:2", "one"])
+        self.configure(text % '"127.0.0.1:3", "127.0.0.1:1"')
+        self.commands.change("1.1")
+        new, old = "PREFORK_ADDRESSES=127.0.0.1:3 127.0.0.1:1", "PREFORK_ADDRESSES=127.0.0.1:1 127.0.0.1:2"
+        self.assertEqual((self.start("1.2")[0], self.start("1.1")[0]), (new, old))
+        self.commands.settle("rolled-back cause 2 pid no-file")
+        self.assertEqual(words_of(self.place / "next")[0], old)
+        groups = '[[groups]]\nlisteners = ["/b"]\nworkers = 1\n[[groups]]\nlisteners = ["/a"]\nworkers = 1\n'
+        self.configure(f'command = ["one"]\n{groups}')
+        self.commands.change("1.1")
+        self.assertEqual(self.start("1.2")[0], "PREFORK_ADDRESSES=/b /a")
+
     def test_a_generation_that_was_rolled_back_is_forgotten(self) -> None:
         self.start("1.1")
         for command in ("two", "three"):
@@ -279,6 +296,33 @@ class LaunchTest(unittest.TestCase):
                 self.assertEqual(self.launched(room, "child", lines).stdout, f"{wanted}\n{lines}")
                 self.assertTrue((pathlib.Path(room) / "workers" / f"{generation}.0").read_text().strip().isdigit())
             self.assertEqual((place / "1.1").stat().st_ino, (place / "next").stat().st_ino)
+
+    def test_words_before_the_command_are_for_its_environment(self) -> None:
+        with tempfile.TemporaryDirectory() as room:
+            place = pathlib.Path(room) / "commands"
+            place.mkdir()
+            (place / "next").write_bytes(b"PREFORK_ADDRESSES=a b\0sh\0-c\0echo $PREFORK_ADDRESSES $1\0sh\0A=b\0")
+            self.assertEqual(self.launched(room, "child", "worker 1.1 0 7\n").stdout, "a b A=b\n")
+
+    def test_a_worker_starts_where_the_path_leads_at_that_moment(self) -> None:
+        with tempfile.TemporaryDirectory() as folder:
+            room = pathlib.Path(folder)
+            (room / "commands").mkdir()
+            (room / "commands" / "next").write_bytes(b"./start\0")
+            place, text = room / "current", "worker 1.1 0 7\n"
+            for release in ("one", "two"):
+                (room / release).mkdir()
+                (room / release / "start").write_text(f"#!/bin/sh\necho {release} $PWD; pwd -P\n")
+                (room / release / "start").chmod(0o755)
+                place.unlink(missing_ok=True)
+                place.symlink_to(release)
+                found = self.launched(folder, "child", text, PREFORK_PLACE=str(place))
+                self.assertEqual(found.stdout, f"{release} {place}\n{(room / release).resolve()}\n")
+            place.unlink()
+            (room / "reasons").touch()
+            found = self.launched(folder, "child", text, PREFORK_PLACE=str(place))
+            self.assertEqual((found.returncode, found.stdout), (1, ""))
+            self.assertEqual((room / "reasons").read_text(), f"1.1.0 {place}: No such file or directory\n")
 
     def test_messages_of_workers_go_where_those_of_the_service_go(self) -> None:
         with tempfile.TemporaryDirectory() as folder:

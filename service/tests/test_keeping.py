@@ -5,6 +5,7 @@ import selectors
 import signal
 import socket
 import tempfile
+import threading
 import time
 import types
 import unittest
@@ -16,6 +17,25 @@ from prefork_service import keeper, keeping
 from prefork_service.convention import Unfit
 from prefork_service.keeper import Kept
 from prefork_service.keeping import Keeping
+
+
+def connected(address: str) -> socket.socket:
+    """A connection to an address."""
+    if not address.startswith("/"):
+        return socket.create_connection(place_of(address), 60)
+    client = socket.socket(socket.AF_UNIX)
+    client.settimeout(60)
+    try:
+        client.connect(address)
+    except OSError:
+        client.close()
+        raise
+    return client
+
+
+def place_of(address: str) -> tuple[str, int]:
+    host, _, port = address.rpartition(":")
+    return host, int(port)
 
 
 class KeepingTest(unittest.TestCase):
@@ -82,6 +102,113 @@ class KeepingTest(unittest.TestCase):
         holds[0].close()
         self.assertTrue(self.turn(lambda: self.keeping.lost))
         self.assertEqual([self.keeping.has_lost() for _ in range(2)], [True, False])
+
+    def given(self, address: str) -> socket.socket:
+        """The socket of an address, as a worker gets it."""
+        hold = socket.socket(socket.AF_UNIX, socket.SOCK_SEQPACKET)
+        self.addCleanup(hold.close)
+        hold.settimeout(60)
+        hold.connect(str(self.folder.keeper))
+        hold.send(address.encode())
+        said, given, _, _ = socket.recv_fds(hold, 200, 1)
+        self.assertEqual(said, b"ok")
+        one = socket.socket(fileno=given[0])
+        one.settimeout(60)
+        self.addCleanup(one.close)
+        return one
+
+    def test_an_address_that_is_dropped_refuses_though_a_worker_has_it_and_is_opened_anew(self) -> None:
+        stays, dropped = free_address(), free_address()
+        self.given(stays)
+        old = [self.given(dropped)]
+        for _ in range(3):
+            with connected(dropped) as waits:
+                self.assertTrue(self.turn(lambda: len(self.keeping.held) == 2))
+                self.keeping.drop_others([stays])
+                self.assertRaises(ConnectionRefusedError, connected, dropped)
+                self.assertTrue(self.turn(lambda: list(self.keeping.held) == [stays]))
+                old[-1].accept()[0].close()
+                self.assertEqual(waits.recv(1), b"")
+            # (the worker that finishes still has the old socket)
+            old.append(self.given(dropped))
+            with connected(dropped):
+                old[-1].accept()[0].close()
+        connected(stays).close()
+
+    def test_an_address_is_dropped_while_no_keeper_runs(self) -> None:
+        stays, dropped = free_address(), free_address()
+        self.given(stays)
+        listener = self.given(dropped)
+        self.assertTrue(self.turn(lambda: len(self.keeping.held) == 2))
+        self.keeping.begun = time.monotonic() + 3600
+        process = self.killed()
+        self.assertTrue(self.turn(lambda: not self.keeping.process))
+        self.keeping.drop_others([stays])
+        self.assertRaises(ConnectionRefusedError, connected, dropped)
+        self.keeping.begun = 0.0
+        self.assertTrue(self.turn(lambda: self.is_another(process)))
+        self.assertEqual((list(self.keeping.held), self.asked(stays)[0]), ([stays], "ok"))
+        listener.close()
+
+    def test_a_socket_of_systemd_never_refuses(self) -> None:
+        with socket.create_server(("127.0.0.1", 0)) as unit:
+            address = "127.0.0.1:%d" % unit.getsockname()[1]
+            self.keeping.end()
+            self.keeping = Keeping(self.events, self.folder, [], {address: unit.dup()})
+            self.keeping.drop_others([])
+            self.keeping.seal()
+            connected(address).close()
+
+    def test_a_stop_refuses_new_connections_and_lets_those_that_wait_be_accepted(self) -> None:
+        tcp, path = free_address(), str(self.room / "site.sock")
+        listeners = [self.given(tcp), self.given(path)]
+        self.assertTrue(self.turn(lambda: len(self.keeping.held) == 2))
+        waiting = [connected(tcp), connected(path)]
+        self.keeping.seal()
+        self.assertRaises(ConnectionRefusedError, connected, tcp)
+        self.assertRaises(FileNotFoundError, connected, path)
+        workers = [threading.Thread(target=lambda one=one: one.accept()[0].close()) for one in listeners]
+        for worker in workers:
+            worker.start()
+        with mock.patch.object(keeping, "DRAIN_SECONDS", 60.0):
+            self.keeping.drain()
+        for worker, client in zip(workers, waiting):
+            worker.join()
+            self.assertEqual(client.recv(1), b"")
+            client.close()
+        # Where the service goes on after all, who asks gets another socket.
+        self.keeping.open_again()
+        again = [self.given(tcp), self.given(path)]
+        for address, one in zip((tcp, path), again):
+            connected(address).close()
+            one.accept()[0].close()
+
+    def test_a_drain_has_its_limit(self) -> None:
+        address = free_address()
+        listener = self.given(address)
+        self.assertTrue(self.turn(lambda: self.keeping.held))
+        with connected(address), mock.patch.object(keeping, "DRAIN_SECONDS", 0.05):
+            self.keeping.seal()
+            self.keeping.drain()
+            listener.accept()[0].close()
+
+    def test_a_unix_socket_whose_path_was_removed_is_opened_anew(self) -> None:
+        path = str(self.room / "site.sock")
+        old = self.given(path)
+        self.assertTrue(self.turn(lambda: self.keeping.held))
+        self.keeping.renew()
+        before = self.asked(path)
+        self.assertEqual((self.keeping.lost_paths(), self.asked(path)), ([], before))
+        with connected(path) as waits:
+            os.unlink(path)
+            self.assertEqual(self.keeping.lost_paths(), [path])
+            self.keeping.renew()
+            new = self.given(path)
+            with connected(path):
+                new.accept()[0].close()
+            old.accept()[0].close()
+            self.assertEqual(waits.recv(1), b"")
+        self.assertTrue(self.turn(lambda: not self.keeping.lost_paths()))
 
     def test_a_killed_keeper_is_started_again_with_the_same_sockets(self) -> None:
         places = [free_address(), str(self.room / "site.sock")]

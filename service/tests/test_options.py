@@ -1,11 +1,14 @@
 """The command line of prefork-serve."""
 import contextlib
 import io
+import os
+import pathlib
 import tempfile
 import unittest
+from unittest import mock
 
 from kit import OUT, SERVICE, built
-from prefork_service.options import arguments, fault_of, program_of, worker_command
+from prefork_service.options import arguments, fault_of, place_of, program_of, worker_command
 from test_wsgi import PYTHON as PYTHON_WITH_WAITRESS
 
 ACTIVATE = str(OUT / "prefork-activate")
@@ -56,6 +59,30 @@ class OptionsTest(unittest.TestCase):
             (["--env", "PATH=/x", "a.toml", "--", "p"], None, None), (["--env", "A=PATH=", "a.toml", "--", "p"], None, "p"),
         ):
             self.assertEqual(program_of(arguments(words), command), wanted, words)
+
+    def test_where_workers_start(self) -> None:
+        with tempfile.TemporaryDirectory() as folder:
+            room = pathlib.Path(folder).resolve()
+            (room / "release").mkdir()
+            (room / "current").symlink_to("release")
+            (room / "release" / "app").touch(0o755)
+            before = os.getcwd()
+            self.addCleanup(os.chdir, before)
+            os.chdir(room / "current")
+            for shell, options, wanted in (
+                (room / "current", [], room / "current"), (before, [], room / "release"), ("", [], room / "release"),
+                ("current", [], room / "release"), (room / "current", ["--chdir", "x/.."], room / "current" / "x" / ".."),
+                (room / "current", ["--chdir", str(room)], room),
+            ):
+                (room / "release" / "x").mkdir(exist_ok=True)
+                with mock.patch.dict(os.environ, {"PWD": str(shell)}):
+                    self.assertEqual(place_of(arguments([*options, "a.toml", "--", "p"])), str(wanted))
+            os.chdir(room)
+            self.assertIsNone(fault_of("./app", str(room / "current")))
+            self.assertEqual(fault_of("./app"), "./app: No such file or directory")
+            for wrong, why in (("gone", "No such file or directory"), ("release/app", "Not a directory")):
+                said = self.refused("--chdir", wrong, "a.toml", "--", "p")
+                self.assertTrue(said.endswith(f"--chdir: {room / wrong}: {why}"), said)
 
     def test_a_program_that_cannot_be_executed(self) -> None:
         with tempfile.NamedTemporaryFile() as file:
