@@ -10,7 +10,7 @@ import shutil
 import subprocess
 import tempfile
 import time
-from collections.abc import Iterator
+from collections.abc import Callable, Iterator
 from typing import Any
 
 from gate.addresses import free_address
@@ -174,8 +174,9 @@ def faults_of_readme(prefork: str, path: str) -> list[str]:
         return reader.wrong
 
 
-def outcome(prefork: str, there: set[str]) -> Tally:
-    """Installs the service with a program, and follows the guides whose set-ups are there, one after another."""
+def outcome(prefork: str, there: set[str], *others: Callable[[str], list[str]]) -> Tally:
+    """Installs the service with a program, and follows the guides whose set-ups are there, and others with what the
+    README needs, one after another."""
     tally = Tally()
     with tempfile.TemporaryDirectory(prefix="installed-") as prefix:
         command = [str(ROOT / "install"), "--unproved", prefork, prefix]
@@ -188,4 +189,6 @@ def outcome(prefork: str, there: set[str]) -> Tally:
                 tally.check(faults(page, path))
         if README_NEEDS <= there:
             tally.check(faults_of_readme(prefork, path))
+            for follows in others:
+                tally.check(follows(path))
     return tally

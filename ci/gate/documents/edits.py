@@ -1,7 +1,7 @@
 """The edits that the prover must refuse: each can still be applied to the sources as they are.
 
 That takes a moment. The prover tries an edit many minutes later, and a sample of them at a time, so that one which an
-earlier commit has broken would be found by somebody else.
+earlier commit has broken would be found by a later one.
 """
 import pathlib
 from collections.abc import Iterator
@@ -20,7 +20,7 @@ def steps(text: str) -> Iterator[tuple[str, str, str]]:
         if not separator and line.endswith(":"):
             key, value = line[:-1], ""
         if key not in KEYS:
-            raise ValueError(f"a line that is none of {', '.join(KEYS)}: {line[:40]!r}")
+            raise ValueError(f"a line other than {', '.join(KEYS)}: {line[:40]!r}")
         found[key] = value
         if key == "new":
             yield found["file"], found["old"], value
