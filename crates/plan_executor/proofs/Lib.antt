@@ -8,3 +8,4 @@ pub mod Merging
 pub mod Enacting
 pub mod Exact
 pub mod Truth
+pub mod WordLives

@@ -9,3 +9,5 @@ pub mod Merged
 pub mod Enacted
 pub mod Words
 pub mod Range
+pub mod WordLives
+pub mod Survived

@@ -1,5 +1,5 @@
 //! A target, planned and carried out on the modelled kernel.
-ghost use Rattle.std.specs.Prelude.{◌≡◌, ◌≤◌, ◌↔◌, ◌⊎◌, List, None, OnOk, OnErr, IfOk, IfErr, IsErrOf, IsTrue};
+ghost use Rattle.std.specs.Prelude.{◌≡◌, ◌≤◌, ◌↔◌, ◌⊎◌, ℕ, List, None, OnOk, OnErr, IfOk, IfErr, IsErrOf, IsTrue};
 ghost use Rattle.definitions.specs.Claims.{refusal_of};
 ghost use Rattle.definitions.specs.Table.{IsFormed};
 ghost use Rattle.definitions.specs.Master.{Agrees};
@@ -13,6 +13,7 @@ ghost use Rattle.rollback_plan.specs.Plans.{tree_under, length_of, note_of, side
 ghost use Rattle.reload_planner.specs.declared.refusal.PlanRefusal.{PlanRefusal as Unplannable};
 ghost use Rattle.plan_executor.specs.Enacted.{IsEnacted};
 ghost use Rattle.plan_executor.specs.Prepared.{IsReady};
+ghost use Rattle.plan_executor.specs.Survived.{IsSurvived};
 ghost use Rattle.handover_text.specs.Reading.{Hands};
 ghost use Rattle.plan_executor.specs.Refusals.{HasPlan, HasNoPlan, IsPlannable, IsRefused};
 ghost use Rattle.plan_executor.specs.declared.enactment.EnactRefusal.{EnactRefusal as Refusal};
@@ -91,6 +92,7 @@ pub fn enact(
     ensures exact { (why : Refusal)
         → IsErrOf result EnactRefusal.Memory ⊎ (IsErrOf result why ↔ IsRefused kernel.old.table state.now target.now section.now.turns (moment_at section.now.pattern) why) }
     ensures memory { IsErrOf result EnactRefusal.Memory → IsPlannable kernel.old.table state.now target.now }
+    ensures survived { (moment : ℕ) → IsErrOf result (EnactRefusal.MasterNamed moment) → IsSurvived kernel.old.table state.now target.now section.now.turns (moment_at section.now.pattern) }
     ensures err { OnErr result (kernel.new ≡ kernel.old) }
 {
     let prepared = prepare(alloc, kernel, state, target, section)?;

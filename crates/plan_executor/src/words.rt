@@ -1,9 +1,13 @@
 //! Control words on the modelled kernel.
-ghost use Rattle.std.specs.Prelude.{◌≡◌, ◌+◌, ◌<◌, ◌++◌, ◌⊎◌, ℕ, List, [], length, slice_get, vec_capacity, vec_len, OnOk, OnErr};
+ghost use Rattle.std.specs.Prelude.{◌≡◌, ◌+◌, ◌<◌, ◌++◌, ◌⊎◌, ℕ, List, [], Some, IfSome, length, slice_get, vec_capacity, vec_len, OnOk, OnErr};
 ghost use Rattle.std.specs.Option.{option_copied};
 ghost use Rattle.word_runner.specs.Words.{AreDone, WantsMemory};
 ghost use Rattle.word_runner.specs.declared.block.Block.{Block as Done};
 ghost use Rattle.plan_executor.specs.Words.{quiet_section, section_at, EnactsAt, DeclinesAt, WantsMemoryFor, IsTrueOf};
+ghost use Rattle.plan_executor.specs.WordLives.{IsLife};
+ghost use Rattle.lives.specs.Lives.{IsStanding};
+ghost use Rattle.vocabulary.specs.Settings.{IsInRange};
+ghost use Rattle.definitions.specs.Master.{Record as Known};
 
 use crate::enact;
 use control_words::Word;
@@ -80,6 +84,8 @@ pub fn run_words(
         × (length blocks.new.items ≡ length blocks.old.items + n)
         × (((n ≡ 0) × (vec_capacity blocks.old < vec_len blocks.old + length words.now))
         ⊎ WantsMemory WantsMemoryFor (option_copied settings.entry) (slice_get words.now n) n standing.new)) }
+    ensures life { (r : Known) → IfSome (option_copied settings.entry) IsInRange → standing.old.record ≡ Some r → IsStanding standing.old.world.table r
+        → (done : List Done) × (blocks.new.items ≡ blocks.old.items ++ done) × IsLife standing.old standing.new r done }
     ensures agrees { IsTrueOf standing.old.world.table standing.old.record → IsTrueOf standing.new.world.table standing.new.record }
 {
     let quiet = Section::new(alloc);

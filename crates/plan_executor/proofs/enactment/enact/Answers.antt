@@ -4,6 +4,7 @@ use Rattle.kernel_model.specs.Pattern.{moment_at}
 use Rattle.plan_executor.specs.declared.enactment.EnactRefusal.{EnactRefusal}
 use Rattle.plan_executor.proofs.Enacting.{enacted-from}
 use Rattle.plan_executor.proofs.Exact.{IsExact, refused-exact, only-enacted}
+use Rattle.lives.proofs.Restart.{deaths-survived}
 use Rattle.plan_executor.proofs.enactment.enact.Goals as goal
 
 pub returns-in_err-prepared-clause-exact : goal.returns-in_err-prepared-clause-exact
@@ -26,3 +27,11 @@ returns-clause-ok c =
 pub returns-clause-exact : goal.returns-clause-exact
 returns-clause-exact c why =
     inr (only-enacted c.args.kernel.now c.carry_out.new.kernel c.args.state.now c.args.target.now c.args.section.now.turns (moment_at c.args.section.now.pattern) c.carry_out.result (returns-clause-ok c) why)
+
+pub returns-in_err-prepared-clause-survived : goal.returns-in_err-prepared-clause-survived
+returns-in_err-prepared-clause-survived c moment is =
+    deaths-survived c.args.kernel.now.table c.args.state.now c.args.target.now c.args.section.now.turns (moment_at c.args.section.now.pattern)
+
+pub returns-clause-survived : goal.returns-clause-survived
+returns-clause-survived c moment is =
+    deaths-survived c.args.kernel.now.table c.args.state.now c.args.target.now c.args.section.now.turns (moment_at c.args.section.now.pattern)

@@ -1,0 +1,13 @@
+pub mod Standing
+pub mod Counting
+pub mod Accounts
+pub mod Healing
+pub mod Clinging
+pub mod Holding
+pub mod Living
+pub mod Leftovers
+pub mod Restart
+pub mod Lending
+pub mod Starting
+pub mod WorkedLives
+pub mod Outliving
