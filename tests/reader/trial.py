@@ -3,6 +3,7 @@ import pathlib
 import random
 import subprocess
 from collections import Counter
+from typing import NamedTuple
 
 from reader.altered import altered
 from reader.chance import any_moments, any_start, any_turns, any_word
@@ -32,6 +33,43 @@ def claims_of(run: Run) -> Claims:
     }
 
 
+def graver_of(blocks: list[Heard]) -> int:
+    """The status that the gravest block gives."""
+    status = 0
+    for block in blocks:
+        status = graver(status, status_of(block))
+    return status
+
+
+def blocks_text(words: list[str], blocks: list[Heard]) -> str:
+    return "".join(f"word {word}\n{block.text}" for word, block in zip(words, blocks))
+
+
+class Enacted(NamedTuple):
+    """Words that `enact` is to carry out, and what is to be written."""
+
+    options: list[str]
+    words: list[str]
+    sections: list[str]
+    text: str
+    status: int
+
+    def difference(self, program: str, folder: pathlib.Path, state: bool) -> str | None:
+        """What the program does otherwise, if anything. With the state, the last table is part of the text."""
+        ended = subprocess.run(
+            [program, "enact", *self.options, *(["--state"] if state else []), *self.words],
+            input="next\n".join(self.sections).encode(),
+            cwd=folder,
+            capture_output=True,
+            timeout=SECONDS,
+        )
+        if ended.stderr:
+            return f"told {ended.stderr.decode(errors='replace')!r}"
+        return first_difference(self.text, ended.stdout.decode()) or (
+            None if ended.returncode == self.status else f"status {ended.returncode}, and not {self.status}"
+        )
+
+
 class Trial:
     """One start and its words."""
 
@@ -55,31 +93,14 @@ class Trial:
         return [block.run for block in self.blocks if block.run is not None]
 
     def text(self) -> str:
-        blocks = "".join(f"word {word}\n{block.text}" for word, block in zip(self.words, self.blocks))
-        return blocks + table_text(self.last)
-
-    def status(self) -> int:
-        status = 0
-        for block in self.blocks:
-            status = graver(status, status_of(block))
-        return status
+        return blocks_text(self.words, self.blocks) + table_text(self.last)
 
     def difference(self, program: str, folder: pathlib.Path) -> str | None:
         """What the program does otherwise, if anything."""
         for path, settings in self.start.files.items():
             (folder / path).write_text(configuration_text(settings))
-        ended = subprocess.run(
-            [program, "enact", *self.start.options, "--state", *self.words],
-            input="next\n".join(self.sections).encode(),
-            cwd=folder,
-            capture_output=True,
-            timeout=SECONDS,
-        )
-        if ended.stderr:
-            return f"told {ended.stderr.decode(errors='replace')!r}"
-        return first_difference(self.text(), ended.stdout.decode()) or (
-            None if ended.returncode == self.status() else f"status {ended.returncode}, and not {self.status()}"
-        )
+        here = Enacted(self.start.options, self.words, self.sections, self.text(), graver_of(self.blocks))
+        return here.difference(program, folder, True)
 
     def faults(self, program: str, folder: pathlib.Path) -> list[str]:
         """What differs, and which claims are false."""
