@@ -4,6 +4,7 @@
  * fetches the sockets from the keeper, starts the program, says `ready` when the program is, and ends with it. See
  * prefork-activate --help, and docs/WORKERS.md for the lines. */
 #define _GNU_SOURCE
+#include "ending.h"
 #include "probe.h"
 #include "program.h"
 #include "waiting.h"
@@ -27,6 +28,8 @@
 /* The pause between two looks at /proc: a fifth of the time since the start, between these. */
 #define SHORT_LOOK 0.002
 #define LONG_LOOK 0.1
+/* How long the holder may take to end all that the program has started. */
+#define HOLDER_SECONDS 10
 
 static struct options options;
 static struct addresses addresses = {.hold = -1};
@@ -74,15 +77,17 @@ static void move_pipes(void) {
     close(nothing);
 }
 
-/* Kills what is left of the program, and waits for that. */
+/* Kills what is left of the program, and waits for that. The holder does it; what a killed holder leaves comes to this
+ * process, which ends it itself, as it does where the holder does not end. */
 static void end_program(void) {
     if (line < 0)
         return;
     close(line);
     line = -1;
     program = 0;
-    while (waitpid(holder, 0, 0) < 0 && errno == EINTR)
-        ;
+    has_ended_within(holder, HOLDER_SECONDS);
+    kill_all();
+    remove_room(room);
 }
 
 static void end_worker(int status) {
@@ -145,6 +150,7 @@ static void go(void) {
                           notified >= 0 ? notify_path : 0,
                           options.probe ? probe_path : 0};
     begun = next_look = now();
+    adopt_orphans();
     holder = start_holder(&gifts, &line);
     if (holder < 0)
         fail("no process: %s", strerror(errno));
@@ -163,6 +169,8 @@ static void finish(void) {
     if (!program)
         end_worker(0);
     finish_by = now() + options.finish;
+    /* A holder that was stopped passes no signal on. */
+    kill(holder, SIGCONT);
     stop_with(options.stop);
 }
 

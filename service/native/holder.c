@@ -1,12 +1,11 @@
 /* The process between a worker and its program. It is the parent of the program, and of whatever the program leaves. */
 #define _GNU_SOURCE
 #include "program.h"
+#include "ending.h"
 #include "start.h"
 
-#include <dirent.h>
 #include <errno.h>
 #include <fcntl.h>
-#include <ftw.h>
 #include <poll.h>
 #include <signal.h>
 #include <stdio.h>
@@ -17,44 +16,6 @@
 #include <sys/socket.h>
 #include <sys/wait.h>
 #include <unistd.h>
-
-static int remove_entry(const char *path, const struct stat *found, int kind, struct FTW *place) {
-    (void)found, (void)kind, (void)place;
-    remove(path);
-    return 0;
-}
-
-static void kill_children(void) {
-    char path[300], line[512];
-    int parent;
-    struct dirent *entry;
-    DIR *folder = opendir("/proc");
-    while (folder && (entry = readdir(folder))) {
-        pid_t process = (pid_t)atoi(entry->d_name);
-        snprintf(path, sizeof path, "/proc/%s/stat", entry->d_name);
-        FILE *file = process > 0 ? fopen(path, "re") : 0;
-        const char *name_end = file && fgets(line, sizeof line, file) ? strrchr(line, ')') : 0;
-        if (name_end && sscanf(name_end, ") %*c %d", &parent) == 1 && parent == getpid())
-            kill(process, SIGKILL);
-        if (file)
-            fclose(file);
-    }
-    if (folder)
-        closedir(folder);
-}
-
-/* Kills all that is left of the program. What a killed process has started becomes a child of this one. */
-static void kill_all(void) {
-    for (;;) {
-        pid_t ended = waitpid(-1, 0, WNOHANG);
-        if (ended < 0 && errno == ECHILD)
-            return;
-        if (ended > 0)
-            continue;
-        kill_children();
-        usleep(2000);
-    }
-}
 
 static void tell(int line, enum news news, int value) {
     struct message message = {news, value};
@@ -106,7 +67,7 @@ static void hold(const struct gifts *gifts, int line) {
     sigemptyset(&child);
     sigaddset(&child, SIGCHLD);
     sigprocmask(SIG_BLOCK, &child, 0);
-    prctl(PR_SET_CHILD_SUBREAPER, 1);
+    adopt_orphans();
     prctl(PR_SET_NAME, "prefork-hold");
     int ends = signalfd(-1, &child, SFD_CLOEXEC), fault = 0;
     pid_t program = start_program(gifts, &fault);
@@ -118,7 +79,7 @@ static void hold(const struct gifts *gifts, int line) {
         tell(line, NEWS_REFUSED, fault ? fault : errno);
     }
     kill_all();
-    nftw(gifts->room, remove_entry, 8, FTW_DEPTH | FTW_PHYS);
+    remove_room(gifts->room);
 }
 
 pid_t start_holder(const struct gifts *gifts, int *line) {
@@ -132,6 +93,7 @@ pid_t start_holder(const struct gifts *gifts, int *line) {
         return holder;
     }
     /* Nothing of the worker stays open but what the program gets: the master's pipes least of all. */
+    continue_without_parent();
     int kept = fcntl(ends[1], F_DUPFD_CLOEXEC, first_free(gifts));
     close(ends[0]);
     keep_gifts(gifts, kept);

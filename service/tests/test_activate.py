@@ -7,10 +7,18 @@ import threading
 import unittest
 
 from kit import OUT, PROGRAMS, PYTHON, SERVICE, WorkerTest, answer_of, free_address, is_open, marked, until
-from prefork_service.conversation import END, NOTHING
+from prefork_service.conversation import END, NOTHING, Conversation
 
 ACTIVATE, PAGE = OUT / "prefork-activate", OUT / "page"
 SCRIPT = [PYTHON, PROGRAMS / "page.py"]
+
+
+def name_of(number: int) -> str:
+    """The name of a process."""
+    try:
+        return pathlib.Path(f"/proc/{number}/comm").read_text().strip()
+    except OSError:
+        return ""
 
 
 class ReadyTest(WorkerTest):
@@ -214,6 +222,42 @@ class EndTest(WorkerTest):
         talk.process.wait()
         self.assertTrue(until(lambda: not marked(self.mark)), marked(self.mark))
         self.assertTrue(until(lambda: not self.left()), self.left())
+
+    def begun(self, *options: str) -> tuple[Conversation, int]:
+        """A worker whose program has left its session and lost a parent, and the process that holds the program."""
+        script = f"setsid sleep 1000 & (sleep 1001 &) ; exec {PAGE} 3"
+        talk = self.started(ACTIVATE, *options, "--", "sh", "-c", script, addresses=(free_address(),))
+        self.assertEqual(talk.hear(), "ready")
+        self.assertTrue(until(lambda: len(marked(self.mark)) >= 5), marked(self.mark))
+        return talk, next(number for number in marked(self.mark) if name_of(number) == "prefork-hold")
+
+    def test_what_a_killed_holder_leaves_is_ended_and_counted_until_it_is(self) -> None:
+        talk, holder = self.begun()
+        os.kill(holder, signal.SIGKILL)
+        self.assertEqual((talk.hear(), talk.wait()), (END, 1))
+        self.assertEqual((marked(self.mark), self.left()), ([], []))
+
+    def test_a_holder_that_was_stopped_passes_on_that_it_is_told_to_finish(self) -> None:
+        talk, holder = self.begun()
+        os.kill(holder, signal.SIGSTOP)
+        talk.say("quit")
+        self.assertEqual((talk.hear(), talk.wait()), ("gone", 0))
+        self.assertEqual((marked(self.mark), self.left()), ([], []))
+
+    def test_nothing_is_left_of_a_killed_worker_whose_holder_was_stopped(self) -> None:
+        talk, holder = self.begun()
+        os.kill(holder, signal.SIGSTOP)
+        talk.process.kill()
+        talk.process.wait()
+        self.assertTrue(until(lambda: not marked(self.mark)), marked(self.mark))
+        self.assertTrue(until(lambda: not self.left()), self.left())
+
+    def test_a_program_that_was_stopped_is_killed(self) -> None:
+        talk, _ = self.begun("--finish", "0.3")
+        os.kill(next(number for number in marked(self.mark) if name_of(number) == "page"), signal.SIGSTOP)
+        talk.say("quit")
+        self.assertEqual((talk.hear(), talk.wait()), ("gone", 0))
+        self.assertEqual((marked(self.mark), self.left()), ([], []))
 
     def test_what_a_program_leaves_ends_with_it(self) -> None:
         talk = self.started(ACTIVATE, "--", "sh", "-c", f"setsid sleep 1000 & exec {PAGE} 3", addresses=(free_address(),))
