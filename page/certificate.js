@@ -1,0 +1,74 @@
+'use strict';
+// `certify` of pasted blocks, beside the page: whether they are accepted, what explains them, and each run, drawn.
+const Certificate = (() => {
+  const MOST_BLOCKS = 200, MOST_WORDS = 300;
+  const FAULT = /^prefork: certify (\d+) (\S+)(?: (\d+))?/;
+  const LINE = /^prefork: transcript \S+ (\d+)/;
+  const answerOf = told => {
+    const [line] = told.errors.split('\n');
+    const found = FAULT.exec(line);
+    return found ? { line, block: Number(found[1]), code: found[2], entry: Number(found[3] || 0) } : { line, block: 0, code: (LINE.exec(line) || {})[1] ? 'X1' : '', entry: 0 };
+  };
+  const kindOf = report => (report || 'lost').split(' ')[0];
+  const callRow = (call, isWrong) => make('li', { class: isWrong ? 'wrong' : Run.isPlain(call) ? '' : 'fault', value: call.number }, make('code', {}, `m${call.master} ${call.call} : ${call.answer}`), isWrong ? ' is not what a master does here' : '');
+  // The words up to a block become the page's own, so that the run is drawn and can be changed.
+  const rehearse = (page, blocks, patterns, i) => {
+    const words = Blocks.explained(blocks.slice(0, i + 1), patterns);
+    page.load(words, byId('recordBare').checked);
+    byId('end').scrollIntoView({ block: 'nearest' });
+    byId('end').focus();
+  };
+  const itemOf = (page, { blocks, patterns, fault }, block, i) => {
+    const lines = patterns ? patterns[i] || [] : [], isWrong = fault && fault.block === i + 1;
+    const summary = make('summary', {}, make('strong', {}, block.word === null ? block.report : block.word), ` ${block.word === null ? '' : block.report || 'without a report'}`);
+    if (lines.length) summary.append(make('span', { class: 'because' }, ` since ${lines.join(', ')}`));
+    const inside = [make('ol', { class: 'made' }, ...block.calls.map(call => callRow(call, isWrong && call.number === fault.entry)))];
+    if (patterns && block.word !== null) {
+      const count = Blocks.explained(blocks.slice(0, i + 1), patterns).length;
+      const draw = button('Draw this run in the page', () => rehearse(page, blocks, patterns, i), { class: 'draw', disabled: count > MOST_WORDS });
+      inside.unshift(make('p', {}, draw, count > MOST_WORDS ? ` It comes after more than ${MOST_WORDS} words: too many for the page.` : ''));
+    }
+    return make('li', {}, make('details', { class: `block ${kindOf(block.report)}${isWrong ? ' wrong' : ''}`, open: !!isWrong }, summary, ...inside));
+  };
+  const show = (page, told, text) => {
+    byId('endCertify').hidden = true;
+    if (!told) return byId('certified').replaceChildren(make('p', { class: 'hint' }, 'Ended.'));
+    const blocks = Blocks.read(text), found = { blocks, patterns: null, fault: null };
+    const head = make('h3', { tabindex: -1 }), more = make('p', { class: 'hint' });
+    if (told.status === 0) {
+      found.patterns = JSON.parse(told.output).patterns;
+      const wrong = found.patterns.filter(lines => lines.some(line => !line.startsWith('turns '))).length;
+      head.textContent = `Accepted: ${many(found.patterns.length, 'block')}`;
+      head.className = 'good';
+      more.textContent = wrong ? `Failures and exits explain ${wrong} of them.` : 'Nothing went wrong in them.';
+    } else {
+      found.fault = answerOf(told);
+      head.textContent = told.status === 5 ? 'Not accepted' : 'Not read';
+      head.className = 'bad';
+      more.append(make('code', {}, found.fault.line), ' ', page.explained(found.fault.code));
+    }
+    const rest = blocks.length - MOST_BLOCKS;
+    byId('certified').replaceChildren(head, more, make('ol', { class: 'blocks' }, ...blocks.slice(0, MOST_BLOCKS).map((block, i) => itemOf(page, found, block, i))), rest > 0 ? `and ${many(rest, 'more block')}` : '');
+    return head.focus();
+  };
+  const certify = async page => {
+    const { state } = page, text = byId('record').value;
+    const start = { ...state, bare: byId('recordBare').checked };
+    const words = ['certify', ...Asked.options(start), ...Asked.held(state), '--json'];
+    byId('certified').replaceChildren(make('p', { class: 'hint', role: 'status' }, 'Certifying ..'));
+    byId('endCertify').hidden = false;
+    show(page, await Beside.ask([words, Asked.files(state), text], () => {}), text);
+  };
+  // The page's own run as a record, to see what `certify` says of it.
+  const example = page => {
+    const told = page.ask(...Asked.enacting(page.state, page.state.words.length));
+    byId('record').value = told.output;
+    byId('recordBare').checked = page.state.bare;
+  };
+  const listen = page => {
+    byId('certify').addEventListener('click', () => certify(page));
+    byId('endCertify').addEventListener('click', Beside.end);
+    byId('recordExample').addEventListener('click', () => example(page));
+  };
+  return { listen };
+})();
