@@ -8,6 +8,7 @@ old one's.
 The configuration that was accepted last stays: a master that is started again has it, and so has a service that was
 killed, where the file has become one that is refused.
 """
+import contextlib
 import datetime
 import json
 import pathlib
@@ -16,7 +17,7 @@ import subprocess
 import tomllib
 from typing import Any
 
-from .folder import Folder, say
+from .folder import Folder, content_of, files_in, say
 from .needs import addresses_of
 from .preloading import Preloading
 
@@ -24,6 +25,8 @@ from .preloading import Preloading
 ASKING_SECONDS = 10.0
 # Lines of a refusal that begin to explain a fault, and the title of a code.
 HEADING, CODE = re.compile(r"  (?:config|file|usage|[A-Z]\d+): "), re.compile(r"  [A-Z]\d+: (.*)")
+# The name of the file of a generation.
+GENERATION = re.compile(r"\d+\.\d+")
 # The rules of `command` in a configuration.
 MOST_WORDS, LONGEST_WORD = 16, 255
 # The variable that tells a worker the addresses of its generation, in their order.
@@ -114,8 +117,10 @@ class Commands:
         self.is_changing = False
         # The text of the file as it was read last, and the text of what runs.
         self.text, self.current_text = b"", b""
+        # What masters read: the configuration that runs, and the one that is to follow, each without its command.
+        self.now_text, self.proposed_text = b"", b""
         self.current = self.read(self.now)
-        self.current_text = self.text
+        self.current_text, self.now_text = self.text, self.proposed_text
 
     def read(self, target: pathlib.Path) -> list[str] | None:
         """Reads the configuration and writes it for the master, without its command; the command for its workers."""
@@ -124,12 +129,14 @@ class Commands:
         except OSError as fault:
             # The master finds it missing, and says so.
             target.unlink(missing_ok=True)
+            self.proposed_text = b""
             say(f"{self.config}: {fault.strerror}")
             return self.default
         return self.write(target)
 
     def write(self, target: pathlib.Path) -> list[str] | None:
         text, command = parted(self.text)
+        self.proposed_text = text
         target.write_bytes(text)
         if not command and not self.default and is_toml(self.text):
             say(f"{self.config} has no command, and the command line names no program")
@@ -149,6 +156,7 @@ class Commands:
         say(f"{self.config} is refused; the service that was killed had accepted another text, and starts with that")
         self.text = self.current_text = self.accepted.read_bytes()
         self.current = self.write(self.now)
+        self.now_text = self.proposed_text
         return True
 
     def accept(self) -> None:
@@ -180,13 +188,18 @@ class Commands:
             return True
 
     def begin(self) -> None:
-        """Forgets all generations: a master is about to start."""
+        """Forgets all generations: a master is about to start. What has gone of its files is written again."""
+        self.place.mkdir(mode=0o700, exist_ok=True)
         for file in self.generations():
-            file.unlink()
-        self.write_next(self.started_by(self.current, False), self.now)
+            file.unlink(missing_ok=True)
+        if content_of(self.now) != self.now_text:
+            new = self.place / "new"
+            new.write_bytes(self.now_text)
+            new.replace(self.now)
+        self.write_next(self.started_by(self.current, False), self.now_text)
 
     def generations(self) -> list[pathlib.Path]:
-        return [file for file in self.place.iterdir() if file.name[0].isdigit()]
+        return [file for file in files_in(self.place) if GENERATION.fullmatch(file.name)]
 
     def forget_others(self) -> None:
         """Forgets the command of each generation but the one that runs."""
@@ -194,13 +207,13 @@ class Commands:
             if file not in self.known:
                 file.unlink(missing_ok=True)
 
-    def write_next(self, command: list[str] | None, config: pathlib.Path) -> None:
+    def write_next(self, command: list[str] | None, config: bytes) -> None:
         """Writes the command of the next generation, and before it the addresses of its configuration: a master names
         those of the configuration before, too, while it reloads."""
-        addresses = addresses_of(config.read_bytes()) if config.exists() else []
+        addresses = addresses_of(config)
         words = [*([f"{ADDRESSES}={' '.join(addresses)}"] if addresses else []), *(command or ["false"])]
         text, there = b"".join(word.encode("utf-8", "surrogateescape") + b"\0" for word in words), self.place / "next"
-        if there.exists() and there.read_bytes() == text:
+        if content_of(there) == text:
             # On a full disk it could not be written again.
             return
         new = self.place / "new"
@@ -214,12 +227,12 @@ class Commands:
         one afterwards, for its generation, and the next reload has a generation of the same name."""
         self.known, self.is_changing = [file for file in self.generations() if running in ("", file.name)], True
         self.proposed = self.read(self.next)
-        self.write_next(self.started_by(self.proposed, True), self.next)
+        self.write_next(self.started_by(self.proposed, True), self.proposed_text)
         self.forget_others()
 
     def next_text(self) -> bytes:
         """The configuration that the next word goes over to, as the master reads it."""
-        return self.next.read_bytes() if self.next.exists() else b""
+        return self.proposed_text
 
     def settle(self, report: str) -> None:
         """Takes the new command if the new generation runs, and forgets it otherwise."""
@@ -227,16 +240,23 @@ class Commands:
             return
         self.is_changing = False
         if report.startswith(("done", "degraded target")):
-            self.current, self.current_text = self.proposed, self.text
-            self.next.replace(self.now)
+            self.current, self.current_text, self.now_text = self.proposed, self.text, self.proposed_text
+            self.keep_now()
             self.accept()
             for file in self.known:
                 file.unlink(missing_ok=True)
             self.settle_preloading(True)
         else:
             self.forget_others()
-            self.write_next(self.started_by(self.current, False), self.now)
+            self.write_next(self.started_by(self.current, False), self.now_text)
             self.settle_preloading(False)
+
+    def keep_now(self) -> None:
+        """The configuration that is to follow runs. A file that can't be written is tried again when a master starts."""
+        try:
+            self.next.replace(self.now)
+        except OSError as fault:
+            say(f"{self.now}: {fault.strerror}")
 
     def started_by(self, command: list[str] | None, is_next: bool) -> list[str] | None:
         """What starts a worker by a command: a shim, if a preloader has loaded what the command line says."""
@@ -252,6 +272,8 @@ class Commands:
             self.preloading.settle(has_changed)
 
     def clear(self) -> None:
-        for file in [*self.place.iterdir(), self.now, self.next, self.accepted]:
+        own = [self.place / name for name in ("next", "new", "accepted")]
+        for file in [*self.generations(), *own, self.now, self.next, self.accepted]:
             file.unlink(missing_ok=True)
-        self.place.rmdir()
+        with contextlib.suppress(OSError):
+            self.place.rmdir()

@@ -40,8 +40,13 @@ class Door:
                 self.make_room(fault)
             return
         client.setblocking(False)
+        try:
+            self.events.register(client, selectors.EVENT_READ, self.give)
+        except OSError:
+            # The system has no room to watch it.
+            client.close()
+            return
         self.silent[client] = time.monotonic() + SILENT_SECONDS
-        self.events.register(client, selectors.EVENT_READ, self.give)
         if len(self.silent) > self.most:
             self.drop_oldest()
 
@@ -72,6 +77,15 @@ class Door:
         else:
             self.events.unregister(self.listener)
             self.closed_until = now + SHORT_SECONDS
+
+    def forsake(self, source: socket.socket) -> None:
+        """A client that has failed again and again is dropped; the listener is heard again in a moment."""
+        self.events.unregister(source)
+        if source is self.listener:
+            self.closed_until = time.monotonic() + SHORT_SECONDS
+        else:
+            self.silent.pop(source, None)
+            source.close()
 
     def tend(self) -> None:
         """Drops those that have been silent for too long, and opens the door again."""

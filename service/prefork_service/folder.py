@@ -19,6 +19,22 @@ def say(text: str) -> None:
         pass
 
 
+def files_in(place: pathlib.Path) -> list[pathlib.Path]:
+    """The files of a folder; none if it has gone, or is none."""
+    try:
+        return list(place.iterdir())
+    except OSError:
+        return []
+
+
+def content_of(file: pathlib.Path) -> bytes | None:
+    """What a file has, if it can be read."""
+    try:
+        return file.read_bytes()
+    except OSError:
+        return None
+
+
 class Folder:
     """The folder of a service. `prefork-serve` locks it. Its master and its keeper inherit the lock, so no other
     master runs before these have ended."""

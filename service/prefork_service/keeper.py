@@ -46,7 +46,9 @@ import socket
 import sys
 import time
 
+from .barrier import Barrier, Broken
 from .door import Door, has_said
+from .errors import take_standard
 from .sockets import QUEUE, file_of, listening
 from .titles import set_title
 
@@ -140,7 +142,7 @@ class Keeper:
         self.held: dict[socket.socket, set[Kept]] = {}
         # Whether a holder has gone that prefork-serve was not told of.
         self.has_lost = False
-        self.events = selectors.DefaultSelector()
+        self.events, self.barrier = selectors.DefaultSelector(), Barrier(say)
         self.door = Door(self.events, door, self.begin_to_hear, say, MOST_SILENT)
 
     def run(self) -> None:
@@ -149,11 +151,20 @@ class Keeper:
         else:
             self.events.register(sys.stdin, selectors.EVENT_READ, self.hear_input)
         while True:
-            for key, _ in self.events.select(self.linger / 4):
-                key.data(key.fileobj)
-            self.tell_lost()
-            self.close_dropped()
-            self.door.tend()
+            self.turn()
+
+    def turn(self) -> None:
+        """A turn of the loop. What an event or a duty raises costs that one alone."""
+        for key in self.barrier.select(self.events, self.linger / 4):
+            self.barrier.event(self.events, key)
+        for duty in (self.tell_lost, self.close_dropped, self.door.tend, sys.stderr.flush):
+            self.barrier.duty(duty)
+
+    def forsake(self, source: socket.socket) -> None:
+        """A source has failed again and again. Without prefork-serve it ends, and is started again."""
+        if source not in self.held and self.channel and source is self.channel.socket:
+            sys.exit(1)
+        self.let_go(source)
 
     def begin_to_hear(self, holder: socket.socket) -> None:
         self.events.register(holder, selectors.EVENT_READ, self.hear)
@@ -356,6 +367,7 @@ def take_descriptors() -> None:
 
 
 def main() -> int:
+    take_standard()
     given = arguments()
     set_title("prefork-keeper")
     take_descriptors()
@@ -363,5 +375,9 @@ def main() -> int:
         os.umask(0o777 & ~given.socket_mode)
     is_of_serve = given.door is not None
     door = socket.socket(fileno=given.door) if is_of_serve else own_door(given.path)
-    Keeper(door, given.linger, given.defer_accept, Channel() if is_of_serve else None, given.socket_group).run()
+    try:
+        Keeper(door, given.linger, given.defer_accept, Channel() if is_of_serve else None, given.socket_group).run()
+    except Broken as fault:
+        say(str(fault))
+        return 1
     return 0

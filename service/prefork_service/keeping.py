@@ -66,15 +66,17 @@ class Keeping:
         command = [places.KEEPER, *self.options, "--door", str(self.door.fileno()), self.folder.keeper]
         given = [self.folder.lock, self.door.fileno()]
         try:
+            self.channel.setblocking(False)
+            self.events.register(self.channel, selectors.EVENT_READ, self.hear)
             self.process = started(command, stdin=theirs, start_new_session=True, pass_fds=given)
         except OSError as fault:
+            if is_heard(self.events, self.channel):
+                self.events.unregister(self.channel)
             self.channel.close()
             say(f"the keeper is not started: {fault.strerror}")
             return
         finally:
             theirs.close()
-        self.channel.setblocking(False)
-        self.events.register(self.channel, selectors.EVENT_READ, self.hear)
         for address, one in self.held.items():
             self.tell(OPENED + address, one)
 
@@ -167,14 +169,18 @@ class Keeping:
         """The service did not stop: who asks for a sealed address is given a new socket."""
         for address in list(self.sealed):
             self.drop(address)
+    def forsake(self, _: socket.socket) -> None:
+        """What it says has raised again and again."""
+        self.bury()
 
     def bury(self) -> None:
         """The keeper has ended, or hears no more."""
-        self.events.unregister(self.channel)
+        process, self.process, self.owes = self.process, None, False
+        if is_heard(self.events, self.channel):
+            self.events.unregister(self.channel)
         self.channel.close()
-        self.process.kill()
-        say(f"the keeper has ended with status {self.process.wait()}, and is started again")
-        self.process, self.owes = None, False
+        process.kill()
+        say(f"the keeper has ended with status {process.wait()}, and is started again")
 
     def tend(self) -> None:
         """Starts a keeper if none runs, and asks the one that does whether it still answers."""
@@ -216,3 +222,7 @@ class Keeping:
         self.tell(ENDS)
         self.channel.close()
         self.process.wait()
+
+
+def is_heard(events: selectors.BaseSelector, source: socket.socket) -> bool:
+    return source.fileno() >= 0 and source in events.get_map()

@@ -8,6 +8,7 @@ import re
 import signal
 import time
 
+from .folder import files_in
 from .status import descends, fields_of
 
 QUIT = re.compile(r"^\d+ m\d+ quit (\d+\.\d+ \d+) : ok$", re.M)
@@ -35,7 +36,7 @@ class Leaving:
 
     def take_all(self, image: str = "") -> None:
         """Takes all workers, or those of an image: their master has ended, and so has their input."""
-        for file in (self.folder / "workers").iterdir():
+        for file in files_in(self.folder / "workers"):
             if file.name.startswith(image):
                 self.take(file.name)
 

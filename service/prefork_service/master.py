@@ -110,7 +110,7 @@ class Master:
 def pass_on(text: bytes) -> None:
     try:
         sys.stderr.buffer.write(text)
-        sys.stderr.flush()
+        sys.stderr.buffer.flush()
     except (OSError, AttributeError):
         # A standard error that is full, or has no reader, is no reason to serve nobody.
         pass

@@ -34,10 +34,12 @@ import socket
 import sys
 
 from . import places
+from .barrier import Barrier, Broken
 from .burying import adopt_orphans
 from .chronicle import Chronicle
 from .commands import PID_OF_MASTER, Commands, refusal_of
 from .convention import Unfit
+from .errors import take_standard
 from .folder import Folder, say
 from .keeper import DEFER, socket_options
 from .keeping import Keeping
@@ -99,21 +101,23 @@ def serve(given: argparse.Namespace, folder: Folder, commands: Commands, stored:
         service = Service(keeping, supervise, commands, chronicle, limits_of(given))
         service.telling.open(keeping.events, given.metrics, given.page)
         service.run()
+    except Broken as fault:
+        # As if it were killed: the next start finds workers and sockets as systemd has them.
+        say(f"{fault}; it ends, and leaves everything as it is")
+        sys.stderr.flush()
+        os._exit(1)
     except (OSError, Unfit) as fault:
         sys.exit(f"prefork-serve: {fault}")
     finally:
         notify("STOPPING=1")
-        if service:
-            service.telling.end()
-        if commands.preloading:
-            commands.preloading.end()
-        keeping.end()
-        chronicle.end()
-        commands.clear()
-        folder.clear()
+        ends = [service.telling.end] if service else []
+        ends += [commands.preloading.end] if commands.preloading else []
+        for end in (*ends, keeping.end, chronicle.end, commands.clear, folder.clear):
+            Barrier(say).duty(end)
 
 
 def main() -> int:
+    take_standard()
     given = arguments(sys.argv[1:])
     set_title("prefork-serve")
     places.check()

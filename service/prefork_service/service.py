@@ -1,50 +1,35 @@
 """The loop of a service: words to the master, one at a time, and their blocks to those that asked."""
-import json
 import os
-import re
 import selectors
-import signal
-import socket
 import sys
 import time
 from typing import Any
 
+from .asking import Asking
+from .barrier import Barrier
 from .burying import bury_orphans
 from .chronicle import Chronicle
 from .commands import PID_OF_MASTER, Commands, mistake_of, refusal_of
-from .door import Door
-from .folder import Folder, say
+from .folder import say
 from .keeping import Keeping
 from .leaving import Leaving
 from .limits import end_seconds, known
 from .master import Master
 from .needs import addresses_of
-from .questions import ANSWERS, NOT_ASKED, STATE, line_of, state
+from .outcomes import OLD_SERVES, PRELOADER_SERVES, is_broken
+from .questions import line_of
 from .reasons import NEW_MASTER
 from .status import Record, Status, masters_of, started_workers, workers_of
 from .systemd import notify
 from .telling import Telling
 from .ticks import Ticks, pause_of, timeout_of
-from .words import CHANGES, NOTE, SIGNALS, START, STATUS, STOPS, WORDS, Queue, Word
+from .words import CHANGES, NOTE, START, STOPS, Queue, Word
 
 # What comes of a tick comes in many small pieces, and nobody waits for it: what came in this time is read together.
 TOGETHER_SECONDS = 0.01
 # The longest pause of the loop, and that while no master runs.
 PAUSE, SHORT_PAUSE = 1.0, 0.1
 TOO_MANY, NOT_READ, HAS_PID = "refused too-many-wait", "refused not-read", "refused pid"
-# A call of a block in which a worker or a master did not start.
-FAILED_START = re.compile(r"^\d+ m\d+ (?:fork|await-ready|spawn-master|adopt) .*: (?!forked$|ready$|spawned$|adopted$)", re.M)
-# What its operator is told after an application that did not start.
-OLD_SERVES = "the workers that run are of the version before. One that ends is started again from the files as they are " \
-    "now: put the old version back, or mend the new one"
-
-PRELOADER_SERVES = "the workers that run are of the version before. One that ends is forked again from the preloader that has " \
-    "loaded that version, and only if the preloader has ended too, it is loaded from the files as they are then"
-
-
-def is_broken(word: str, block: str) -> bool:
-    """Whether a block says that a new version did not start, and that the old one runs."""
-    return word in CHANGES and "\nrolled-back " in block and FAILED_START.search(block) is not None
 
 
 class Service:
@@ -52,6 +37,7 @@ class Service:
 
     def __init__(self, keeping: Keeping, command: list[str], commands: Commands, chronicle: Chronicle, limits: list[str]):
         self.keeping, self.folder, self.events = keeping, keeping.folder, keeping.events
+        self.barrier = Barrier(say)
         self.command, self.commands, self.chronicle, self.limits = command, commands, chronicle, limits
         # The master, once it is started, the words that wait for it, and the one that it carries out.
         self.master: Any = None
@@ -64,45 +50,40 @@ class Service:
         self.record, self.began, self.starts = Record(), time.monotonic(), 0
         self.leaving = Leaving(self.folder.path, end_seconds(limits))
         self.telling = Telling(self.status, self.brief, self.line, chronicle)
-        self.take_signals()
-        self.open_door()
-
-    def take_signals(self) -> None:
-        """Each signal that comes is a byte in a pipe."""
-        self.signals, tell = os.pipe()
-        os.set_blocking(tell, False)
-        signal.set_wakeup_fd(tell)
-        for name in SIGNALS:
-            signal.signal(signal.Signals[f"SIG{name}"], lambda number, frame: None)
-        self.events.register(self.signals, selectors.EVENT_READ, self.hear_signals)
-
-    def open_door(self) -> None:
-        listener = socket.socket(socket.AF_UNIX)
-        listener.bind(str(self.folder.words))
-        os.chmod(self.folder.words, 0o600)
-        listener.listen(64)
-        self.door = Door(self.events, listener, self.hear_asker, say)
+        self.asking = Asking(self)
 
     def run(self) -> None:
         while not self.is_stopped:
-            self.begin_master()
-            self.tell_next()
-            if self.is_ticking():
-                time.sleep(TOGETHER_SECONDS)
-            for key, _ in self.events.select(self.pause()):
-                key.data(key.fileobj)
-            self.door.tend()
-            self.keeping.tend()
-            if self.commands.preloading:
-                self.commands.preloading.tend()
-            if self.keeping.has_lost():
-                self.ticks.hurry()
-            bury_orphans()
-            self.end_late()
-            self.chronicle.tend()
-            self.telling.tend()
+            self.turn()
         while self.waiting:
             self.waiting.next().answer("lost: the service has stopped\n")
+
+    def turn(self) -> None:
+        """A turn of the loop. What an event or a duty raises costs that one alone."""
+        duty = self.barrier.duty
+        duty(self.begin_master)
+        duty(self.tell_next)
+        if self.is_ticking():
+            time.sleep(TOGETHER_SECONDS)
+        for key in self.barrier.select(self.events, duty(self.pause)):
+            self.barrier.event(self.events, key)
+            if self.is_stopped:
+                return
+        preloading = [self.commands.preloading.tend] if self.commands.preloading else []
+        tends = [self.asking.door.tend, self.keeping.tend, *preloading, self.hurry, bury_orphans, self.end_late, self.chronicle.tend]
+        for tend in [*tends, self.telling.tend, sys.stderr.flush]:
+            duty(tend)
+
+    def hurry(self) -> None:
+        """A worker may have ended: the next tick is due."""
+        if self.keeping.has_lost():
+            self.ticks.hurry()
+
+    def forsake(self, source: Any) -> None:
+        """A source of events has failed again and again."""
+        if self.master and source in (self.master.output, self.master.errors):
+            self.master.process.kill()
+            self.end_master()
 
     def end_late(self) -> None:
         """Kills workers that should have ended, and says so."""
@@ -113,7 +94,7 @@ class Service:
 
     def pause(self) -> float:
         """How long the loop may wait for something to happen."""
-        moments = [self.until_tick(), self.door.seconds(), PAUSE if self.master else SHORT_PAUSE, self.telling.seconds()]
+        moments = [self.until_tick(), self.asking.door.seconds(), PAUSE if self.master else SHORT_PAUSE, self.telling.seconds()]
         return min(moment for moment in moments if moment is not None)
 
     def begin_master(self) -> None:
@@ -124,28 +105,42 @@ class Service:
         try:
             self.commands.begin()
             command = [*self.command, *known(self.command[0], self.limits)]
-            self.master = Master(command, self.folder, self.chronicle.records.add)
+            master = Master(command, self.folder, self.keep_block)
+            try:
+                self.take_master(master)
+            except Exception:
+                # (a descriptor that is closed is heard no longer)
+                self.master, self.current = None, None
+                master.process.kill()
+                master.close()
+                raise
         except OSError as fault:
             if not self.has_heard:
-                raise
+                sys.exit(f"prefork-serve: {fault}")
             say(f"the master is not started: {fault}")
-            return
+
+    def keep_block(self, block: str) -> None:
+        self.barrier.duty(self.chronicle.records.add, block)
+
+    def take_master(self, master: Master) -> None:
+        """Hears a master that was started, from its first block on."""
+        self.events.register(master.output, selectors.EVENT_READ, self.hear_master)
+        self.events.register(master.errors, selectors.EVENT_READ, self.hear_errors)
+        self.master, self.current = master, Word(START)
         self.starts += 1
         self.record.forget_workers()
-        self.chronicle.begin_master(self.commands.now.read_bytes(), self.master.process.pid)
-        self.begin_word(Word(START))
-        self.events.register(self.master.output, selectors.EVENT_READ, self.hear_master)
-        self.events.register(self.master.errors, selectors.EVENT_READ, self.hear_errors)
+        self.barrier.duty(self.chronicle.begin_master, self.commands.now_text, master.process.pid)
+        self.begin_word(self.current)
 
     def begin_word(self, word: Word) -> None:
         self.current = word
-        self.chronicle.begin_word(word.text)
-        self.telling.begin_word(word.text in CHANGES)
+        self.barrier.duty(self.chronicle.begin_word, word.text)
+        self.barrier.duty(self.telling.begin_word, word.text in CHANGES)
         if word.text in STOPS:
             notify("STOPPING=1")
-            self.keeping.seal()
+            self.barrier.duty(self.keeping.seal)
         if word.text == "QUIT":
-            self.keeping.drain()
+            self.barrier.duty(self.keeping.drain)
 
     def until_tick(self) -> float | None:
         return self.ticks.seconds() if self.current is None else None
@@ -161,8 +156,13 @@ class Service:
             self.begin_word(Word(self.ticks.tell(pause)))
         else:
             return
-        if self.current and (self.current.text not in CHANGES or self.has_read()):
-            self.master.tell(self.current.text)
+        try:
+            if self.current and (self.current.text not in CHANGES or self.has_read()):
+                self.master.tell(self.current.text)
+        except Exception as fault:
+            # Nobody would answer a word that was not told.
+            self.refuse(NOT_READ, f"it is not told to the master: {fault}")
+            raise
 
     def has_read(self) -> bool:
         """Reads the configuration again for the current word, which is refused if the copy for the master can't be
@@ -181,11 +181,11 @@ class Service:
     def refuse(self, report: str, reason: str) -> None:
         """Refuses the current word, which its master is not told."""
         word, self.current = self.current, None
-        self.telling.end_word()
+        self.barrier.duty(self.telling.end_word)
         if word:
             say(f"{word.text}: {reason}")
-            self.commands.settle(report)
-            self.chronicle.refuse_word(word.text, report, reason)
+            self.barrier.duty(self.commands.settle, report)
+            self.barrier.duty(self.chronicle.refuse_word, word.text, report, reason)
             word.answer(f"{NOTE}{reason}\nword {word.text}\n{report}\n")
 
     def hear_master(self, _: int) -> None:
@@ -194,9 +194,14 @@ class Service:
             self.end_master()
             return
         # Whom it has killed is said before the block that tells of it.
-        self.hear_errors(self.master.errors)
+        self.barrier.duty(self.hear_errors, self.master.errors)
         for block in blocks:
-            self.end_word(block)
+            word = self.current
+            self.barrier.duty(self.end_word, block)
+            if word and self.current is word:
+                # Nothing would end it any more.
+                self.current = None
+                word.answer(block)
 
     def hear_errors(self, _: int) -> None:
         if self.master is None or self.is_stopped:
@@ -218,39 +223,43 @@ class Service:
             say(f"{self.current.text} {line_of(question)}".rstrip())
             self.current.tell(line_of(question))
 
-    def answer(self, word: Word) -> None:
-        """Answers the question, if there is one."""
-        if not self.question:
-            word.answer(f"word {word.text}\n{NOT_ASKED}\n")
-            return
-        self.master.tell(ANSWERS[word.text])
-        say(f"question {self.question} is answered: {word.text}")
-        word.answer(f"word {word.text}\nanswered {self.question} {word.text}\n")
-        self.question = 0
-
     def end_word(self, block: str) -> None:
         word, self.current, self.question = self.current, None, 0
         if word is None:
             return
         report, self.has_heard = block.splitlines()[-1], True
-        self.commands.settle(report)
-        self.record.note(block)
-        self.leaving.note(block)
-        if word.text == START:
-            self.commands.accept()
-        for note in self.notes(word, block):
-            word.tell(f"{NOTE}{note}\n")
-        self.telling.end_word()
-        if not word.text.startswith("tick ") or word.text == START:
-            self.telling.write()
-        if word.text == START:
-            self.keeping.release()
-        if word.text in (*CHANGES, START) and report.startswith(("done", "degraded target")):
-            self.keeping.settle()
-        if word.text in CHANGES and report.startswith(("done", "degraded target")):
-            self.keeping.drop_others(addresses_of(self.commands.now.read_bytes()))
+        self.barrier.duty(self.commands.settle, report)
+        self.barrier.duty(self.record.note, block)
+        self.barrier.duty(self.leaving.note, block)
+        self.barrier.duty(self.tell_of, word, block)
         if not word.text.startswith("tick ") or not report.startswith("done"):
             say(f"{word.text}: {report}")
+        try:
+            self.conclude(word, report)
+        finally:
+            word.answer(block)
+        if report.startswith("done") and not self.is_ready:
+            self.is_ready = True
+            notify("READY=1")
+
+    def tell_of(self, word: Word, block: str) -> None:
+        """Tells of a block, and settles what rests on it: those that asked, the keeper, metrics."""
+        report = block.splitlines()[-1]
+        if word.text == START:
+            self.barrier.duty(self.commands.accept)
+            self.barrier.duty(self.keeping.release)
+        if word.text in (*CHANGES, START) and report.startswith(("done", "degraded target")):
+            self.barrier.duty(self.keeping.settle)
+        if word.text in CHANGES and report.startswith(("done", "degraded target")):
+            self.barrier.duty(self.keeping.drop_others, addresses_of(self.commands.now_text))
+        for note in self.barrier.duty(self.notes, word, block) or ():
+            word.tell(f"{NOTE}{note}\n")
+        self.barrier.duty(self.telling.end_word)
+        if not word.text.startswith("tick ") or word.text == START:
+            self.barrier.duty(self.telling.write)
+
+    def conclude(self, word: Word, report: str) -> None:
+        """Ends the service after a stop, and a master that is of no further use."""
         # The new master of an upgrade has gone, and its workers with it. The old one, which passed
         # words on to it, is of no further use.
         is_lost = report.startswith("lost ") or report == "refused V1"
@@ -258,15 +267,11 @@ class Service:
             self.master.process.kill()
         self.is_stopped = word.text in STOPS and (is_lost or report.startswith("done"))
         if word.text in STOPS and not self.is_stopped:
-            self.keeping.open_again()
+            self.barrier.duty(self.keeping.open_again)
         if self.is_stopped:
-            self.master.finish()
+            self.barrier.duty(self.master.finish)
         elif is_lost:
             self.end_master()
-        word.answer(block)
-        if report.startswith("done") and not self.is_ready:
-            self.is_ready = True
-            notify("READY=1")
 
     def notes(self, word: Word, block: str) -> list[str]:
         """What is said to people of a block: why addresses were not opened, and what workers are started from."""
@@ -298,50 +303,27 @@ class Service:
 
     def end_master(self) -> None:
         """The master has ended without having been told to."""
-        self.events.unregister(self.master.output)
-        if self.master.errors in self.events.get_map():
-            self.events.unregister(self.master.errors)
-        status = self.master.close()
-        self.leaving.take_all()
-        if self.current:
-            self.chronicle.cut_word(self.current.text, self.master.block)
+        master, self.master, self.question = self.master, None, 0
+        for source in (master.output, master.errors):
+            if source in self.events.get_map():
+                self.events.unregister(source)
+        status = self.barrier.duty(master.close)
+        word, self.current = self.current, None
+        duty = self.barrier.duty
+        duty(self.leaving.take_all)
+        if word:
+            duty(self.chronicle.cut_word, word.text, master.block)
         if not self.has_heard:
             sys.exit(f"prefork-serve: {self.command[0]} does not start as the master: it has ended with status {status} "
                      "before its first block. Is it the program prefork, in this version?")
-        self.master, self.question = None, 0
-        self.keeping.open_again()
-        self.telling.end_word()
-        self.commands.settle("lost")
+        duty(self.keeping.open_again)
+        duty(self.telling.end_word)
+        duty(self.commands.settle, "lost")
         say(f"the master has ended with status {status}, and is started again with the configuration that was accepted")
         if self.commands.has_changed():
             say(f"{self.commands.config} has changed since: HUP reads it")
-        if self.current:
-            self.current.answer("lost: the master has ended\n")
-            self.current = None
-
-    def hear_signals(self, signals: int) -> None:
-        for number in os.read(signals, 4096):
-            name = signal.Signals(number).name.removeprefix("SIG")
-            if name in SIGNALS:
-                self.take(Word(name))
-
-    def hear_asker(self, asker: socket.socket) -> None:
-        try:
-            text = asker.recv(64).decode().strip()
-        except (OSError, UnicodeDecodeError):
-            text = ""
-        word = Word(text, asker)
-        if text in WORDS:
-            self.take(word)
-        elif text in ANSWERS:
-            self.answer(word)
-        elif text == STATUS:
-            word.answer(json.dumps(self.status()) + "\n")
-        elif text == STATE:
-            current = self.current.text if self.current else None
-            word.answer(state(self.question, current, len(self.waiting)))
-        else:
-            word.answer(f"{NOTE}{text or 'nothing'} is not a word. Words are {', '.join(WORDS)} and {STATUS}\nunread W1\n")
+        if word:
+            word.answer("lost: the master has ended\n")
 
     def is_ticking(self) -> bool:
         """Whether a tick is being carried out, and not the start of a master."""

@@ -5,6 +5,7 @@ import re
 import time
 from typing import Any
 
+from .folder import files_in
 from .questions import line_of
 
 CENSUS = re.compile(r" census (\d+\.\d+) : counted (\S+)$", re.M)
@@ -67,14 +68,6 @@ def descends(process: int, ancestor: int) -> bool:
         if process == ancestor:
             return True
     return False
-
-
-def files_in(place: pathlib.Path) -> list[pathlib.Path]:
-    """The files of a folder; none if it has gone."""
-    try:
-        return list(place.iterdir())
-    except OSError:
-        return []
 
 
 def started_workers(place: pathlib.Path) -> dict[tuple[str, int], int]:

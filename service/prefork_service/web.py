@@ -56,8 +56,14 @@ class Site:
     def welcome(self, client: socket.socket) -> None:
         if len(self.visits) >= MOST_VISITS:
             self.drop(min(self.visits.values(), key=lambda visit: visit.until))
-        self.visits[client] = Visit(client)
-        self.events.register(client, selectors.EVENT_READ, self.hear)
+        visit = Visit(client)
+        try:
+            self.events.register(client, selectors.EVENT_READ, self.hear)
+        except OSError:
+            # The system has no room to watch it.
+            client.close()
+            return
+        self.visits[client] = visit
         self.hear(client)
 
     def hear(self, client: socket.socket) -> None:
@@ -110,6 +116,11 @@ class Site:
             pass
         except OSError:
             self.drop(visit)
+
+    def forsake(self, client: socket.socket) -> None:
+        """A visit that has failed again and again."""
+        if client in self.visits:
+            self.drop(self.visits[client])
 
     def drop(self, visit: Visit) -> None:
         del self.visits[visit.client]

@@ -3,7 +3,7 @@ import json
 import unittest
 
 from prefork_service.ctl import as_json
-from prefork_service.service import is_broken
+from prefork_service.outcomes import is_broken
 
 START = "word HUP\n1 m1 fork 1.2 0 : forked\n"
 BACK = "3 m1 kill 1.2 0 : ok\nrolled-back cause 2 pid no-file\n"

@@ -1,0 +1,96 @@
+"""What a service is asked: by signals, and by askers at its door."""
+import json
+import os
+import selectors
+import signal
+import socket
+from typing import TYPE_CHECKING, Any
+
+from .door import Door
+from .folder import say
+from .questions import ANSWERS, NOT_ASKED, STATE, state
+from .words import NOTE, SIGNALS, STATUS, WORDS, Word
+
+if TYPE_CHECKING:
+    from .service import Service
+
+LONGEST, QUEUE = 64, 64
+FAULT = "a fault in prefork-serve, which has logged it with its trace"
+
+
+class Asking:
+    """The signals and the askers of a service."""
+
+    def __init__(self, service: "Service"):
+        self.service, self.events = service, service.events
+        self.take_signals()
+        self.door = Door(self.events, self.listener(), self.hear_asker, say)
+
+    def take_signals(self) -> None:
+        """Each signal that comes is a byte in a pipe."""
+        self.signals, tell = os.pipe()
+        os.set_blocking(tell, False)
+        signal.set_wakeup_fd(tell)
+        for name in SIGNALS:
+            signal.signal(signal.Signals[f"SIG{name}"], lambda number, frame: None)
+        self.events.register(self.signals, selectors.EVENT_READ, self.hear_signals)
+
+    def forsake(self, source: Any) -> None:
+        """The signals have failed again and again."""
+        self.events.unregister(source)
+        self.take_signals()
+
+    def listener(self) -> socket.socket:
+        listener = socket.socket(socket.AF_UNIX)
+        words = self.service.folder.words
+        listener.bind(str(words))
+        os.chmod(words, 0o600)
+        listener.listen(QUEUE)
+        return listener
+
+    def hear_signals(self, signals: int) -> None:
+        for number in os.read(signals, 4096):
+            self.service.barrier.duty(self.take_signal, number)
+
+    def take_signal(self, number: int) -> None:
+        name = signal.Signals(number).name.removeprefix("SIG")
+        if name in SIGNALS:
+            self.service.take(Word(name))
+
+    def hear_asker(self, asker: socket.socket) -> None:
+        try:
+            text = asker.recv(LONGEST).decode().strip()
+        except (OSError, UnicodeDecodeError):
+            text = ""
+        word = Word(text, asker)
+        try:
+            self.take_text(word, text)
+        except Exception:
+            word.answer(f"{NOTE}{FAULT}\nrefused fault\n")
+            raise
+
+    def take_text(self, word: Word, text: str) -> None:
+        """A word, an answer or a question of somebody that waits for what comes of it."""
+        service = self.service
+        if text in WORDS:
+            service.take(word)
+        elif text in ANSWERS:
+            self.answer(word)
+        elif text == STATUS:
+            word.answer(json.dumps(service.status()) + "\n")
+        elif text == STATE:
+            current = service.current.text if service.current else None
+            word.answer(state(service.question, current, len(service.waiting)))
+        else:
+            word.answer(f"{NOTE}{text or 'nothing'} is not a word. Words are {', '.join(WORDS)} and {STATUS}\nunread W1\n")
+
+    def answer(self, word: Word) -> None:
+        """Answers the question, if there is one."""
+        service = self.service
+        if not service.question:
+            word.answer(f"word {word.text}\n{NOT_ASKED}\n")
+            return
+        service.master.tell(ANSWERS[word.text])
+        say(f"question {service.question} is answered: {word.text}")
+        word.answer(f"word {word.text}\nanswered {service.question} {word.text}\n")
+        service.question = 0

@@ -1,0 +1,193 @@
+"""Each handler and each duty of prefork-serve raises in turn, and the service serves on."""
+import json
+import os
+import pathlib
+import signal
+import socket
+import subprocess
+import tempfile
+import unittest
+from collections.abc import Callable
+from typing import Any
+
+from kit import PROGRAMS, PYTHON, answer_of, built, free_address, until
+
+SECONDS = 120
+# What raises, by what is done to have it called.
+CALLS = {
+    "status": ["door.Door.admit", "door.Door.give", "asking.Asking.hear_asker", "asking.Asking.take_text",
+               "service.Service.status", "service.Service.brief"],
+    "signal": ["asking.Asking.hear_signals", "asking.Asking.take_signal", "service.Service.take", "words.Queue.take",
+               "words.Queue.next"],
+    "word": ["service.Service.tell_next", "service.Service.has_read", "service.Service.hear_master",
+             "service.Service.end_word", "service.Service.tell_of", "service.Service.notes", "service.Service.conclude",
+             "service.Service.begin_word", "commands.Commands.change", "commands.Commands.settle", "commands.Commands.keep_now",
+             "commands.Commands.accept", "commands.Commands.forget_others", "chronicle.Chronicle.begin_word",
+             "chronicle.Chronicle.end_word", "records.Records.add", "records.Records.write", "keeping.Keeping.settle",
+             "leaving.Leaving.note", "telling.Telling.begin_word", "telling.Telling.end_word", "master.Master.tell",
+             "master.Master.hear"],
+    "rest": ["service.Service.pause", "service.Service.hurry", "service.Service.end_late", "door.Door.tend", "door.Door.seconds",
+             "keeping.Keeping.hear", "keeping.Keeping.tend", "keeping.Keeping.tell", "chronicle.Chronicle.tend",
+             "records.Records.tend", "telling.Telling.tend", "ticks.Ticks.is_due", "ticks.Ticks.tell", "leaving.Leaving.tend",
+             "web.Site.tend", "service.Service.line"],
+    "page": ["web.Site.welcome", "web.Site.hear", "web.Site.answer", "web.Site.say_more", "web.Site.drop"],
+    "master": ["service.Service.end_master", "service.Service.begin_master", "service.Service.take_master",
+               "master.Master.close", "commands.Commands.begin", "chronicle.Chronicle.begin_master",
+               "records.Records.begin", "records.Records.forget_old",
+               "leaving.Leaving.take_all"],
+    "cut": ["chronicle.Chronicle.cut_word"],
+    "errors": ["service.Service.hear_errors", "master.Master.hear_errors"],
+    "keeper": ["keeping.Keeping.bury", "keeping.Keeping.begin"],
+}
+
+
+class FaultsTest(unittest.TestCase):
+    @classmethod
+    def setUpClass(cls) -> None:
+        built()
+
+    def setUp(self) -> None:
+        room = tempfile.TemporaryDirectory(prefix="faults-")
+        self.addCleanup(room.cleanup)
+        self.room = pathlib.Path(room.name)
+        self.faults, self.blocks, self.said = self.room / "faults", self.room / "blocks", self.room / "said"
+        self.faults.mkdir()
+        self.blocks.mkdir()
+        (self.blocks / "errors").write_text("[INFO  prefork] said\n")
+        self.address, self.page = free_address(), free_address()
+        self.configure(2)
+        environment = {**os.environ, "BLOCKS": str(self.blocks), "FAULTS": str(self.faults)}
+        command = [PYTHON, PROGRAMS / "faulty.py", "--prefork", PROGRAMS / "master.py", "--page", self.page, "site.toml"]
+        with open(self.said, "a") as said:
+            self.serve: Any = subprocess.Popen(command, cwd=self.room, env=environment, stderr=said)
+        self.addCleanup(self.end)
+        self.assertTrue(until(self.serves, SECONDS), self.said.read_text())
+
+    def end(self) -> None:
+        self.serve.kill()
+        self.serve.wait(SECONDS)
+
+    def configure(self, workers: int) -> None:
+        text = f'listeners = ["{self.address}"]\nworkers = {workers}\ncommand = ["true"]\n'
+        (self.room / "site.toml").write_text(text)
+
+    def asked(self, word: str) -> str:
+        """What the service answers; nothing if it does not."""
+        try:
+            with socket.socket(socket.AF_UNIX) as asker:
+                asker.settimeout(SECONDS)
+                asker.connect(str(self.room / "run" / "ctl.sock"))
+                asker.sendall(f"{word}\n".encode())
+                with asker.makefile() as answer:
+                    return answer.read()
+        except (ConnectionError, FileNotFoundError):
+            return ""
+
+    def children(self, name: str) -> list[int]:
+        """The processes of prefork-serve whose command line has a word."""
+        found = []
+        for text in pathlib.Path(f"/proc/{self.serve.pid}/task/{self.serve.pid}/children").read_text().split():
+            try:
+                line = pathlib.Path(f"/proc/{text}/cmdline").read_text()
+            except OSError:
+                continue
+            found += [int(text)] if name in line else []
+        return found
+
+    def killed(self, name: str, number: int = signal.SIGKILL) -> None:
+        for process in self.children(name):
+            os.kill(process, number)
+
+    def ways(self) -> dict[str, Callable[[], Any]]:
+        return {
+            "status": lambda: self.asked("status"), "word": lambda: self.asked("HUP"), "rest": lambda: None,
+            "errors": lambda: ((self.blocks / "USR1").write_text("done\n"), self.asked("USR1")),
+            "signal": lambda: self.serve.send_signal(signal.SIGTTIN), "page": self.visit,
+            "master": lambda: self.killed("supervise"), "keeper": lambda: self.killed("prefork-keeper"),
+            "cut": self.cut,
+        }
+
+    def cut(self) -> None:
+        """The master is killed in the middle of a word."""
+        self.killed("supervise", signal.SIGSTOP)
+        self.serve.send_signal(signal.SIGUSR1)
+
+        def owes() -> bool:
+            status = json.loads(self.asked("status"))
+            return status["doing"] == "USR1" or status["waiting"] == 1
+
+        self.assertTrue(until(owes, SECONDS))
+        self.killed("supervise")
+
+    def visit(self) -> None:
+        try:
+            answer_of(self.page, "/metrics", SECONDS)
+        except OSError:
+            pass
+
+    def has_raised(self, name: str) -> bool:
+        """Waits until a call has raised, and that was told."""
+        return until(lambda: f"injected in {name}\n" in self.said.read_text(), SECONDS)
+
+    def serves(self) -> bool:
+        return self.serve.poll() is None and "\ndone " in self.asked("HUP") and self.asked("status").startswith("{")
+
+    def test_each_call_raises_once(self) -> None:
+        for way, names in CALLS.items():
+            for name in names:
+                with self.subTest(name):
+                    (self.faults / "raise").write_text(name)
+                    self.ways()[way]()
+                    self.assertTrue(self.has_raised(name), self.said.read_text())
+                    self.assertTrue(until(self.serves, SECONDS), self.said.read_text()[-4000:])
+        self.assertIn('"workers": [{', self.asked("status"))
+        # No handler is left out.
+        heard = set((self.faults / "handlers").read_text().split("\n")) - {""}
+        self.assertEqual(heard - {name for names in CALLS.values() for name in names}, set())
+        self.serve.send_signal(signal.SIGQUIT)
+        self.assertEqual(self.serve.wait(SECONDS), 0, self.said.read_text()[-4000:])
+
+    def test_a_configuration_that_was_taken_runs_though_its_file_is_not_written(self) -> None:
+        self.configure(7)
+        (self.faults / "raise").write_text("commands.Commands.keep_now")
+        self.assertIn("\ndone ", self.asked("HUP"))
+        self.assertTrue(self.has_raised("commands.Commands.keep_now"))
+        self.killed("supervise")
+        config = self.room / "run" / "config.toml"
+        self.assertTrue(until(lambda: '"workers" = 7' in config.read_text(), SECONDS))
+
+    def test_a_visitor_that_fails_again_and_again_is_dropped(self) -> None:
+        (self.faults / "always").touch()
+        (self.faults / "raise").write_text("web.Site.hear")
+        host, _, port = self.page.rpartition(":")
+        with socket.create_connection((host, int(port)), SECONDS) as client:
+            client.sendall(b"GET / HTTP/1.1\r\n\r\n")
+            try:
+                self.assertEqual(client.recv(100), b"")
+            except ConnectionResetError:
+                pass
+        self.assertTrue(until(lambda: "times at one source" in self.said.read_text(), SECONDS))
+        (self.faults / "raise").unlink()
+        self.assertIn("prefork_workers", answer_of(self.page, "/metrics", SECONDS))
+
+    def test_a_master_whose_words_raise_again_and_again_is_replaced(self) -> None:
+        first = self.children("supervise")
+        (self.faults / "always").touch()
+        (self.faults / "raise").write_text("service.Service.hear_master")
+        self.assertTrue(until(lambda: "hear_master has failed 5 times" in self.said.read_text(), SECONDS))
+        (self.faults / "raise").unlink()
+        self.assertTrue(until(lambda: self.children("supervise") not in ([], first), SECONDS))
+        self.assertTrue(until(self.serves, SECONDS), self.said.read_text()[-4000:])
+
+    def test_a_loop_that_hears_nothing_any_more_leaves_everything(self) -> None:
+        keeper = self.children("prefork-keeper")
+        (self.faults / "always").touch()
+        (self.faults / "raise").write_text("select")
+        self.assertEqual(self.serve.wait(SECONDS), 1)
+        self.assertIn("it ends, and leaves everything as it is", self.said.read_text())
+        self.assertTrue((self.room / "run" / "accepted.toml").exists())
+        self.assertTrue(until(lambda: not any(pathlib.Path(f"/proc/{one}").exists() for one in keeper), SECONDS))
+
+
+if __name__ == "__main__":
+    unittest.main()
