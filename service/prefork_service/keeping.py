@@ -8,6 +8,7 @@ import os
 import select
 import selectors
 import socket
+import subprocess
 import time
 from typing import Any
 
@@ -221,7 +222,11 @@ class Keeping:
             return
         self.tell(ENDS)
         self.channel.close()
-        self.process.wait()
+        try:
+            self.process.wait(ANSWER_SECONDS)
+        except subprocess.TimeoutExpired:
+            self.process.kill()
+            self.process.wait()
 
 
 def is_heard(events: selectors.BaseSelector, source: socket.socket) -> bool:

@@ -68,6 +68,13 @@ class Leaving:
         late = [worker for worker, (_, moment) in self.due.items() if moment <= now]
         return [self.due.pop(worker)[0] for worker in late if self.kill(*worker)]
 
+    def kill_all(self) -> None:
+        """Kills all workers at once, and those that were to end."""
+        self.seconds = self.seconds or 1
+        self.take_all()
+        for worker in list(self.due):
+            self.kill(*worker)
+
     def kill(self, process: int, start: str) -> bool:
         """Kills a worker by a descriptor of its process, so that no other one is hit that has the number by then."""
         try:

@@ -1,8 +1,10 @@
 """The master of a service, `prefork supervise`: the blocks that it prints, and the questions that it asks."""
 import os
 import re
+import select
 import subprocess
 import sys
+import time
 from collections.abc import Callable
 from typing import Any
 
@@ -12,6 +14,8 @@ from .limits import killed_by
 from .questions import ASKS, LOG
 from .words import ENDS
 
+# How long it may take to end once it has closed its output.
+END_SECONDS = 10.0
 BEAT = re.compile(r"word beat (\d+) (\d+)")
 
 
@@ -90,21 +94,39 @@ class Master:
         self.is_silent = not got
         return got
 
-    def finish(self) -> None:
-        """Waits for the end of a master that has been told to stop."""
+    def finish(self, seconds: float | None = None) -> bool:
+        """Waits for the end of a master that has been told to stop; whether it has ended within some seconds. Otherwise it
+        is killed."""
         self.process.stdin.close()
-        while self.hear() is not None:
-            pass
+        deadline, watched = time.monotonic() + (seconds or 0.0), select.poll()
+        watched.register(self.output, select.POLLIN)
+        is_over = False
+        while not is_over:
+            left = None if seconds is None else max(0.0, deadline - time.monotonic())
+            if not watched.poll(None if left is None else left * 1000):
+                self.process.kill()
+                self.close()
+                return False
+            is_over = self.hear() is None
         self.close()
+        return True
 
     def close(self) -> int:
         """Its status, once it has ended; what it said last is passed on."""
-        status = self.process.wait()
+        status = self.ended()
         self.hear_errors()
         pass_on(self.unread_errors)
         self.process.stdout.close()
         self.process.stderr.close()
         return status
+
+    def ended(self) -> int:
+        """The status of a master that has closed its output, and is killed if it does not end."""
+        try:
+            return self.process.wait(END_SECONDS)
+        except subprocess.TimeoutExpired:
+            self.process.kill()
+            return self.process.wait()
 
 
 def pass_on(text: bytes) -> None:

@@ -85,8 +85,8 @@ def is_fit(given: argparse.Namespace, commands: Commands) -> bool:
     return bool(commands.current) and not faults and not missing
 
 
-def serve(given: argparse.Namespace, folder: Folder, commands: Commands, stored: dict[str, socket.socket]) -> None:
-    """Serves until the service is told to stop."""
+def serve(given: argparse.Namespace, folder: Folder, commands: Commands, stored: dict[str, socket.socket]) -> int:
+    """Serves until the service is told to stop; the status."""
     configurations = ["--from", commands.now, "--to", commands.next]
     supervise = [given.prefork, "supervise", "--verbose", "--program", places.LAUNCH, *configurations]
     of_keeper = [*([DEFER] if given.defer_accept else []), *socket_options(given)]
@@ -100,7 +100,7 @@ def serve(given: argparse.Namespace, folder: Folder, commands: Commands, stored:
             commands.preloading = Preloading(keeping.events, folder, commands.default, ready_seconds(given))
         service = Service(keeping, supervise, commands, chronicle, limits_of(given))
         service.telling.open(keeping.events, given.metrics, given.page)
-        service.run()
+        return service.run()
     except Broken as fault:
         # As if it were killed: the next start finds workers and sockets as systemd has them.
         say(f"{fault}; it ends, and leaves everything as it is")
@@ -140,5 +140,4 @@ def main() -> int:
     if not commands:
         folder.clear()
         return 1
-    serve(given, folder, commands, stored)
-    return 0
+    return serve(given, folder, commands, stored)

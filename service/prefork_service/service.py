@@ -17,6 +17,7 @@ from .limits import end_seconds, known
 from .master import Master
 from .needs import addresses_of
 from .outcomes import OLD_SERVES, PRELOADER_SERVES, is_broken
+from .patience import Hanging
 from .questions import line_of
 from .reasons import NEW_MASTER
 from .status import Record, Status, masters_of, started_workers, workers_of
@@ -49,14 +50,17 @@ class Service:
         self.has_heard, self.is_ready = False, False
         self.record, self.began, self.starts = Record(), time.monotonic(), 0
         self.leaving = Leaving(self.folder.path, end_seconds(limits))
+        self.hanging, self.status_of_end = Hanging(self), 0
         self.telling = Telling(self.status, self.brief, self.line, chronicle)
         self.asking = Asking(self)
 
-    def run(self) -> None:
+    def run(self) -> int:
+        """Serves until it is told to stop; the status."""
         while not self.is_stopped:
             self.turn()
         while self.waiting:
             self.waiting.next().answer("lost: the service has stopped\n")
+        return self.status_of_end
 
     def turn(self) -> None:
         """A turn of the loop. What an event or a duty raises costs that one alone."""
@@ -70,8 +74,8 @@ class Service:
             if self.is_stopped:
                 return
         preloading = [self.commands.preloading.tend] if self.commands.preloading else []
-        tends = [self.asking.door.tend, self.keeping.tend, *preloading, self.hurry, bury_orphans, self.end_late, self.chronicle.tend]
-        for tend in [*tends, self.telling.tend, sys.stderr.flush]:
+        tends = [self.asking.door.tend, self.keeping.tend, *preloading, self.hurry, bury_orphans, self.hanging.tend]
+        for tend in [*tends, self.end_late, self.chronicle.tend, self.telling.tend, sys.stderr.flush]:
             duty(tend)
 
     def hurry(self) -> None:
@@ -104,8 +108,10 @@ class Service:
         self.begun = time.monotonic()
         try:
             self.commands.begin()
-            command = [*self.command, *known(self.command[0], self.limits)]
+            limits = known(self.command[0], self.limits)
+            command = [*self.command, *limits]
             master = Master(command, self.folder, self.keep_block)
+            self.hanging.patience.take_limits(limits)
             try:
                 self.take_master(master)
             except Exception:
@@ -134,6 +140,7 @@ class Service:
 
     def begin_word(self, word: Word) -> None:
         self.current = word
+        self.barrier.duty(self.hanging.begin)
         self.barrier.duty(self.chronicle.begin_word, word.text)
         self.barrier.duty(self.telling.begin_word, word.text in CHANGES)
         if word.text in STOPS:
@@ -269,7 +276,7 @@ class Service:
         if word.text in STOPS and not self.is_stopped:
             self.barrier.duty(self.keeping.open_again)
         if self.is_stopped:
-            self.barrier.duty(self.master.finish)
+            self.barrier.duty(self.hanging.finish)
         elif is_lost:
             self.end_master()
 

@@ -24,12 +24,12 @@ CALLS = {
              "service.Service.begin_word", "commands.Commands.change", "commands.Commands.settle", "commands.Commands.keep_now",
              "commands.Commands.accept", "commands.Commands.forget_others", "chronicle.Chronicle.begin_word",
              "chronicle.Chronicle.end_word", "records.Records.add", "records.Records.write", "keeping.Keeping.settle",
-             "leaving.Leaving.note", "telling.Telling.begin_word", "telling.Telling.end_word", "master.Master.tell",
+             "leaving.Leaving.note", "patience.Hanging.begin", "telling.Telling.begin_word", "telling.Telling.end_word", "master.Master.tell",
              "master.Master.hear"],
     "rest": ["service.Service.pause", "service.Service.hurry", "service.Service.end_late", "door.Door.tend", "door.Door.seconds",
              "keeping.Keeping.hear", "keeping.Keeping.tend", "keeping.Keeping.tell", "chronicle.Chronicle.tend",
              "records.Records.tend", "telling.Telling.tend", "ticks.Ticks.is_due", "ticks.Ticks.tell", "leaving.Leaving.tend",
-             "web.Site.tend", "service.Service.line"],
+             "web.Site.tend", "service.Service.line", "patience.Hanging.tend"],
     "page": ["web.Site.welcome", "web.Site.hear", "web.Site.answer", "web.Site.say_more", "web.Site.drop"],
     "master": ["service.Service.end_master", "service.Service.begin_master", "service.Service.take_master",
                "master.Master.close", "commands.Commands.begin", "chronicle.Chronicle.begin_master",
@@ -41,7 +41,13 @@ CALLS = {
 }
 
 
-class FaultsTest(unittest.TestCase):
+class FaultyTest(unittest.TestCase):
+    """A service over a master that answers each word and starts nothing, in which calls may raise."""
+
+    # More options of prefork-serve, and of its environment.
+    options: list[str] = []
+    more: dict[str, str] = {}
+
     @classmethod
     def setUpClass(cls) -> None:
         built()
@@ -56,8 +62,9 @@ class FaultsTest(unittest.TestCase):
         (self.blocks / "errors").write_text("[INFO  prefork] said\n")
         self.address, self.page = free_address(), free_address()
         self.configure(2)
-        environment = {**os.environ, "BLOCKS": str(self.blocks), "FAULTS": str(self.faults)}
-        command = [PYTHON, PROGRAMS / "faulty.py", "--prefork", PROGRAMS / "master.py", "--page", self.page, "site.toml"]
+        environment = {**os.environ, "BLOCKS": str(self.blocks), "FAULTS": str(self.faults), **self.more}
+        options = ["--prefork", PROGRAMS / "master.py", "--page", self.page, *self.options]
+        command = [PYTHON, PROGRAMS / "faulty.py", *options, "site.toml"]
         with open(self.said, "a") as said:
             self.serve: Any = subprocess.Popen(command, cwd=self.room, env=environment, stderr=said)
         self.addCleanup(self.end)
@@ -98,6 +105,11 @@ class FaultsTest(unittest.TestCase):
         for process in self.children(name):
             os.kill(process, number)
 
+    def serves(self) -> bool:
+        return self.serve.poll() is None and "\ndone " in self.asked("HUP") and self.asked("status").startswith("{")
+
+
+class FaultsTest(FaultyTest):
     def ways(self) -> dict[str, Callable[[], Any]]:
         return {
             "status": lambda: self.asked("status"), "word": lambda: self.asked("HUP"), "rest": lambda: None,
@@ -128,9 +140,6 @@ class FaultsTest(unittest.TestCase):
     def has_raised(self, name: str) -> bool:
         """Waits until a call has raised, and that was told."""
         return until(lambda: f"injected in {name}\n" in self.said.read_text(), SECONDS)
-
-    def serves(self) -> bool:
-        return self.serve.poll() is None and "\ndone " in self.asked("HUP") and self.asked("status").startswith("{")
 
     def test_each_call_raises_once(self) -> None:
         for way, names in CALLS.items():

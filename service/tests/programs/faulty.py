@@ -2,6 +2,8 @@
 """prefork-serve, in which a call raises: the one whose name the file FAULTS/raise has. That file is removed first, so that
 it raises once; with FAULTS/always it raises until the test removes FAULTS/raise.
 
+With MARGIN a master that hangs is killed so many seconds after its limits.
+
 It notes each handler of events that it registers in FAULTS/handlers, a line for each.
 """
 import functools
@@ -15,13 +17,15 @@ sys.dont_write_bytecode = True
 sys.path.insert(0, str(pathlib.Path(__file__).resolve().parent.parent.parent))
 
 from prefork_service import (  # noqa: E402
-    asking, chronicle, commands, door, keeping, leaving, master, preloading, records, serve, service, telling, ticks, web, words,
+    asking, chronicle, commands, door, keeping, leaving, master, patience, preloading, records, serve, service, telling,
+    ticks, web, words,
 )
 
 PLACE = pathlib.Path(os.environ["FAULTS"])
 CLASSES = [
-    asking.Asking, chronicle.Chronicle, commands.Commands, door.Door, keeping.Keeping, leaving.Leaving, master.Master, records.Records,
-    service.Service, telling.Telling, preloading.KeptPreloader, preloading.Preloading, ticks.Ticks, web.Site, words.Queue,
+    asking.Asking, chronicle.Chronicle, commands.Commands, door.Door, keeping.Keeping, leaving.Leaving, master.Master,
+    patience.Hanging, preloading.KeptPreloader, preloading.Preloading, records.Records, service.Service, telling.Telling,
+    ticks.Ticks, web.Site, words.Queue,
 ]
 
 
@@ -64,6 +68,7 @@ def blind(select: Any) -> Any:
 
 
 if __name__ == "__main__":
+    patience.MARGIN = float(os.environ.get("MARGIN", patience.MARGIN))
     setattr(selectors.DefaultSelector, "select", blind(selectors.DefaultSelector.select))
     for one in CLASSES:
         for name, value in list(vars(one).items()):

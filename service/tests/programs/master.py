@@ -6,10 +6,12 @@
     master.py supervise ..                blocks: of the file BLOCKS/WORD if there is one, or else a plain one
 
 Before a block that has a file it says what the file BLOCKS/errors has, if there is one. If there is a file
-BLOCKS/arguments, it writes its arguments there.
+BLOCKS/arguments, it writes its arguments there. If there is a file BLOCKS/adopt, it starts that as a new master at USR2,
+and goes back once that has ended.
 """
 import os
 import pathlib
+import subprocess
 import sys
 
 COUNT = int(os.environ.get("WORKERS", "2"))
@@ -26,6 +28,12 @@ def block_of(word: str) -> str:
     return f"word {word}\n{census}\ndone cause none pid no-file\n"
 
 
+def upgrade() -> str:
+    """The block of an upgrade whose new master ends."""
+    subprocess.run(["prefork", "adopt"], executable=sys.executable, cwd=PLACE)
+    return "word USR2\n1 m1 spawn-master 2 : spawned\n2 m2 adopt : master-gone\nrolled-back cause 2 pid no-file\n"
+
+
 def supervise() -> None:
     if (PLACE / "arguments").exists():
         (PLACE / "arguments").write_text(" ".join(sys.argv[1:]))
@@ -35,7 +43,8 @@ def supervise() -> None:
         if word.startswith("tick "):
             for number in range(COUNT):
                 print(f"word beat {number} {word.split()[1]}\nnothing")
-        print(block_of(word), end="", flush=True)
+        is_upgrade = word == "USR2" and (PLACE / "adopt").exists()
+        print(upgrade() if is_upgrade else block_of(word), end="", flush=True)
         if word in ("QUIT", "INT", "TERM"):
             return
 

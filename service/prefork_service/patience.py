@@ -1,0 +1,154 @@
+"""How long a master may owe the block of a word. One that hangs is killed, and started again; a stop has its end.
+
+A master limits how long its workers may keep it waiting, and nothing limits the master itself: it may be stopped, or hang.
+A word starts workers, and each start may take its time. So the time is counted from the last start of a worker on.
+"""
+import os
+import pathlib
+import signal
+import time
+
+from typing import TYPE_CHECKING
+
+from .folder import files_in, say
+from .limits import ANSWER, end_seconds
+from .status import fields_of, masters_of
+from .words import ATTENDED, STOPS
+
+if TYPE_CHECKING:
+    from .service import Service
+
+UPGRADES = ("USR2", ATTENDED)
+
+# How many answers in a row a tick, and any other word, may wait for, and how much longer a busy machine may take.
+OF_TICK, OF_WORD, MARGIN = 2, 4, 10.0
+# What a turn of the loop counts at most: while the whole machine is stopped no time passes.
+MOST_TURN = 5.0
+
+
+class Patience:
+    """The time that the current word has taken, and may take."""
+
+    def __init__(self, workers: pathlib.Path):
+        """The folder in which each worker that starts has a file."""
+        self.workers = workers
+        self.answer, self.ready = 0.0, 0.0
+        self.spent, self.last, self.is_short, self.newest = 0.0, 0.0, False, 0.0
+
+    def take_limits(self, limits: list[str]) -> None:
+        """The limits of the master that runs; without one there is none for it either."""
+        self.answer = float(limits[1]) if limits[:1] == [ANSWER] else 0.0
+        self.ready = float(end_seconds(limits))
+
+    def begin(self, is_short: bool) -> None:
+        """A word begins; a short one starts no worker, unless one is missing."""
+        self.spent, self.last, self.is_short, self.newest = 0.0, time.monotonic(), is_short, self.last_start()
+
+    def last_start(self) -> float:
+        """When a worker was started last, by the clock on the wall."""
+        found = [0.0]
+        for file in files_in(self.workers):
+            try:
+                found.append(file.stat().st_mtime)
+            except OSError:
+                pass
+        return max(found)
+
+    def seconds(self) -> float:
+        """How long the word may take from now on, or from the last start of a worker."""
+        answers = OF_TICK if self.is_short else OF_WORD
+        return answers * self.answer + MARGIN + (0.0 if self.is_short else self.ready)
+
+    def is_over(self) -> bool:
+        """Whether the master owes the block for too long. It is asked in each turn."""
+        now = time.monotonic()
+        self.spent, self.last = self.spent + min(now - self.last, MOST_TURN), now
+        if not self.answer or self.spent <= self.seconds():
+            return False
+        started = self.last_start()
+        if started == self.newest:
+            return True
+        # A worker was started meanwhile, and has its time to be ready.
+        self.newest, self.is_short, self.spent = started, False, 0.0
+        return False
+
+
+class Hanging:
+    """Kills a master that hangs."""
+
+    def __init__(self, service: "Service"):
+        self.service, self.patience = service, Patience(service.folder.workers)
+        # How many masters there were before the current word.
+        self.masters = 1
+
+    def begin(self) -> None:
+        """The current word begins."""
+        word = self.service.current
+        if word and word.text in UPGRADES:
+            self.masters = len(masters_of(self.service.master.process.pid))
+        self.patience.begin(self.service.is_ticking())
+
+    def tend(self) -> None:
+        """Kills a master that owes its block for too long: the new one of an upgrade alone, if there is one."""
+        service = self.service
+        if not service.current or service.is_stopped or not service.master:
+            return
+        if service.question:
+            # Its operator may take any time.
+            self.patience.begin(False)
+            return
+        if not self.patience.is_over():
+            return
+        word, first, seconds = service.current.text, service.master.process.pid, self.patience.seconds()
+        is_new = word in UPGRADES and kill_masters(first, self.masters) > 0
+        hung = f"{word}: {'the new master' if is_new else 'the master'} has not answered within {seconds:g} s, and is killed"
+        say(hung)
+        service.barrier.duty(service.chronicle.journal.note, hung)
+        # The old master takes the upgrade back, which needs no worker that starts.
+        self.patience.begin(is_new)
+        if word in STOPS or service.waiting.stops:
+            self.end_by_force()
+        elif not is_new:
+            kill_masters(first)
+
+    def finish(self) -> None:
+        """Waits for the end of a master that has stopped its workers."""
+        patience, service = self.patience, self.service
+        seconds = patience.ready + patience.answer + MARGIN if patience.answer else None
+        if service.barrier.duty(service.master.finish, seconds) is False:
+            self.end_by_force()
+
+    def end_by_force(self) -> None:
+        """A stop takes too long: everything is killed."""
+        service = self.service
+        said = "the service was told to stop, and its master hangs: everything is killed"
+        say(said)
+        service.barrier.duty(service.chronicle.journal.note, said)
+        kill_masters(service.master.process.pid)
+        service.leaving.kill_all()
+        service.is_stopped, service.status_of_end = True, 1
+        if service.current:
+            service.current.answer(f"lost: {said}\n")
+
+
+def kill_masters(first: int, spares_old: int = 0) -> int:
+    """Kills the masters that a first one has led to, the newest first, but for some old ones; how many."""
+    masters = masters_of(first)[spares_old:]
+    for process in reversed(masters):
+        kill_master(process, first)
+    return len(masters)
+
+
+def kill_master(process: int, first: int) -> None:
+    """Kills a master, unless it has ended and another process has its number by now."""
+    try:
+        opened = os.pidfd_open(process)
+    except OSError:
+        return
+    try:
+        if process == first or fields_of(process) and process in masters_of(first):
+            signal.pidfd_send_signal(opened, signal.SIGKILL)
+    except OSError:
+        pass
+    finally:
+        os.close(opened)
