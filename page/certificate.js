@@ -34,7 +34,7 @@ const Certificate = (() => {
     byId('endCertify').hidden = true;
     if (!told) return byId('certified').replaceChildren(make('p', { class: 'hint' }, 'Ended.'));
     const blocks = Blocks.read(text), found = { blocks, patterns: null, fault: null };
-    const head = make('h3', { tabindex: -1 }), more = make('p', { class: 'hint' });
+    const head = make('h3', { tabindex: -1 }), more = make('p', { class: 'hint' }), why = make('p', { class: 'hint explained' });
     if (told.status === 0) {
       found.patterns = JSON.parse(told.output).patterns;
       const wrong = found.patterns.filter(lines => lines.some(line => !line.startsWith('turns '))).length;
@@ -45,10 +45,11 @@ const Certificate = (() => {
       found.fault = answerOf(told);
       head.textContent = told.status === 5 ? 'Not accepted' : 'Not read';
       head.className = 'bad';
-      more.append(make('code', {}, found.fault.line), ' ', page.explained(found.fault.code));
+      more.append(make('code', {}, found.fault.line));
+      why.textContent = page.explained(found.fault.code);
     }
     const rest = blocks.length - MOST_BLOCKS;
-    byId('certified').replaceChildren(head, more, make('ol', { class: 'blocks' }, ...blocks.slice(0, MOST_BLOCKS).map((block, i) => itemOf(page, found, block, i))), rest > 0 ? `and ${many(rest, 'more block')}` : '');
+    byId('certified').replaceChildren(head, more, why, make('ol', { class: 'blocks' }, ...blocks.slice(0, MOST_BLOCKS).map((block, i) => itemOf(page, found, block, i))), rest > 0 ? `and ${many(rest, 'more block')}` : '');
     return head.focus();
   };
   const certify = async page => {

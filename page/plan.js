@@ -106,7 +106,7 @@ const Plan = (() => {
       return known.get(node);
     };
     for (const node of nodes.values()) node.row = rowOf(node);
-    const last = Math.max(...[...nodes.values()].map(node => node.row));
+    const last = 1 + Math.max(...[...nodes.values()].filter(node => !ENDS.includes(node.name)).map(node => node.row));
     for (const name of ENDS) if (nodes.has(name)) nodes.get(name).row = last;
     const rows = Array.from({ length: last + 1 }, () => []);
     for (const node of nodes.values()) rows[node.row].push(node);

@@ -11,7 +11,7 @@ REHEARSALS: dict[str, tuple[str, list[tuple[int, str]]]] = {
     "rolled-back": ("HUP", [(3, "again")]),
     "after": ("USR2", []),
     "short": ("HUP", [(10, "w1.2.0"), (11, "again"), (13, "again"), (15, "again"), (17, "again"), (19, "again")]),
-    "question": ("USR2 attended", [(13, "")]),
+    "question": ("USR2 attended", [(12, "")]),
 }
 
 

@@ -1,9 +1,9 @@
 'use strict';
 // node page/tests/states.js PROGRAM SEED COUNT [MODULE]: random states of the page. For each: the command line that the page
 // shows gives what the page asks for; the link gives the state back; the last table that is drawn is the program's; the way
-// that is marked in the plan ends as the report says, and no arrow passes through a box; what `certify` makes of the blocks
-// gives them again. With MODULE (prefork_wasm.js) it answers as the program does. Prints what is wrong, and last
-// 'N passed, M failed'.
+// that is marked in the plan ends as the report says, arrows lead downwards, and none passes through a box; what `certify`
+// makes of the blocks gives them again. With MODULE (prefork_wasm.js) it answers as the program does. Prints what is wrong,
+// and last 'N passed, M failed'.
 const { spawnSync } = require('child_process');
 const fs = require('fs');
 const os = require('os');
@@ -68,7 +68,8 @@ const CHECKS = {
     const drawn = new Set(arrows.map(arrow => `${arrow.from}>${arrow.to}`)), places = [...nodes.values()];
     const tracks = Places.order(places);
     const isFree = arrow => Places.points(arrow, tracks).every((point, i, all) => !i || places.every(node => !Places.crosses(all[i - 1], point, node)));
-    return seen.has(end) && [...taken].every(it => drawn.has(it)) && new Set(places.map(it => `${it.row} ${it.column}`)).size === places.length && arrows.every(isFree);
+    return seen.has(end) && [...taken].every(it => drawn.has(it)) && new Set(places.map(it => `${it.row} ${it.column}`)).size === places.length
+      && arrows.every(it => isFree(it) && (it.isBack || it.target.row > it.source.row));
   },
   'certificate': (state, told) => {
     const start = { ...state, words: [] };
