@@ -7,6 +7,7 @@
 #include "ending.h"
 #include "probe.h"
 #include "program.h"
+#include "reason.h"
 #include "waiting.h"
 #include "worker.h"
 
@@ -30,6 +31,8 @@
 #define LONG_LOOK 0.1
 /* How long the holder may take to end all that the program has started. */
 #define HOLDER_SECONDS 10
+/* How many answers of 500 or more to the probe say that the program does not become ready. */
+#define MOST_WRONG 3
 
 static struct options options;
 static struct addresses addresses = {.hold = -1};
@@ -134,6 +137,8 @@ static void go(void) {
         END_WRONG("no address");
     if (!has_master())
         exit(0);
+    if (is_known_late())
+        END_WRONG("another worker of this version was not ready after %g seconds", options.ready_within);
     make_room();
     if (options.ready == READY_NOTIFY)
         open_notify();
@@ -275,8 +280,12 @@ static void look(void) {
     if (is_program_ready()) {
         is_ready = true;
         say("ready");
-    } else if (now() - begun > options.ready_within)
+    } else if (options.ready == READY_PROBE && probe.wrong >= MOST_WRONG) {
+        END_WRONG("%s answers %s with a status of 500 or more, %d times", options.command[0], options.probe, MOST_WRONG);
+    } else if (now() - begun > options.ready_within) {
+        note_late();
         END_WRONG("%s is not ready after %g seconds", options.command[0], options.ready_within);
+    }
 }
 
 /* What time brings: the program is ready, answers no more, or has not finished. */

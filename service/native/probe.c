@@ -40,7 +40,8 @@ static void ask(struct probe *probe) {
     char request[600];
     struct sockaddr_un place = place_of(probe->place);
     int length = snprintf(request, sizeof request,
-                          "GET %.500s HTTP/1.1\r\nHost: localhost\r\nConnection: close\r\n\r\n", probe->path);
+                          "GET %.500s HTTP/1.1\r\nHost: localhost\r\nX-Forwarded-Proto: https\r\nConnection: close\r\n\r\n",
+                          probe->path);
     probe->asked = now();
     probe->length = 0;
     probe->is_told = false;
@@ -57,8 +58,9 @@ static void judge(struct probe *probe) {
     if (probe->is_told || probe->length < 12)
         return;
     probe->is_told = true;
-    probe->is_well =
-        !memcmp(probe->head, "HTTP/1.", 7) && probe->head[8] == ' ' && probe->head[9] >= '1' && probe->head[9] < '5';
+    bool is_answer = !memcmp(probe->head, "HTTP/1.", 7) && probe->head[8] == ' ' && probe->head[9] >= '1';
+    probe->is_well = is_answer && probe->head[9] < '5';
+    probe->wrong = is_answer && !probe->is_well ? probe->wrong + 1 : 0;
     if (probe->is_well)
         probe->answered = now();
 }

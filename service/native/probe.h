@@ -11,6 +11,8 @@ struct probe {
     /* When the request was sent, when the last answer came, and when the next request is due. */
     double asked, answered, due;
     bool is_well, is_told;
+    /* How many answers in a row had a status of 500 or more. */
+    int wrong;
     char head[16];
     size_t length;
 };

@@ -5,6 +5,7 @@
 #include <fcntl.h>
 #include <stdio.h>
 #include <stdlib.h>
+#include <string.h>
 #include <unistd.h>
 
 void note_reason(const char *name, const char *why) {
@@ -25,4 +26,38 @@ void note_reason(const char *name, const char *why) {
         /* It is on standard error, too. */
         (void)0;
     close(file);
+}
+
+/* Opens the file of late generations, and gives the generation of this worker with a newline; -1 where there is none. */
+static int open_late(char *generation, size_t room, int flags) {
+    char path[4096];
+    const char *folder = getenv("PREFORK_FOLDER"), *name = getenv("PREFORK_WORKER");
+    const char *end = name ? strrchr(name, '.') : 0;
+    if (!folder || !end)
+        return -1;
+    snprintf(generation, room, "%.*s\n", (int)(end - name), name);
+    snprintf(path, sizeof path, "%s/commands/late", folder);
+    return open(path, flags | O_CLOEXEC);
+}
+
+void note_late(void) {
+    char generation[64];
+    int file = open_late(generation, sizeof generation, O_WRONLY | O_APPEND);
+    if (file < 0)
+        return;
+    if (write(file, generation, strlen(generation)) < 0)
+        /* The next one waits as long. */
+        (void)0;
+    close(file);
+}
+
+bool is_known_late(void) {
+    char generation[64], text[4097] = "\n", wanted[66];
+    int file = open_late(generation, sizeof generation, O_RDONLY);
+    ssize_t length = file < 0 ? -1 : read(file, text + 1, sizeof text - 2);
+    if (file >= 0)
+        close(file);
+    text[length > 0 ? length + 1 : 0] = 0;
+    snprintf(wanted, sizeof wanted, "\n%s", generation);
+    return length > 0 && strstr(text, wanted);
 }

@@ -22,10 +22,11 @@ SHARED: Options = {
     "--ready-within": ("SECONDS", "how long it may take to be ready (30; by a command of CONFIG, eight times --answer-within)"),
     "--finish": ("SECONDS", "how long it may take to finish (the same)"),
 }
+# Of a PROGRAM, and of MODULE:APP the last one.
+READY: Options = {"--ready": ("HOW", "when it is ready: accept (default), notify, or probe PATH; a MODULE:APP: probe PATH")}
 # Where workers start. The path is read anew at each start: a symbolic link may lead elsewhere by then.
 CHDIR: Options = {"--chdir": ("FOLDER", "where it starts, by this path as it leads at each start (the current folder)")}
 PROGRAM: Options = {
-    "--ready": ("HOW", "when it is ready: accept (default), notify, or probe PATH"),
     "--probe": ("PATH", "ask it for PATH before each beat"),
     "--probe-within": ("SECONDS", "how long such an answer may take (5)"),
     "--probe-limit": ("SECONDS", "end a worker that has not answered for this long (30)"),
@@ -39,6 +40,7 @@ WSGI: Options = {
     "--threads": ("N", "how many requests a worker answers at a time (4)"),
     "--timeout": ("SECONDS", "end a worker whose threads have all been at one request for this long (30)"),
     "--keep": ("SECONDS", "how long a kept connection may be idle (75)"),
+    "--trusted-proxy": ("ADDRESS", "believe what this proxy says of its clients: an address, a network, or unix"),
     "--warm": ("PATH", "ask it for PATH before it serves, or before the first fork"),
     "--after-fork": ("MODULE:NAME", "call this in each worker, with its name"),
 }
@@ -69,7 +71,7 @@ def parser() -> argparse.ArgumentParser:
     made.add_argument("--preload", action="store_true", help=preload)
     python = "the Python that runs it (that of prefork-serve)"
     made.add_argument("--python", default=sys.executable, metavar="PROGRAM", help=python)
-    groups: dict[str, Options] = {"": SHARED | CHDIR, " PROGRAM": PROGRAM, " MODULE:APP": WSGI, " MODULE:APP with --preload": PRELOADER}
+    groups: dict[str, Options] = {"": SHARED | CHDIR | READY, " PROGRAM": PROGRAM, " MODULE:APP": WSGI, " MODULE:APP with --preload": PRELOADER}
     for title, options in groups.items():
         group = made.add_argument_group(f"options of a worker{title}")
         for option, (name, text) in options.items():
@@ -113,8 +115,12 @@ def arguments(words: list[str]) -> argparse.Namespace:
     if given.preload and not given.wsgi and not given.program:
         made.error("--preload is an option of --wsgi or a PROGRAM, and there is none")
     is_adapted, is_preloader = given.program and not given.preload, given.wsgi and given.preload
+    if given.wsgi and given.ready and (given.ready != ["probe"] or len(given.probe) != 1):
+        made.error(f"argument --ready: of a MODULE:APP it takes probe PATH, not: {given.ready[-1]}")
+    # An application is asked once, before it serves: its worker takes the path alone.
+    given.asked, given.probe = given.probe, [] if given.wsgi and given.ready else given.probe
     for options, is_for, kind in [
-        (PROGRAM, is_adapted, "a PROGRAM"), (WSGI, given.wsgi, "--wsgi"), (PRELOADER, is_preloader, "--wsgi with --preload")
+        (PROGRAM, is_adapted, "a PROGRAM"), (READY, is_adapted or given.wsgi, "a PROGRAM or --wsgi"), (WSGI, given.wsgi, "--wsgi"), (PRELOADER, is_preloader, "--wsgi with --preload")
     ]:
         strange = handed_on(given, options)
         if strange and not is_for:
@@ -165,13 +171,14 @@ def worker_command(given: argparse.Namespace) -> list[str] | None:
     """What starts a worker, or the preloader that forks it, if the command line says it."""
     if given.wsgi:
         options = handed_on(given, SHARED | WSGI | PRELOADER) + (["--preloader"] if given.preload else [])
+        options += ["--probe", *given.asked] if given.ready else []
         # (a path, which is not that of the folder in which it starts)
         python = os.path.join(current_folder(), given.python) if "/" in given.python else given.python
         return checked([python, str(places.WSGI), *options], [given.wsgi], place_of(given))
     if given.preload:
         return given.program
     if given.program:
-        options = handed_on(given, SHARED | PROGRAM)
+        options = handed_on(given, SHARED | READY | PROGRAM)
         return checked([str(places.ACTIVATE), *options], ["--", *given.program], place_of(given))
     return None
 

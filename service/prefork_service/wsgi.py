@@ -14,7 +14,6 @@ import argparse
 import faulthandler
 import importlib
 import importlib.util
-import io
 import logging
 import os
 import socket
@@ -27,6 +26,8 @@ from typing import Any
 
 from . import convention
 from .convention import Hold, Pipes, Unfit, clear_environment, warn
+from .probing import probe, warm
+from .proxies import corrected, proxy_of
 from .preloader import Preloader, Lifeline
 from .titles import set_title
 
@@ -109,7 +110,8 @@ class Worker:
         from .wsgi_server import Server
 
         if self.pipes.has_master():
-            self.server = Server(application, self.sockets, self.given.threads, self.given.keep)
+            told = corrected(application, self.given.trusted_proxy)
+            self.server = Server(told, self.sockets, self.given.threads, self.given.keep)
             self.pipes.say("ready")
             self.server.run(self.given.idle, self.given.finish)
         self.leave()
@@ -161,6 +163,10 @@ def arguments() -> argparse.Namespace:
     parser.add_argument("--chdir", default=".", metavar="FOLDER", help="where the module is (the current folder)")
     parser.add_argument("--preloader", action="store_true", help="load the application, and fork workers that have it")
     parser.add_argument("--warm", action="append", default=[], metavar="PATH", help="ask it for PATH before the first fork")
+    text = "before it serves, ask it for PATH in its own process, and end if the status is 500 or more three times"
+    parser.add_argument("--probe", metavar="PATH", type=path_of, help=text)
+    text = "believe what this proxy says of its clients: an address, a network, or unix (none)"
+    parser.add_argument("--trusted-proxy", action="append", default=[], type=trusted_of, metavar="ADDRESS", help=text)
     for option, text in (
         ("--after-load", "is called in the preloader, before the first fork"),
         ("--after-fork", "is called in each worker, with its name, such as 1.2.0"),
@@ -176,6 +182,21 @@ def arguments() -> argparse.Namespace:
     return given
 
 
+def path_of(text: str) -> str:
+    """The path of a page."""
+    if not text.startswith("/"):
+        raise argparse.ArgumentTypeError(f"it takes a path that begins with /, not: {text}")
+    return text
+
+
+def trusted_of(text: str) -> Any:
+    """A proxy that is trusted."""
+    try:
+        return proxy_of(text)
+    except ValueError as fault:
+        raise argparse.ArgumentTypeError(f"it takes an address, a network or unix: {fault}") from fault
+
+
 def prepare(folder: str) -> None:
     os.chdir(folder)
     sys.path.insert(0, os.getcwd())
@@ -183,24 +204,10 @@ def prepare(folder: str) -> None:
     logging.getLogger("waitress.queue").setLevel(logging.ERROR)
 
 
-def asked(application: Callable, path: str) -> None:
-    """Asks an application for a page, in this process. What it loads for that is there for all workers."""
-    environ: dict[str, Any] = {
-        "REQUEST_METHOD": "GET", "SCRIPT_NAME": "", "PATH_INFO": path.partition("?")[0], "QUERY_STRING": path.partition("?")[2],
-        "SERVER_NAME": "localhost", "SERVER_PORT": "80", "SERVER_PROTOCOL": "HTTP/1.1", "HTTP_HOST": "localhost",
-        "REMOTE_ADDR": "127.0.0.1", "wsgi.version": (1, 0), "wsgi.url_scheme": "http", "wsgi.input": io.BytesIO(),
-        "wsgi.errors": sys.stderr, "wsgi.multithread": True, "wsgi.multiprocess": True, "wsgi.run_once": False,
-    }
-    answered: list[str] = []
-    found = application(environ, lambda status, headers, fault=None: answered.append(status))
-    try:
-        for _ in found:
-            pass
-    finally:
-        if hasattr(found, "close"):
-            found.close()
-    if not answered or answered[-1][:1] not in "23":
-        raise Unfit(f"{path} is answered: {answered[-1] if answered else 'nothing'}")
+def ask(given: argparse.Namespace, application: Callable) -> None:
+    """Asks an application for the pages of --warm, in this process."""
+    for path in given.warm:
+        warm(application, path, bool(given.trusted_proxy))
 
 
 def forked(given: argparse.Namespace) -> Callable:
@@ -215,8 +222,7 @@ def forked(given: argparse.Namespace) -> Callable:
 
         prepare(given.chdir)
         application = loaded(given.application)
-        for path in given.warm:
-            asked(application, path)
+        ask(given, application)
         for name in given.after_load:
             loaded(name)()
     except BaseException as fault:
@@ -256,10 +262,11 @@ def main() -> int:
         if not application:
             prepare(given.chdir)
             application = loaded(given.application)
-            for path in given.warm:
-                asked(application, path)
+            ask(given, application)
             for name in given.after_fork:
                 loaded(name)(convention.NAME)
+        if given.probe:
+            probe(application, given.probe, bool(given.trusted_proxy))
         worker.serve(application)
     except BaseException as fault:
         # Threads of an application that fails, or that exits, must not keep it.

@@ -69,13 +69,15 @@ class Server:
         self.wanted: list[str] = []
         limits: dict[str, Any] = {
             "threads": threads, "backlog": BACKLOG, "connection_limit": MOST_CONNECTIONS, "channel_timeout": keep,
-            "cleanup_interval": 1, "asyncore_use_poll": True, "ident": None, "clear_untrusted_proxy_headers": True,
+            "cleanup_interval": 1, "asyncore_use_poll": True, "ident": None, "clear_untrusted_proxy_headers": False,
         }
         create_server(application, map=self.map, sockets=list(sockets.values()), **limits)
         doors = {one.socket.getsockname(): one for one in list(self.map.values()) if hasattr(one, "active_channels")}
         self.doors = {address: doors[listener.getsockname()] for address, listener in sockets.items()}
         for door in self.doors.values():
             door.channel_class = channel_of(self.requests)
+            # For an application: the address, and not a name that nobody has.
+            door.server_name = door.effective_host
         self.trigger = next(iter(self.doors.values())).trigger
 
     def run(self, idle: float, finish: float) -> None:

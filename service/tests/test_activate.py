@@ -323,7 +323,26 @@ class ProbeTest(WorkerTest):
     def test_an_application_that_answers_with_errors_is_not_ready(self) -> None:
         script = f"exec {PYTHON} -c \"exec(open('{PROGRAMS / 'page.py'}').read().replace('200 OK', '500 Wrong'))\""
         talk = self.started(ACTIVATE, "--ready", "probe", "--probe", "/", "--", "sh", "-c", script, addresses=(free_address(),))
-        self.assertEqual(talk.hear(1.5), NOTHING)
+        # (after three of them, and not when its time is over)
+        self.assertEqual((talk.hear(), talk.wait()), (END, 1))
+
+    def test_a_version_that_was_late_is_not_waited_for_again(self) -> None:
+        """A master that upgrades starts several workers, one after another, before it goes back."""
+        late = self.room / "commands" / "late"
+        late.parent.mkdir()
+        names = {"PREFORK_FOLDER": str(self.room)}
+        slow = (ACTIVATE, "--ready-within", "0.3", "--", "sleep", "1000")
+        late.touch()
+        talk = self.started(*slow, addresses=(free_address(),), PREFORK_WORKER="1.12.0", **names)
+        self.assertEqual((talk.hear(), talk.wait(), late.read_text()), (END, 1, "1.12\n"))
+        # Another one of the version ends before its program is started; one of another version does not.
+        for name, wanted in (("1.12.1", END), ("1.1.0", "ready"), ("11.12.0", "ready")):
+            talk = self.started(ACTIVATE, "--", PAGE, "{fd}", addresses=(free_address(),), PREFORK_WORKER=name, **names)
+            self.assertEqual(talk.hear(), wanted, name)
+        late.unlink()
+        talk = self.started(*slow, addresses=(free_address(),), PREFORK_WORKER="1.12.0", **names)
+        self.assertEqual((talk.hear(), talk.wait(), late.exists()), (END, 1, False))
+        late.parent.rmdir()
 
 
 if __name__ == "__main__":

@@ -53,6 +53,22 @@ class OptionsTest(unittest.TestCase):
         given = self.command("--python", PYTHON_WITH_WAITRESS, "--threads", "8", "--wsgi", "m:a", "a.toml")
         self.assertEqual(given, [PYTHON_WITH_WAITRESS, str(SERVICE / "bin" / "prefork-wsgi"), "--threads", "8", "m:a"])
 
+    @unittest.skipUnless(PYTHON_WITH_WAITRESS, "no Python with waitress")
+    def test_a_probe_and_proxies_of_a_wsgi_application(self) -> None:
+        start = ["--python", PYTHON_WITH_WAITRESS, "--wsgi", "m:a"]
+        given = self.command(*start, "--ready", "probe", "/alive", "--trusted-proxy", "10.0.0.0/8", "--trusted-proxy", "unix", "a.toml")
+        self.assertEqual(given[2:], ["--trusted-proxy", "10.0.0.0/8", "--trusted-proxy", "unix", "--probe", "/alive", "m:a"])
+        for wrong, why in (
+            (["--ready", "notify"], "argument --ready: of a MODULE:APP it takes probe PATH, not: notify"),
+            (["--ready", "probe"], "argument --ready: of a MODULE:APP it takes probe PATH, not: probe"),
+            (["--probe", "/"], "--probe is an option of a PROGRAM, and there is none"),
+            (["--trusted-proxy", "10.0.0.1/8"], "argument --trusted-proxy: it takes an address, a network or unix: 10.0.0.1/8 has host bits set"),
+        ):
+            said = self.refused(*start, *wrong, "a.toml")
+            self.assertTrue(said.endswith(f"prefork-serve: error: {why}"), said)
+        said = self.refused("--ready", "notify", "a.toml")
+        self.assertTrue(said.endswith("--ready is an option of a PROGRAM or --wsgi, and there is none"), said)
+
     def test_the_program_that_is_looked_for(self) -> None:
         for words, command, wanted in (
             (["a.toml", "--", "p", "x"], None, "p"), (["a.toml", "--", "p"], ["own", "child"], "own"), (["a.toml"], None, None),

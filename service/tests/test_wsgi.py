@@ -185,6 +185,33 @@ class WsgiTest(WorkerTest):
             talk.say(line)
             self.assertEqual((talk.hear(), talk.wait()), (END, 1), line)
 
+    def test_a_probe_is_answered_before_it_serves(self) -> None:
+        """The application imports its pages at the first request."""
+        text = "def application(environ, start):\n    %s\n    start('200 OK', [('Content-Length', '1')])\n    return [b'\\n']\n"
+        for page, wanted in (("import sys", "ready"), ("1 / 0", END)):
+            (self.room / "late.py").write_text(text % page)
+            talk, _ = self.begun("--chdir", str(self.room), "--probe", "/", application="late")
+            self.assertEqual(talk.hear(), wanted)
+        self.assertEqual(talk.wait(), 1)
+        (self.room / "late.py").unlink()
+
+    def test_what_an_application_is_told_of_a_request(self) -> None:
+        names = "REMOTE_ADDR", "SERVER_NAME", "SERVER_PORT", "wsgi.url_scheme", "wsgi.multiprocess"
+        text = f"def application(environ, start):\n    text = repr([environ[name] for name in {names}]).encode()\n"
+        text += "    start('200 OK', [('Content-Length', str(len(text)))])\n    return [text]\n"
+        (self.room / "tells.py").write_text(text)
+        head = b"GET / HTTP/1.1\r\nHost: site.example\r\nX-Forwarded-For: 192.0.2.7\r\nX-Forwarded-Proto: https\r\n\r\n"
+        for options in ((), ("--trusted-proxy", "127.0.0.1")):
+            talk, address = self.begun("--chdir", str(self.room), *options, application="tells")
+            self.assertEqual(talk.hear(), "ready")
+            with kept(address) as connection:
+                connection.sendall(head)
+                got = received(connection).partition(b"\r\n\r\n")[2].decode()
+            host, _, port = address.partition(":")
+            wanted = ["192.0.2.7", "site.example", "443", "https", True] if options else [host, host, port, "http", True]
+            self.assertEqual(got, repr(wanted))
+        (self.room / "tells.py").unlink()
+
     def test_a_unix_socket(self) -> None:
         place = str(self.room / "site.sock")
         talk, _ = self.begun(address=place)
