@@ -108,6 +108,7 @@ class Commands:
         self.config, self.default = pathlib.Path(config), default
         self.place = folder.path / "commands"
         self.place.mkdir(mode=0o700, exist_ok=True)
+        self.late = self.place / "late"
         self.now, self.next = folder.path / "config.toml", folder.path / "next.toml"
         self.accepted = folder.path / "accepted.toml"
         # What workers by the default are forked by, if they are.
@@ -229,6 +230,7 @@ class Commands:
         self.proposed = self.read(self.next)
         self.write_next(self.started_by(self.proposed, True), self.proposed_text)
         self.forget_others()
+        self.try_late()
 
     def next_text(self) -> bytes:
         """The configuration that the next word goes over to, as the master reads it."""
@@ -239,6 +241,7 @@ class Commands:
         if not self.is_changing:
             return
         self.is_changing = False
+        self.late.unlink(missing_ok=True)
         if report.startswith(("done", "degraded target")):
             self.current, self.current_text, self.now_text = self.proposed, self.text, self.proposed_text
             self.keep_now()
@@ -250,6 +253,15 @@ class Commands:
             self.forget_others()
             self.write_next(self.started_by(self.current, False), self.now_text)
             self.settle_preloading(False)
+
+    def try_late(self) -> None:
+        """A worker that is not ready in time notes its generation in a file while a new one is tried. The others of its
+        generation end at once: a master that upgrades starts several, one after another, before it goes back."""
+        try:
+            self.late.write_bytes(b"")
+        except OSError as fault:
+            # Each of them is waited for, then.
+            say(f"{self.late}: {fault.strerror}")
 
     def keep_now(self) -> None:
         """The configuration that is to follow runs. A file that can't be written is tried again when a master starts."""

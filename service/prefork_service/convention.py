@@ -133,6 +133,30 @@ def clear_environment() -> None:
 FOLDER, NAME = os.environ.get("PREFORK_FOLDER"), os.environ.get("PREFORK_WORKER")
 
 
+def note_late() -> None:
+    """Notes that this worker was not ready in time, while its generation is tried."""
+    try:
+        file = os.open(f"{FOLDER}/commands/late", os.O_WRONLY | os.O_APPEND | os.O_CLOEXEC)
+        os.write(file, f"{generation()}\n".encode())
+        os.close(file)
+    except OSError:
+        # Nobody asks.
+        pass
+
+
+def is_known_late() -> bool:
+    """Whether another worker of this generation was not ready in time."""
+    try:
+        with open(f"{FOLDER}/commands/late") as file:
+            return f"{generation()}\n" in file.readlines()
+    except OSError:
+        return False
+
+
+def generation() -> str:
+    return (NAME or "").rpartition(".")[0]
+
+
 def warn(text: str) -> None:
     print(f"worker {os.getpid()}: {text}", file=sys.stderr, flush=True)
     if not FOLDER or not NAME:

@@ -25,7 +25,7 @@ from collections.abc import Callable
 from typing import Any
 
 from . import convention
-from .convention import Hold, Pipes, Unfit, clear_environment, warn
+from .convention import Hold, Pipes, Unfit, clear_environment, is_known_late, note_late, warn
 from .probing import probe, warm
 from .proxies import corrected, proxy_of
 from .preloader import Preloader, Lifeline
@@ -67,6 +67,8 @@ class Worker:
         elif word == "listener" and not self.going.is_set():
             self.sockets[rest[0]] = self.hold.take(rest[0])
         elif word == "go" and self.sockets:
+            if is_known_late():
+                raise Unfit(f"another worker of this version had not loaded after {self.given.ready_within:g} seconds")
             self.ready_by = time.monotonic() + self.given.ready_within
             self.going.set()
         elif word == "ping":
@@ -97,6 +99,7 @@ class Worker:
 
     def end_if_stuck(self) -> None:
         if self.ready_by and not self.server and time.monotonic() > self.ready_by:
+            note_late()
             warn(f"{self.given.application} has not loaded after {self.given.ready_within:g} seconds")
         elif self.server and not self.server.is_told_to_finish and self.server.is_stuck(self.given.timeout):
             warn(f"all threads have been at one request for more than {self.given.timeout:g} seconds")

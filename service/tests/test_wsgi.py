@@ -168,6 +168,20 @@ class WsgiTest(WorkerTest):
         self.assertEqual((talk.hear(), talk.hear(), talk.wait()), ("pong", END, 1))
         (self.room / "hangs.py").unlink()
 
+    def test_a_version_that_was_late_is_not_waited_for_again(self) -> None:
+        (self.room / "hangs.py").write_text("import time; time.sleep(3600)")
+        late = self.room / "commands" / "late"
+        late.parent.mkdir()
+        late.touch()
+        for number, noted in ((0, "1.2\n"), (1, "1.2\n")):
+            more = {"PREFORK_FOLDER": str(self.room), "PREFORK_WORKER": f"1.2.{number}"}
+            limit = "3" if not number else "86400"
+            talk, _ = self.begun("--chdir", str(self.room), "--ready-within", limit, application="hangs", **more)
+            self.assertEqual((talk.hear(), talk.wait(), late.read_text()), (END, 1, noted))
+        late.unlink()
+        late.parent.rmdir()
+        (self.room / "hangs.py").unlink()
+
     def test_the_end_of_input_and_a_master_that_has_gone(self) -> None:
         talk, _ = self.begun()
         talk.hear()
