@@ -7,7 +7,7 @@ import subprocess
 import tempfile
 from typing import Any
 
-from .records import GAP, blocks_of, files_of, masters_in, part_number
+from .records import GAP, LOST, blocks_of, files_of, masters_in, part_number
 
 # Blocks of words that were refused before anything was asked of the kernel: certify would carry them out.
 REFUSED = re.compile(r"(?:word .*\nrefused (?:C\d|W4).*|unread .*)\n")
@@ -25,6 +25,8 @@ class Life:
     blocks: list[str]
     targets: dict[int, bytes]
     lacks: str
+    # The blocks before which a new master had ended, as prefork-serve saw.
+    lost: list[int]
 
     @property
     def since(self) -> str:
@@ -44,7 +46,8 @@ def life_of(folder: pathlib.Path) -> Life:
             lacks = lacks or "blocks after these could not be written"
             break
         text += file.read_text()
-    return Life(folder, begin, blocks_of(text), dict(sorted(targets.items())), lacks)
+    lost = [part_number(file) for file in files if file.name.startswith(LOST)]
+    return Life(folder, begin, blocks_of(text), dict(sorted(targets.items())), lacks, lost)
 
 
 def compared(life: Life) -> tuple[list[str], bytes]:
@@ -60,6 +63,34 @@ def certified(life: Life, prefork: str) -> tuple[str, int]:
     if life.lacks.startswith(BEGINNING):
         return f"{head}: {life.lacks}; {len(life.blocks)} blocks are not compared", 0
     blocks, target = compared(life)
+    found = answered(life, prefork, blocks, target)
+    if isinstance(found, tuple) and found[0] in life.lost:
+        # What the model has no master's death for. The next master has a record of its own.
+        return f"{head}: {counted(found[0] - 1)}, from the first on{ended_before(life, found[0])}", 0
+    if isinstance(found, tuple):
+        word = life.blocks[found[0] - 1].splitlines()[0]
+        return f"{head}: block {found[0]}, {word}, is not accepted: {found[1]}", NOT_ACCEPTED
+    if found:
+        return f"{head}: nothing was compared: {found}", NOT_COMPARED
+    told, left = f"{head}: {counted(len(blocks))}, from the first on", len(life.blocks) - len(blocks)
+    if left:
+        word = life.blocks[len(blocks)].splitlines()[0]
+        told += f"; {left} more, from block {len(blocks) + 1} on, {word}, go over to another configuration again and are not compared"
+    return f"{told}; {life.lacks}" if life.lacks else told, 0
+
+
+def counted(blocks: int) -> str:
+    return "1 block is accepted" if blocks == 1 else f"{blocks} blocks are accepted"
+
+
+def ended_before(life: Life, number: int) -> str:
+    """What is said of a block that a new master did not live to see."""
+    word = life.blocks[number - 1].splitlines()[0]
+    return f"; before block {number}, {word}, the new master had ended. The service saw that, and started the next master"
+
+
+def answered(life: Life, prefork: str, blocks: list[str], target: bytes) -> tuple[int, str] | str:
+    """The number of the block that `prefork certify` does not accept, and why; or why it compares nothing; or nothing."""
     chosen = [(number, block) for number, block in enumerate(blocks, 1) if not REFUSED.fullmatch(block)]
     with tempfile.TemporaryDirectory(prefix="certify-") as room:
         (pathlib.Path(room) / "to.toml").write_bytes(target)
@@ -69,17 +100,8 @@ def certified(life: Life, prefork: str) -> tuple[str, int]:
         found = subprocess.run(command, input=text, capture_output=True, text=True)
     said = re.match(r"prefork: certify (\d+) (.*)", found.stderr)
     if said:
-        number, block = chosen[int(said[1]) - 1]
-        return f"{head}: block {number}, {block.splitlines()[0]}, is not accepted: {said[2]}", NOT_ACCEPTED
-    if found.returncode:
-        return f"{head}: nothing was compared: {found.stderr.strip()}", NOT_COMPARED
-    accepted = "1 block is" if len(blocks) == 1 else f"{len(blocks)} blocks are"
-    told = f"{head}: {accepted} accepted, from the first on"
-    left = len(life.blocks) - len(blocks)
-    if left:
-        word = life.blocks[len(blocks)].splitlines()[0]
-        told += f"; {left} more, from block {len(blocks) + 1} on, {word}, go over to another configuration again and are not compared"
-    return f"{told}; {life.lacks}" if life.lacks else told, 0
+        return chosen[int(said[1]) - 1][0], said[2]
+    return found.stderr.strip() or f"status {found.returncode}" if found.returncode else ""
 
 
 def certify(place: pathlib.Path, prefork: str) -> tuple[list[str], int]:

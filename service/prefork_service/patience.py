@@ -5,6 +5,7 @@ A word starts workers, and each start may take its time. So the time is counted 
 """
 import os
 import pathlib
+import re
 import signal
 import time
 
@@ -110,6 +111,12 @@ class Hanging:
             self.end_by_force()
         elif not is_new:
             kill_masters(first)
+
+    def lost_master(self, block: str, generation: str) -> str:
+        """Says which new master a lost block tells of, if it runs no longer."""
+        named = [int(number) for number in re.findall(r"^\d+ m(\d+) ", block, re.M)] or [int(generation.split(".")[0] or 1)]
+        first = self.service.master.process.pid
+        return f"the new master m{max(named)} has ended" if len(masters_of(first)) < max(named) else ""
 
     def finish(self) -> None:
         """Waits for the end of a master that has stopped its workers."""

@@ -2,7 +2,8 @@
 
 Each master that the service starts has a folder `records/N`: `from.toml`, the configuration of its start; `blocks.1`,
 `blocks.2` and so on, the parts of what it printed, in their order; and for a block K that goes over to another
-configuration, `to.K.toml`. So prefork-ctl can certify them.
+configuration, `to.K.toml`. So prefork-ctl can certify them. If the new master of an upgrade had ended before block K, the
+mark `lost.K` says so: prefork-serve saw that itself.
 
 A tick at which nothing was missing has no block there, and nor have beats; only the last beat of each worker is written
 before the next block, since a later tick may rest on it. A tick that ends as the two before it did is not written
@@ -24,7 +25,9 @@ TICK = re.compile(r"word tick \d+\n")
 CENSUS = re.compile(r"\d+ m\d+ census \S+ : counted \S+")
 # What ends the name of a part before which blocks are lost.
 GAP = ".gap"
-OWN = re.compile(r"from\.toml|to\.\d+\.toml|blocks\.\d+(\.gap)?")
+# How the name of the mark begins that a new master had ended before a block.
+LOST = "lost."
+OWN = re.compile(r"from\.toml|to\.\d+\.toml|lost\.\d+|blocks\.\d+(\.gap)?")
 
 
 def is_quiet(body: list[str]) -> bool:
@@ -103,6 +106,10 @@ class Records:
         elif not self.has_gap:
             self.has_gap = True
             self.begin_part()
+
+    def mark_lost(self, why: str) -> None:
+        """The block that was written last tells of a new master that has ended by itself, as prefork-serve has seen."""
+        self.writer.add(self.folder() / f"{LOST}{self.count}", f"{why}\n".encode())
 
     def part_size(self) -> int:
         return min(PART, self.most // PARTS)

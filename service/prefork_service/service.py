@@ -242,7 +242,7 @@ class Service:
         if not word.text.startswith("tick ") or not report.startswith("done"):
             say(f"{word.text}: {report}")
         try:
-            self.conclude(word, report)
+            self.conclude(word, report, block)
         finally:
             word.answer(block)
         if report.startswith("done") and not self.is_ready:
@@ -265,12 +265,13 @@ class Service:
         if not word.text.startswith("tick ") or word.text == START:
             self.barrier.duty(self.telling.write)
 
-    def conclude(self, word: Word, report: str) -> None:
+    def conclude(self, word: Word, report: str, block: str) -> None:
         """Ends the service after a stop, and a master that is of no further use."""
         # The new master of an upgrade has gone, and its workers with it. The old one, which passed
         # words on to it, is of no further use.
         is_lost = report.startswith("lost ") or report == "refused V1"
         if is_lost:
+            self.barrier.duty(self.mark_lost, block)
             self.master.process.kill()
         self.is_stopped = word.text in STOPS and (is_lost or report.startswith("done"))
         if word.text in STOPS and not self.is_stopped:
@@ -279,6 +280,12 @@ class Service:
             self.barrier.duty(self.hanging.finish)
         elif is_lost:
             self.end_master()
+
+    def mark_lost(self, block: str) -> None:
+        """Marks in the record that a new master has ended, if that is so: no model of a master says it."""
+        if why := self.hanging.lost_master(block, self.record.generation):
+            say(why)
+            self.chronicle.records.mark_lost(why)
 
     def notes(self, word: Word, block: str) -> list[str]:
         """What is said to people of a block: why addresses were not opened, and what workers are started from."""

@@ -57,6 +57,18 @@ class CertifyingTest(unittest.TestCase):
         self.assertIn(": block 3, word HUP, is not accepted: Y1 3", self.said(5)[0])
         self.assertEqual(self.given(), START + HUP)
 
+    def test_a_new_master_that_had_ended_is_no_block_that_is_not_accepted(self) -> None:
+        lost = "word tick 9\n1 m2 census 2.2 : master-gone\nlost cause 1 pid no-file\n"
+        self.keep("1", from_toml="a", blocks_1=START + REFUSED + HUP + lost, lost_4="the new master m2 has ended\n")
+        (self.room / "wrong").write_text("prefork: certify 3 Y1 1\n")
+        self.assertRegex(self.said(0)[0], r": 3 blocks are accepted, from the first on; before block 4, word tick 9, the new "
+                         r"master had ended\. The service saw that, and started the next master$")
+        # Another block is not excused by it, and a mark excuses nothing that is accepted.
+        (self.room / "wrong").write_text("prefork: certify 2 Y1 1\n")
+        self.assertIn(": block 3, word HUP, is not accepted: Y1 1", self.said(5)[0])
+        (self.room / "wrong").unlink()
+        self.assertIn(": 4 blocks are accepted", self.said(0)[0])
+
     def test_a_master_is_compared_up_to_another_configuration(self) -> None:
         files = {"to_2_toml": "b", "to_4_toml": "b", "to_5_toml": "c"}
         self.keep("1", from_toml="a", blocks_1=START + HUP + TTIN + HUP + HUP + TTIN, **files)
