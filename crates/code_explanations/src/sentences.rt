@@ -45,7 +45,7 @@ Correct the word; no word was carried out.",
         meaning: "a configuration file is refused",
         remedy: "\
 It is the file of --from or, if that one is accepted, the file of --to. The
-code after it, C1 to C11, is the first rule that the file breaks. Correct
+code after it, C1 to C12, is the first rule that the file breaks. Correct
 the file and try again; nothing was started.",
     },
     Explanation {
@@ -190,9 +190,9 @@ with commas. --why names the line and what is wrong there.",
         code: "C2",
         meaning: "unknown key",
         remedy: "\
-The keys are command, groups, listeners, pid, retries, timeout and workers;
-a group has only listeners and workers. Correct or remove the key. Capitals
-count, and a key after a [[groups]] heading belongs to that group.",
+The keys are command, groups, listeners, pid, retries, service, timeout and
+workers; a group has only listeners and workers. Correct or remove the key.
+Capitals count, and a key after a [[groups]] heading belongs to that group.",
     },
     Explanation {
         code: "C3",
@@ -262,6 +262,13 @@ Its index, counted from 0, follows the code, and then the first rule that it
 breaks, C2 to C7. A group has listeners, 1 or more, and workers, 1 if the
 key is missing. All groups together have at most 64 listeners, all
 different, and at most 1024 workers.",
+    },
+    Explanation {
+        code: "C12",
+        meaning: "service is no table",
+        remedy: "\
+Its keys are for the service, `prefork-serve`; the master does not read them.
+Put them below a line '[service]', or remove the key.",
     },
     Explanation {
         code: "H1",

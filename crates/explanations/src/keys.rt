@@ -1,15 +1,16 @@
 //! Keys that a configuration does not have, and the nearest of those that it has.
-use crate::lines::FoundLine;
+use crate::lines::{FoundLine, HEADING};
 use std::alloc::{AllocError, Global};
 use strsim::generic_levenshtein;
 
 /// The keys of a configuration.
-const KEYS: [&str; 7] = [
+const KEYS: [&str; 8] = [
     "command",
     "groups",
     "listeners",
     "pid",
     "retries",
+    "service",
     "timeout",
     "workers",
 ];
@@ -56,11 +57,13 @@ fn unknown_of_configuration(text: &[u8]) -> Option<UnknownKey<'_>> {
 /// The first unknown key under the heading at an index, counted from 0.
 fn unknown_of_group(text: &[u8], index: usize) -> Option<UnknownKey<'_>> {
     let mut begun: usize = 0;
+    let mut is_in_group = false;
     for (place, line) in text.split(|byte| *byte == b'\n').enumerate() {
         let key = key_in(line);
         if is_heading(line) {
-            begun = begun.saturating_add(1);
-        } else if begun == index.saturating_add(1) && is_unknown(key, &GROUP_KEYS) {
+            is_in_group = line.trim_ascii_start().starts_with(HEADING);
+            begun = begun.saturating_add(usize::from(is_in_group));
+        } else if is_in_group && begun == index.saturating_add(1) && is_unknown(key, &GROUP_KEYS) {
             return Some(found_at(place, line, key));
         }
     }

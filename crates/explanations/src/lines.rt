@@ -2,7 +2,7 @@
 use master_config::{ConfigRefusal, GroupFault, Key};
 
 /// How a group begins that is written as a table of its own.
-const HEADING: &[u8] = b"[[groups]]";
+pub(crate) const HEADING: &[u8] = b"[[groups]]";
 
 /// A line of a text, with its number from 1.
 #[derive(Clone, Copy)]
@@ -93,6 +93,7 @@ fn key_of(refusal: &ConfigRefusal) -> Option<Key> {
         ConfigRefusal::BadPid => Some(Key::Pid),
         ConfigRefusal::BadCommand => Some(Key::Command),
         ConfigRefusal::Mixed | ConfigRefusal::Group(..) => Some(Key::Groups),
+        ConfigRefusal::BadService => Some(Key::Service),
         _ => None,
     }
 }

@@ -6,7 +6,7 @@ use Rattle.master_config.specs.KeyNames.{key_name}
 use Rattle.master_config.specs.declared.group_fault.GroupFault.{GroupFault}
 use Rattle.master_config.specs.declared.group_fault.GroupFault.TheVariants as group
 use Rattle.master_config.specs.declared.refusal.ConfigRefusal.{ConfigRefusal}
-use Rattle.master_config.specs.declared.refusal.ConfigRefusal.TheVariants.{NotToml, UnknownKey, WrongKind, OutOfRange, BadAddress, Doubled, NoListener, BadPid, BadCommand, Mixed, Group, Unreadable, Memory}
+use Rattle.master_config.specs.declared.refusal.ConfigRefusal.TheVariants.{NotToml, UnknownKey, WrongKind, OutOfRange, BadAddress, Doubled, NoListener, BadPid, BadCommand, Mixed, Group, BadService, Unreadable, Memory}
 
 ---- Of a group
 
@@ -43,6 +43,7 @@ config_code BadPid = codes "C8"
 config_code BadCommand = codes "C9"
 config_code Mixed = codes "C10"
 config_code (Group index fault) = codes "C11"
+config_code BadService = codes "C12"
 config_code Unreadable = codes "file"
 config_code Memory = codes "memory"
 

@@ -1,6 +1,6 @@
 -- What a configuration says, as a function of the tree of its text: the settings and the command, or the first rule
 -- that it breaks.
-use Rattle.std.specs.Prelude.{◌≡◌, ◌≢◌, ◌⊎◌, ℕ, nat_eq, nat_lt, nat_le, Bool, ◌&&◌, not, List, [], length, IsUtf8, Option, Some, None, Result, Ok, Err, if◌then◌else◌}
+use Rattle.std.specs.Prelude.{◌≡◌, ◌≢◌, ◌⊎◌, ℕ, nat_eq, nat_lt, nat_le, Bool, true, ◌&&◌, not, List, [], length, IsUtf8, Option, Some, None, Result, Ok, Err, if◌then◌else◌}
 use Rattle.std.specs.List.{list_all, list_any}
 use Rattle.worker_groups.specs.Groups.{workers_in}
 use Rattle.listener_set.specs.PathText.{path_reading}
@@ -11,10 +11,10 @@ use Rattle.toml.specs.Parse.{parse_document}
 use Rattle.master_config.specs.Names.{is_known}
 use Rattle.master_config.specs.Values.{◌>>=◌, value_at, has_only, number_at, texts_read, texts_of}
 use Rattle.master_config.specs.Listening.{listeners_at}
-use Rattle.master_config.specs.Groups.{Pools, one_pool, pools_in}
-use Rattle.master_config.specs.declared.key.Key.TheVariants.{Command, Groups, Listeners, Pid, Retries, Timeout, Workers}
+use Rattle.master_config.specs.Groups.{Pools, one_pool, is_table, pools_in}
+use Rattle.master_config.specs.declared.key.Key.TheVariants.{Command, Groups, Listeners, Pid, Retries, Service, Timeout, Workers}
 use Rattle.master_config.specs.declared.refusal.ConfigRefusal.{ConfigRefusal}
-use Rattle.master_config.specs.declared.refusal.ConfigRefusal.TheVariants.{NotToml, UnknownKey, WrongKind, BadPid, BadCommand, Memory}
+use Rattle.master_config.specs.declared.refusal.ConfigRefusal.TheVariants.{NotToml, UnknownKey, WrongKind, BadPid, BadCommand, BadService, Memory}
 
 -- what a configuration says: the settings, and the command that starts a worker, with no text where none is given
 pub record Configuration : Type 0 where
@@ -53,6 +53,12 @@ pid_read (Some text) = path_or_refusal (path_reading text)
 abbrev pub pid_at : Option Data → Result (Option (List ℕ)) ConfigRefusal
 pid_at None = Ok None
 pid_at (Some value) = pid_read (as_str value)
+
+-- ---- what is the service's
+-- a master does not read it: it is a table, or it is missing
+abbrev pub is_service : Option Data → Bool
+is_service None = true
+is_service (Some value) = is_table value
 
 -- ---- the whole
 
@@ -94,7 +100,7 @@ abbrev pub values_of : Members → Result Configuration ConfigRefusal
 values_of members = do
   command ← command_at (value_at Command members)
   settings ← settings_at (value_at Groups members) members
-  Ok (record { settings = settings; command = command })
+  if is_service (value_at Service members) then Ok (record { settings = settings; command = command }) else Err BadService
 
 -- what a configuration says, or the first rule that it breaks
 abbrev pub configuration_of : Members → Result Configuration ConfigRefusal

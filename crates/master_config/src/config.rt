@@ -3,7 +3,7 @@ ghost use Rattle.std.specs.Prelude.{◌≡◌, ◌≢◌, ◌↔◌, ◌⊎◌, 
 ghost use Rattle.toml.specs.View.{table_view};
 ghost use Rattle.toml.specs.Errors.{IsMemory};
 ghost use Rattle.master_config.specs.Values.{value_at};
-ghost use Rattle.master_config.specs.Configuration.{settings_at, configuration_of, Reads};
+ghost use Rattle.master_config.specs.Configuration.{settings_at, is_service, configuration_of, Reads};
 
 use crate::command::{command_at, copied};
 use crate::groups::pools_in;
@@ -55,6 +55,16 @@ fn settings_in(table: &Table) -> Result<Settings, ConfigRefusal>
     }
 }
 
+/// Whether what a table has for the service is a table, or is missing.
+fn is_service(table: &Table) -> bool
+    ensures { result ≡ is_service (value_at Key.Service (table_view table.now)) }
+{
+    match value_at(table, Key::Service) {
+        None => true,
+        Some(value) => value.is_table(),
+    }
+}
+
 /// What a table says. Want of memory is told only where no rule is broken.
 fn config_in(alloc: Global, table: &Table) -> Result<Config, ConfigRefusal>
     ensures exact { result ≢ Err ConfigRefusal.Memory → result ≡ configuration_of (table_view table.now) }
@@ -65,6 +75,9 @@ fn config_in(alloc: Global, table: &Table) -> Result<Config, ConfigRefusal>
     }
     let items = command_at(table)?;
     let settings = settings_in(table)?;
+    if !is_service(table) {
+        return Err(ConfigRefusal::BadService);
+    }
     let command = match items {
         Some(items) => copied(alloc, items)?,
         None => Vec::new(alloc),

@@ -12,6 +12,7 @@ pub enum Key {
     Listeners,
     Pid,
     Retries,
+    Service,
     Timeout,
     Workers,
 }
@@ -29,6 +30,7 @@ impl Key {
             Key::Listeners => "listeners",
             Key::Pid => "pid",
             Key::Retries => "retries",
+            Key::Service => "service",
             Key::Timeout => "timeout",
             Key::Workers => "workers",
         }
@@ -55,6 +57,7 @@ pub(crate) fn is_known(name: &str) -> bool
         || name == "listeners"
         || name == "pid"
         || name == "retries"
+        || name == "service"
         || name == "timeout"
         || name == "workers"
 }

@@ -2,7 +2,8 @@
 //!
 //! A text is checked in a fixed order, and the first rule that it breaks is its refusal: the text is TOML, each key is
 //! known, and then the keys `command`, `groups`, `listeners`, `pid`, `retries`, `timeout` and `workers`, each first by
-//! the kind of its value and then by the value itself; each group in the same way, in their order.
+//! the kind of its value and then by the value itself; each group in the same way, in their order. Last, `service` is a
+//! table: what it says is for the service alone.
 #![tactic(auto)]
 
 mod command;

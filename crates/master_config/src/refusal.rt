@@ -34,6 +34,8 @@ pub enum ConfigRefusal {
     Mixed,
     /// C11: the group at the index, counted from 0, breaks this rule.
     Group(usize, GroupFault),
+    /// C12: the value of `service` is no table. Its keys are the service's: a master does not look at them.
+    BadService,
     /// The file can't be read.
     Unreadable,
     /// Memory was refused.
@@ -60,6 +62,7 @@ impl ConfigRefusal {
             ConfigRefusal::BadCommand => "C9",
             ConfigRefusal::Mixed => "C10",
             ConfigRefusal::Group(..) => "C11",
+            ConfigRefusal::BadService => "C12",
             ConfigRefusal::Unreadable => "file",
             ConfigRefusal::Memory => "memory",
         }
