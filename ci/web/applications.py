@@ -1,9 +1,10 @@
 """Applications as they may be: one that prints, one that deadlocks, one that leaves daemons."""
+import shutil
 import socket
 import sys
 
 from gate.addresses import place_of
-from gate.waiting import until
+from gate.waiting import comes, until
 from web.site import CLIENTS, SERVICE, Scenario, Site
 
 PAGE = (SERVICE / "tests" / "programs" / "page.py").read_text()
@@ -62,4 +63,41 @@ def an_application_deadlocks(site: Site) -> None:
     site.certify()
 
 
-SCENARIOS: tuple[Scenario, ...] = (an_application_prints_and_leaves_daemons, an_application_deadlocks)
+def release(site: Site, version: int, more: str = "") -> None:
+    """Lays out a release in a folder of its own, and lets the symbolic link lead there."""
+    folder = site.room / "releases" / str(version)
+    folder.mkdir(parents=True)
+    install(site, more, version)
+    (site.home / "page.py").rename(folder / "page.py")
+    new = site.room / "new"
+    new.symlink_to(folder)
+    new.replace(site.room / "current")
+
+
+def releases_come_by_a_symbolic_link(site: Site) -> None:
+    """Each start follows it, and the old release may go. A broken release, or none, is rolled back."""
+    release(site, 1)
+    site.program, site.options = [sys.executable, "page.py"], ["--ready", "notify", "--chdir", "current"]
+    site.begin()
+    for version, word in ((2, "HUP"), (3, "USR2")):
+        release(site, version)
+        site.wants(word, 0, "done", 2)
+        site.answered_by(version)
+        shutil.rmtree(site.room / "releases" / str(version - 1))
+    release(site, 4, "1 / 0")
+    site.wants("HUP", 3, "rolled-back", 2)
+    (site.room / "current").unlink()
+    site.wants("HUP", 3, "rolled-back", 2)
+    reason = f"{site.room / 'current'}: No such file or directory"
+    site.check(f"the journal has no {reason}", comes(lambda: reason in (site.run / "journal").read_text()))
+    (site.room / "current").symlink_to(site.room / "releases" / "3")
+    old = site.workers()
+    site.kill(min(old))
+    until("another worker", lambda: len(site.workers()) == 2 and len(site.workers() & old) == 1)
+    site.end("123", may_fail=CLIENTS)
+    site.certify()
+
+
+SCENARIOS: tuple[Scenario, ...] = (
+    an_application_prints_and_leaves_daemons, an_application_deadlocks, releases_come_by_a_symbolic_link,
+)
