@@ -21,7 +21,7 @@ pub fn answer_pages() -> &'static [Explanation] {
     &ANSWERS
 }
 
-const FAULTS: [Explanation; 37] = [
+const FAULTS: [Explanation; 38] = [
     Explanation {
         code: "usage",
         meaning: "invalid command line",
