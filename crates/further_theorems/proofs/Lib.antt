@@ -1,0 +1,5 @@
+pub mod Left
+pub mod Runs
+pub mod Nodes
+pub mod Proper
+pub mod Entries

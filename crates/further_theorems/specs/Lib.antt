@@ -1,0 +1,3 @@
+pub mod Proper
+pub mod Left
+pub mod Merges

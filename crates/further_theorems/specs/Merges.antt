@@ -1,0 +1,27 @@
+-- A walk of a plan whose answers the kernel gives under a pattern is the run of the plan under it.
+--
+-- With `MergesAreWoven`: any merge of a walk of the new part with a walk of the old one, and a walk of what follows
+-- both, answered as the kernel answers, is the run of the plan under the turns that it uses. So the headline holds of
+-- every merge.
+
+use Rattle.definitions.specs as above
+use Rattle.std.specs.Prelude.{◌≡◌, ℕ, ◌+◌, List, [], ◌∷◌}
+use above.Table.{Table}
+use above.Calls.{Handed, after_exits, step_with}
+use above.Run.{Tree, Ends, End, Entry, Pattern, Progress, run_with, At}
+use Rattle.theorems.specs.Apart.{WalksAll}
+
+-- Each call has the answer that the kernel gives there, the first being number n + 1 of the pattern; the table last.
+abbrev pub IsAnswered : Handed → Pattern → ℕ → Table → List Entry → Table → Type 0
+IsAnswered handed pattern n t [] last = t ≡ last
+IsAnswered handed pattern n t (e ∷ entries) last =
+    let moment = pattern (n + 1) in
+    let s = step_with handed e.by e.call moment.fate (after_exits moment.exits t) in
+    (s.answer ≡ e.answer) × IsAnswered handed pattern (n + 1) s.table entries last
+
+abbrev pub WalksAreRuns : Type 0
+WalksAreRuns =
+    (handed : Handed) (tree : Tree) (pattern : Pattern) (p : Progress) (entries : List Entry) (last : Table) (end : End) →
+    WalksAll tree p.lacked entries (Ends end) → IsAnswered handed pattern p.calls p.table entries last →
+    ((run_with handed tree pattern p).entries ≡ entries) × ((run_with handed tree pattern p).last.table ≡ last)
+    × ((run_with handed tree pattern p).ending ≡ At end)

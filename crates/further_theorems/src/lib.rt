@@ -1,0 +1,25 @@
+//! What a run keeps beside the headline: whose workers, files and addresses its calls touch, what the
+//! record that it leaves has, and that every merge of two masters' calls is a run. Each function has
+//! an empty body: its contract is the theorem.
+#![tactic(auto)]
+
+ghost use Rattle.further_theorems.specs.Left.{RecordsAreLeft};
+ghost use Rattle.further_theorems.specs.Merges.{WalksAreRuns};
+ghost use Rattle.further_theorems.specs.Proper.{CallsAreProper, FilesOfOthersStay};
+
+/// Each call is made by the master whose workers it names, and touches no file, address or master of
+/// others: whatever fails, and from any table.
+pub fn calls_are_proper()
+    ensures calls { CallsAreProper }
+    ensures files { FilesOfOthersStay }
+{}
+
+/// The record that a report leaves has the settings of the side that the outcome names.
+pub fn records_are_left()
+    ensures { RecordsAreLeft }
+{}
+
+/// A walk of a plan whose answers the kernel gives is the run of the plan.
+pub fn merges_are_runs()
+    ensures { WalksAreRuns }
+{}
