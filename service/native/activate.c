@@ -80,8 +80,8 @@ static void move_pipes(void) {
     close(nothing);
 }
 
-/* Kills what is left of the program, and waits for that. The holder does it; what a killed holder leaves comes to this
- * process, which ends it itself, as it does where the holder does not end. */
+/* Kills what is left of the program, and waits for that. The holder does it; what a killed holder leaves becomes a child
+ * of this process, which ends it itself, as it does where the holder does not end. */
 static void end_program(void) {
     if (line < 0)
         return;

@@ -10,7 +10,7 @@ import traceback
 from collections.abc import Callable
 from typing import Any
 
-# A source is closed that fails so often within so many seconds.
+# A source that fails this often within this time, in seconds, is closed.
 MOST_FAULTS, SECONDS = 5, 10.0
 # The same fault is told with its trace once in this time, and then how often it came again.
 TELL_SECONDS = 60.0

@@ -15,7 +15,7 @@ import time
 from collections.abc import Callable
 
 MOST_WAITING = 1 << 16
-# A pipe for which poll finds room takes so many bytes at once.
+# A pipe for which poll finds room takes this number of bytes at once.
 AT_ONCE = 4096
 # How long what waits is tried again at the end.
 DRAIN_SECONDS, PAUSE_SECONDS = 1.0, 0.05

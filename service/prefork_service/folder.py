@@ -20,7 +20,7 @@ def say(text: str) -> None:
 
 
 def files_in(place: pathlib.Path) -> list[pathlib.Path]:
-    """The files of a folder; none if it has gone, or is none."""
+    """The files of a folder; none where it has gone or is something else."""
     try:
         return list(place.iterdir())
     except OSError:

@@ -1,4 +1,4 @@
-"""What a WSGI application is told of a request: by which address it came, and, from a proxy that is trusted, for whom."""
+"""What a WSGI application is told of a request: by which address it came, and, from a proxy that is trusted, its client."""
 import ipaddress
 from collections.abc import Callable, Iterable
 from typing import Any

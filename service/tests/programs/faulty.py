@@ -2,7 +2,7 @@
 """prefork-serve, in which a call raises: the one whose name the file FAULTS/raise has. That file is removed first, so that
 it raises once; with FAULTS/always it raises until the test removes FAULTS/raise.
 
-With MARGIN a master that hangs is killed so many seconds after its limits.
+With MARGIN a master that hangs is killed that number of seconds after its limits.
 
 It notes each handler of events that it registers in FAULTS/handlers, a line for each.
 """
