@@ -2,6 +2,7 @@
 
 _prefork_service() {
     local cur=${COMP_WORDS[COMP_CWORD]} prev=${COMP_WORDS[COMP_CWORD - 1]} options
+    local at=1 words='' signals='HUP QUIT INT TERM USR1 USR2 WINCH TTIN TTOU'
 
     COMPREPLY=()
     case $prev in
@@ -29,6 +30,14 @@ _prefork_service() {
             mapfile -t COMPREPLY < <(compgen -W 'degraded' -- "$cur")
             return
             ;;
+        --wait)
+            mapfile -t COMPREPLY < <(compgen -W 'serves changes short stopped' -- "$cur")
+            return
+            ;;
+        --on-done | --on-rolled-back | --on-degraded | --on-short | --on-healed)
+            mapfile -t COMPREPLY < <(compgen -c -- "$cur")
+            return
+            ;;
         --require)
             mapfile -t COMPREPLY < <(compgen -W 'done' -- "$cur")
             return
@@ -41,17 +50,30 @@ _prefork_service() {
                 compopt -o default
                 return
             fi
-            options='--folder --prefork --records --records-size --metrics --page --answer-within --defer-accept --socket-mode --socket-group --wsgi --preload --python --threads --timeout --keep --chdir --warm --after-load --after-fork --ready --ready-within --probe --probe-within --probe-limit --stop --finish --usr1 --env --no-listen-fds --blocking --help'
+            options='--folder --prefork --records --records-size --metrics --page --answer-within --defer-accept --socket-mode --socket-group --public --on-done --on-rolled-back --on-degraded --on-short --on-healed --keep-trying --plain-log --wsgi --preload --python --threads --timeout --keep --chdir --warm --after-load --after-fork --ready --ready-within --probe --probe-within --probe-limit --stop --finish --usr1 --env --no-listen-fds --blocking --version --help'
             ;;
-        prefork-ctl) options='--folder --json --events --forbid --require --least --records --prefork --help' ;;
-        prefork-checkworker) options='--path --slow --one --patience --help' ;;
-        prefork-load) options='--clients --rate --seconds --patience --path --again --json --help' ;;
+        prefork-ctl) options='--folder --json --wait --seconds --events --forbid --require --least --records --prefork --version --help' ;;
+        prefork-checkworker) options='--path --slow --one --patience --version --help' ;;
+        prefork-load) options='--clients --rate --seconds --patience --path --again --json --version --help' ;;
         *) return ;;
     esac
     if [[ $cur == -* ]]; then
         mapfile -t COMPREPLY < <(compgen -W "$options" -- "$cur")
     elif [[ ${COMP_WORDS[0]##*/} == prefork-ctl ]]; then
-        mapfile -t COMPREPLY < <(compgen -W 'status plan explore certify HUP QUIT INT TERM USR1 USR2 attended WINCH TTIN TTOU go back' -- "$cur")
+        while ((at < COMP_CWORD)); do
+            case ${COMP_WORDS[at]} in
+                --json | --version | --help) ;;
+                -*) ((at++)) ;;
+                *) break ;;
+            esac
+            ((at++))
+        done
+        case ${COMP_WORDS[at]},$prev,$((COMP_CWORD - at)) in
+            *,*,0) words="status tick plan explore certify go back reload upgrade log-rotate stop $signals" ;;
+            plan,plan,1 | explore,explore,1) words=$signals ;;
+            *,USR2,* | *,upgrade,*) words=attended ;;
+        esac
+        mapfile -t COMPREPLY < <(compgen -W "$words" -- "$cur")
     elif [[ ${COMP_WORDS[0]##*/} == prefork-serve ]]; then
         compopt -o default
     fi

@@ -11,15 +11,18 @@
  * `adopt` becomes `PREFORK_PROGRAM adopt`, with this program for its workers.
  *
  * The standard error of a master is a pipe to prefork-serve, which reads there what the master asks. The messages of
- * workers do not belong into it: they go where those of the service go. The keeper gives that descriptor. */
+ * workers do not belong into it: they go where those of the service go, each line after the name of its worker. The
+ * keeper gives that descriptor. A worker that has failed to start waits for its next try: it is not started before. */
 #define _GNU_SOURCE
 #include "ask.h"
+#include "log.h"
 #include "reason.h"
 
 #include <errno.h>
 #include <fcntl.h>
 #include <poll.h>
 #include <stdarg.h>
+#include <stdbool.h>
 #include <stdio.h>
 #include <stdlib.h>
 #include <string.h>
@@ -94,6 +97,17 @@ static void note_process(const char *generation, unsigned number) {
     }
 }
 
+/* Whether this worker waits: it has failed to start, and no start of it is allowed now. prefork-serve says so. */
+static bool waits(unsigned number) {
+    char path[4096];
+    const char *folder = setting("PREFORK_FOLDER");
+    snprintf(path, sizeof path, "%s/waiting/%u", folder, number);
+    if (access(path, F_OK) < 0)
+        return false;
+    snprintf(path, sizeof path, "%s/waiting/%u.once", folder, number);
+    return unlink(path) < 0;
+}
+
 /* The words of a generation's command, in memory that lasts. */
 static char **command_of(const char *generation) {
     static char path[4096], next[4096], text[LONGEST_COMMAND + 1], *words[MOST_WORDS + 1];
@@ -150,10 +164,13 @@ int main(int count, char **words) {
         char name[64];
         snprintf(name, sizeof name, "%s.%u", generation, number);
         setenv("PREFORK_WORKER", name, 1);
+        if (waits(number))
+            return 1;
         char **command = set_variables(command_of(generation));
         note_process(generation, number);
         take_errors();
         enter_place();
+        begin_log(setting("PREFORK_FOLDER"), name);
         execvp(command[0], command);
         fail("%s: %s", command[0], strerror(errno));
     }

@@ -7,9 +7,10 @@ import socket
 from typing import TYPE_CHECKING, Any
 
 from .door import Door
+from .finding import nearest
 from .folder import say
 from .questions import ANSWERS, NOT_ASKED, STATE, state
-from .words import NOTE, SIGNALS, STATUS, WORDS, Word
+from .words import NOTE, SIGNALS, STATUS, TICK, WORDS, Word
 
 if TYPE_CHECKING:
     from .service import Service
@@ -72,17 +73,18 @@ class Asking:
     def take_text(self, word: Word, text: str) -> None:
         """A word, an answer or a question of somebody that waits for what comes of it."""
         service = self.service
-        if text in WORDS:
+        if text in (*WORDS, TICK):
             service.take(word)
         elif text in ANSWERS:
             self.answer(word)
         elif text == STATUS:
-            word.answer(json.dumps(service.status()) + "\n")
+            word.answer(json.dumps(service.summary.status()) + "\n")
         elif text == STATE:
             current = service.current.text if service.current else None
             word.answer(state(service.question, current, len(service.waiting)))
         else:
-            word.answer(f"{NOTE}{text or 'nothing'} is not a word. Words are {', '.join(WORDS)} and {STATUS}\nunread W1\n")
+            near = f". Do you mean {found}?" if (found := nearest(text)) else ""
+            word.answer(f"{NOTE}{text or 'nothing'} is not a word. Words are {', '.join(WORDS)} and {STATUS}{near}\nunread W1\n")
 
     def answer(self, word: Word) -> None:
         """Answers the question, if there is one."""

@@ -23,7 +23,7 @@ import time
 import uuid
 from typing import Any
 
-from . import places
+from . import VERSION, places
 from .conversation import END, MARK, RUNS, Conversation, marked
 from .options import fault_of
 
@@ -281,6 +281,7 @@ def arguments() -> argparse.Namespace:
     parser = argparse.ArgumentParser(
         prog="prefork-checkworker", description="Checks whether a command is a worker by the convention."
     )
+    parser.add_argument("--version", action="version", version=f"prefork-checkworker {VERSION}")
     parser.add_argument("--path", default="/", help="a page that it serves (/)")
     parser.add_argument("--slow", metavar="PATH", help="a page that takes a second or more")
     parser.add_argument("--one", action="store_true", help="tell it one address at a time")

@@ -4,9 +4,10 @@ import dataclasses
 import pathlib
 import time
 
+from .last_lines import LastLines, shown
 from .folder import Folder
 from .journal import Journal, wall_clock
-from .reasons import Reasons, cause_of, explained
+from .reasons import Reasons, cause_of, explained, failed_workers
 from .records import MEGABYTE, Records, is_quiet
 from .words import START
 
@@ -16,13 +17,15 @@ MOST_WORDS, MOST_BYTES = 20, 32 * MEGABYTE
 
 @dataclasses.dataclass
 class Done:
-    """A word that was carried out: when it began, how long it took, its block, and why calls of it failed."""
+    """A word that was carried out: when it began, how long it took, its block, why calls of it failed, and what the workers
+    said last that failed to start."""
 
     word: str
     began: str
     seconds: float
     block: str
     reasons: list[str]
+    errors: dict[str, list[str]] = dataclasses.field(default_factory=dict)
 
     @property
     def report(self) -> str:
@@ -36,6 +39,7 @@ class Done:
         return {
             "word": self.word, "report": self.report, "at": self.began, "seconds": round(self.seconds, 3),
             "cause": self.cause, "reasons": self.reasons,
+            "errors": [{"worker": name, "lines": lines} for name, lines in self.errors.items()],
         }
 
 
@@ -45,9 +49,11 @@ class Chronicle:
     def __init__(self, folder: Folder, place: pathlib.Path, most: int = MOST_BYTES):
         self.records = Records(place / "records", folder.blocks, most)
         self.journal, self.reasons = Journal(place / "journal"), Reasons(folder.reasons)
+        self.errors = LastLines(folder.path / "errors")
         self.done: collections.deque[Done] = collections.deque(maxlen=MOST_WORDS)
         # How often each word ended how.
         self.counts: collections.Counter[tuple[str, str]] = collections.Counter()
+        self.ticks: collections.Counter[str] = collections.Counter()
         self.began, self.moment = "", 0.0
         # Reasons that no block has been explained by yet.
         self.noted: dict[str, str] = {}
@@ -62,12 +68,22 @@ class Chronicle:
             self.journal.end_ticks()
             self.journal.note(f"{word} begins")
 
+    def take_reasons(self, block: str) -> dict[str, str]:
+        """Why workers have ended, as far as that is known now: what they have noted, or else the last line that they said."""
+        self.noted |= self.reasons.take()
+        silent = [name for name in failed_workers(block) if name not in self.noted]
+        self.noted |= {name: lines[-1].strip() for name, lines in self.errors.of(silent).items()}
+        return dict(self.noted)
+
     def end_word(self, word: str, block: str, others: list[str], mistakes: list[str]) -> list[str]:
         """Notes a block; why calls of it failed, or the word was refused."""
-        self.noted |= self.reasons.take()
         why = explained(block, self.noted, others) + mistakes
-        done = Done(word, self.began or wall_clock(), time.monotonic() - self.moment, block, why)
+        errors = self.errors.of(failed_workers(block))
+        self.errors.forget_old()
+        done = Done(word, self.began or wall_clock(), time.monotonic() - self.moment, block, why, errors)
         is_tick = word.startswith("tick ") and word != START
+        if word.startswith("tick "):
+            self.ticks[done.report.split()[0]] += 1
         if not is_tick:
             self.journal.note(f"{word}: {done.report}")
         elif not is_quiet(block.splitlines()[1:]):
@@ -75,14 +91,14 @@ class Chronicle:
         else:
             self.journal.end_ticks()
         if not is_tick or not self.journal.repeats:
-            for line in why:
+            for line in [*why, *shown(errors)]:
                 self.journal.note(f"{word}: {line}")
         if not is_tick or not is_quiet(block.splitlines()[1:]):
             self.note_ends(why)
         if not is_tick:
             self.done.append(done)
             self.counts[word, done.report.split()[0]] += 1
-        return why
+        return [*why, *shown(errors)]
 
     def note_ends(self, told: list[str]) -> None:
         """Notes the reasons that explain no call: workers have ended by themselves."""
@@ -122,5 +138,6 @@ class Chronicle:
 
     def end(self) -> None:
         self.journal.note("the service ends")
+        self.errors.end()
         self.records.end()
         self.journal.end()

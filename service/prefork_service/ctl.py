@@ -1,11 +1,13 @@
 """prefork-ctl [--folder F] [--json] [WORD]
-prefork-ctl [--folder F] [--json] status
+prefork-ctl [--folder F] [--json] [--wait STATE] [--seconds N] status
+prefork-ctl [--folder F] tick
 prefork-ctl [--folder F] [--json] plan WORD
 prefork-ctl [--folder F] [--json] [--events K] [--forbid degraded] [--require done] [--least N] explore WORD
 prefork-ctl [--folder F] [--records FOLDER] [--prefork PROGRAM] [--json] certify
 
-Sends a word to the service in the folder F (`run`): HUP, USR1, USR2, "USR2 attended", WINCH, TTIN, TTOU, QUIT, INT or
-TERM. It waits for what comes of it, prints that block and, on standard error, why calls of it failed and what runs now.
+Sends a word to the service in the folder F (`run`, or that of the only unit): HUP, USR1, USR2, "USR2 attended", WINCH,
+TTIN, TTOU, QUIT, INT or TERM, in capitals or not; `reload`, `upgrade`, `log-rotate` and `stop` are HUP, USR2, USR1 and
+QUIT. It waits for what comes of it, prints that block and, on standard error, why calls of it failed and what runs now.
 It ends with the status of the report:
 
     0   done, or nothing was asked for
@@ -21,6 +23,11 @@ prints whether the service asks, which question, and what to look at.
 `status` prints who runs: addresses, workers with their processes, ages and last beats, the masters and the keeper, the
 last word, its report and why it went wrong, and what is being done now.
 
+With --wait STATE it asks until the service is in that state (serves, changes, short or stopped), for N seconds at most
+(30), and ends with 0 then, or with 1. A service that has ended is stopped.
+
+`tick` has the master look for missing workers now, and tries those again that have failed to start.
+
 `plan` and `explore` print what a word would do to the service as it runs now, with the configuration that its file has
 now; nothing is done. The status is that of `prefork plan` and `prefork explore`.
 
@@ -30,15 +37,20 @@ runs. The status is 0 if all that could be compared is accepted, 5 if a block is
 With --json all of them print JSON.
 """
 import argparse
+import contextlib
 import json
 import pathlib
 import socket
 import subprocess
 import sys
+import time
 
+from . import VERSION
 from .certifying import certify
+from .finding import COMMANDS, folder_of, word_of
 from .questions import STATE
 from .rehearsing import rehearsal
+from .state import MEANINGS, STOPPED
 from .status import shown
 from .words import NOTE, STATUS, WORDS
 
@@ -67,8 +79,9 @@ def arguments() -> argparse.Namespace:
     parser = argparse.ArgumentParser(
         prog="prefork-ctl", description="Sends a word to a service, and prints what came of it."
     )
-    parser.add_argument("--folder", default="run", help="the folder of the service (run)")
-    words = "status, HUP, USR1, USR2, 'USR2 attended', WINCH, TTIN, TTOU, QUIT, INT or TERM; go or back while it asks; " \
+    parser.add_argument("--version", action="version", version=f"prefork-ctl {VERSION}")
+    parser.add_argument("--folder", metavar="F", help="the folder of the service, or prefork@NAME (run)")
+    words = "status, tick, HUP, USR1, USR2, 'USR2 attended', WINCH, TTIN, TTOU, QUIT, INT or TERM; go or back while it asks; reload, upgrade, log-rotate, stop; " \
         "plan WORD, explore WORD, certify; without a word it prints whether it asks"
     parser.add_argument("word", nargs="*", metavar="WORD", help=words)
     parser.add_argument("--json", action="store_true", help="print as JSON")
@@ -77,12 +90,25 @@ def arguments() -> argparse.Namespace:
     parser.add_argument("--records", metavar="FOLDER", help=records)
     program = "of certify: the program of the master (that of the service, or prefork on the path)"
     parser.add_argument("--prefork", metavar="PROGRAM", help=program)
+    parser.add_argument("--wait", choices=list(MEANINGS), help="of status: ask until the service is in this state")
+    parser.add_argument("--seconds", type=float, metavar="N", help="of status --wait: for how long at most (30)")
     given = parser.parse_args()
+    given.word = words_of(given.word)
+    if (given.wait and given.word != [STATUS]) or (given.seconds is not None and not given.wait):
+        parser.error("--wait is an option of status, and --seconds of --wait")
     if given.word[:1] != ["explore"] and options_of_explore(given):
         parser.error(f"{options_of_explore(given)[0]} is an option of explore")
     if given.word[:1] in (["plan"], ["explore"]) and " ".join(given.word[1:]) not in WORDS:
         parser.error(f"{given.word[0]} takes a word: {', '.join(WORDS)}")
     return given
+
+
+def words_of(words: list[str]) -> list[str]:
+    """The words that are meant."""
+    if words[:1] in (["plan"], ["explore"]):
+        return [words[0], *word_of(" ".join(words[1:])).split(" ")] if words[1:] else words
+    text = " ".join(words)
+    return [text.lower()] if text.lower() in COMMANDS else word_of(text).split(" ") if words else words
 
 
 def add_options_of_explore(parser: argparse.ArgumentParser) -> None:
@@ -103,14 +129,36 @@ def options_of_explore(given: argparse.Namespace) -> list[str]:
 def main() -> int:
     given = arguments()
     try:
+        given.folder = folder_of(given.folder)
+        if given.wait:
+            return wait_for(given)
         if given.word == ["certify"]:
             return certify_records(given)
         if given.word[:1] in (["plan"], ["explore"]):
             return rehearse(given)
         return tell(given, " ".join(given.word) or STATE)
+    except LookupError as fault:
+        print(f"prefork-ctl: {fault}", file=sys.stderr)
     except OSError as fault:
-        print(f"prefork-ctl: no service in {given.folder}: {fault.strerror or fault}", file=sys.stderr)
-        return 1
+        hint = "" if isinstance(fault, PermissionError) else ". Name its folder: --folder F, or --folder prefork@NAME"
+        print(f"prefork-ctl: no service in {given.folder}: {fault.strerror or fault}{hint}", file=sys.stderr)
+    return 1
+
+
+def wait_for(given: argparse.Namespace) -> int:
+    """Asks for the status until it is in a state, and prints the last one."""
+    until, status = time.monotonic() + (30.0 if given.seconds is None else given.seconds), {}
+    while True:
+        with contextlib.suppress(OSError, ValueError):
+            status = json.loads(asked(given.folder, STATUS)[0])
+        found = status.get("state", STOPPED)
+        if found == given.wait or time.monotonic() >= until:
+            break
+        status = {}
+        time.sleep(0.1)
+    text = (json.dumps(status) + "\n" if given.json else shown(status)) if status else f"{STOPPED}: no service in {given.folder}\n"
+    print(text, end="")
+    return 0 if found == given.wait else 1
 
 
 def tell(given: argparse.Namespace, word: str) -> int:

@@ -46,6 +46,7 @@ import socket
 import sys
 import time
 
+from . import VERSION
 from .barrier import Barrier, Broken
 from .door import Door, has_said
 from .errors import take_standard
@@ -350,6 +351,7 @@ def socket_options(given: argparse.Namespace) -> list[str]:
 
 def arguments() -> argparse.Namespace:
     parser = argparse.ArgumentParser(prog="prefork-keeper", description="Keeps the listening sockets of a service.")
+    parser.add_argument("--version", action="version", version=f"prefork-keeper {VERSION}")
     parser.add_argument(DEFER, action="store_true", help="accept a TCP connection once its first bytes are there")
     add_socket_options(parser)
     door = "the number of the socket at PATH, as prefork-serve gives it; standard input is a socket to prefork-serve"

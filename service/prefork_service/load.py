@@ -17,6 +17,8 @@ import threading
 import time
 from typing import Any
 
+from . import VERSION
+
 PATIENCE = 10.0
 ENDS = (signal.SIGINT, signal.SIGTERM)
 
@@ -170,6 +172,7 @@ def arguments() -> argparse.Namespace:
     parser = argparse.ArgumentParser(
         prog="prefork-load", description="Sends requests to a service and counts those that fail."
     )
+    parser.add_argument("--version", action="version", version=f"prefork-load {VERSION}")
     parser.add_argument("--clients", type=int, default=8, help="how many ask at a time (8)")
     parser.add_argument("--rate", type=float, help="requests a second of all clients together; else as many as can be")
     parser.add_argument("--seconds", type=float, help="when to end; else with a signal")

@@ -5,11 +5,18 @@ from collections.abc import Iterator
 from typing import Any
 
 from .folder import say
+from .state import MEANINGS
 
 Status = dict[str, Any]
 KIND = "text/plain; version=0.0.4; charset=utf-8"
+# How ticks end; each has a line, so that an alert can be written before one has ended so.
+OUTCOMES = ("done", "nothing", "degraded")
 # What each metric means, and its type.
 METRICS = {
+    "prefork_state": ("gauge", "Whether the service is in this state: serves, changes, short or stopped."),
+    "prefork_workers_wanted": ("gauge", "Workers that are wanted."),
+    "prefork_workers_running": ("gauge", "Workers that were counted last and run."),
+    "prefork_failed_starts_total": ("counter", "Starts of workers that have failed."),
     "prefork_workers": ("gauge", "Workers that were counted last."),
     "prefork_workers_ended": ("gauge", "Workers that have ended since they were counted."),
     "prefork_worker_seconds": ("gauge", "For how long a worker has run."),
@@ -20,7 +27,7 @@ METRICS = {
     "prefork_keeper_up": ("gauge", "Whether the keeper runs."),
     "prefork_keeper_restarts_total": ("counter", "How often the keeper was started again."),
     "prefork_words_total": ("counter", "Words, by how they ended."),
-    "prefork_ticks_total": ("counter", "Ticks that masters were told."),
+    "prefork_ticks_total": ("counter", "Ticks that masters have carried out, by how they ended."),
     "prefork_last_word_done": ("gauge", "Whether the last word was done."),
     "prefork_busy": ("gauge", "Whether a word is being carried out."),
     "prefork_question": ("gauge", "The question that is asked, or 0."),
@@ -45,6 +52,11 @@ def labelled(name: str, value: float, **labels: object) -> str:
 def values_of(status: Status) -> Iterator[tuple[str, float, dict[str, object]]]:
     """Each metric with its value and its labels."""
     workers, last = status["workers"], status["last"]
+    for state in MEANINGS:
+        yield "prefork_state", int(state == status["state"]), {"state": state}
+    yield "prefork_workers_wanted", status["wanted"], {}
+    yield "prefork_workers_running", status["running"], {}
+    yield "prefork_failed_starts_total", status["failed_starts"], {}
     yield "prefork_workers", len(workers), {"generation": status["generation"] or "none"}
     yield "prefork_workers_ended", sum(not worker["process"] for worker in workers), {}
     for worker in workers:
@@ -60,7 +72,8 @@ def values_of(status: Status) -> Iterator[tuple[str, float, dict[str, object]]]:
     yield "prefork_keeper_restarts_total", status["keeper"]["restarts"], {}
     for count in status["counts"]:
         yield "prefork_words_total", count["count"], {"word": count["word"], "outcome": count["outcome"]}
-    yield "prefork_ticks_total", status["ticks"], {}
+    for outcome in (*OUTCOMES, *sorted(set(status["tick_outcomes"]) - set(OUTCOMES))):
+        yield "prefork_ticks_total", status["tick_outcomes"].get(outcome, 0), {"outcome": outcome}
     if last:
         yield "prefork_last_word_done", int(last["report"].startswith(("done", "nothing"))), {"word": last["word"]}
     yield "prefork_busy", int(status["doing"] is not None), {}

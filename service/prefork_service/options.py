@@ -7,9 +7,11 @@ import subprocess
 import sys
 from typing import Any
 
-from . import places
+from . import VERSION, places
+from .hooks import EVENTS
 from .keeper import add_socket_options
 from .limits import seconds_of, seconds_said
+from .sites import fault_of_site, is_site
 
 USAGE = """prefork-serve [OPTIONS] CONFIG -- PROGRAM ARGUMENT..
        prefork-serve [OPTIONS] --wsgi MODULE:APP CONFIG
@@ -53,6 +55,7 @@ def parser() -> argparse.ArgumentParser:
         prog="prefork-serve", usage=USAGE, allow_abbrev=False,
         description="Runs a service: a keeper of its sockets, a master and its workers.",
     )
+    made.add_argument("--version", action="version", version=f"prefork-serve {VERSION}")
     made.add_argument("--folder", default="run", help="where its sockets, its pid file and the blocks are (run)")
     made.add_argument("--prefork", default="prefork", help="the program of the master (prefork on the path)")
     answer = "kill a worker that owes its master an answer for SECONDS (60); 0 is without a limit"
@@ -66,6 +69,14 @@ def parser() -> argparse.ArgumentParser:
     measured = "write what Prometheus reads to this file, or answer it at HOST:PORT under /metrics"
     made.add_argument("--metrics", metavar="FILE-OR-ADDRESS", help=measured)
     made.add_argument("--page", metavar="ADDRESS", help="show the service on a page at HOST:PORT, or at a Unix socket")
+    public = "let --page and --metrics listen where others than this machine reach them; there is no password"
+    made.add_argument("--public", action="store_true", help=public)
+    for event, moment in EVENTS.items():
+        made.add_argument(f"--{event}", metavar="PROGRAM", help=f"start this program {moment}, with JSON on its input")
+    again = "go on trying if no worker has started, in place of ending with status 1"
+    made.add_argument("--keep-trying", action="store_true", help=again)
+    plain = "pass on what workers say as it is, without the time and the name of the worker before each line"
+    made.add_argument("--plain-log", action="store_true", help=plain)
     made.add_argument("--wsgi", metavar="MODULE:APP", help="a WSGI application; it is served by waitress")
     preload = "load the application once in each generation, and fork workers; PROGRAM is a preloader then"
     made.add_argument("--preload", action="store_true", help=preload)
@@ -106,6 +117,8 @@ def arguments(words: list[str]) -> argparse.Namespace:
     given.program = words[cut + 1 :]
     if cut < len(words) and not given.program:
         made.error("no PROGRAM after --")
+    if fault := fault_of_told(given):
+        made.error(fault)
     if given.wsgi and given.program:
         made.error("give --wsgi or a PROGRAM, not both")
     fault = None if given.wsgi or given.program and not given.preload else fault_of_limits(given)
@@ -126,6 +139,21 @@ def arguments(words: list[str]) -> argparse.Namespace:
         if strange and not is_for:
             made.error(f"{strange[0]} is an option of {kind}, and there is none")
     return given
+
+
+def hooks_of(given: argparse.Namespace) -> dict[str, str]:
+    """The programs that are told of events."""
+    named = {event: getattr(given, event.replace("-", "_")) for event in EVENTS}
+    return {event: program for event, program in named.items() if program}
+
+
+def fault_of_told(given: argparse.Namespace) -> str | None:
+    """What is wrong with what the service tells, if something is."""
+    sites = [("--page", given.page)] if given.page else []
+    sites += [("--metrics", given.metrics)] if given.metrics and is_site(given.metrics) else []
+    faults = [fault_of_site(option, text, given.public) for option, text in sites]
+    faults += [f"--{event}: {fault}" for event, program in hooks_of(given).items() if (fault := fault_of(program))]
+    return next(filter(None, faults), None)
 
 
 def fault_of_limits(given: argparse.Namespace) -> str | None:
@@ -208,8 +236,8 @@ def processes_each(given: argparse.Namespace) -> int:
     """How many processes and threads a worker is at least: those of its adapter and of the application."""
     threads = int(given.threads[-1]) if given.threads else WSGI_THREADS
     each = 2 + threads if given.wsgi else 3 if given.program and not given.preload else 1
-    # (and its shim)
-    return each + given.preload
+    # (and the process that reads what it says, and its shim)
+    return each + 1 + given.preload
 
 
 def checked(adapter: list[str], program: list[str], folder: str) -> list[str]:

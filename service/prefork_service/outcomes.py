@@ -11,6 +11,8 @@ OLD_SERVES = "the workers that run are of the version before. One that ends is s
 
 PRELOADER_SERVES = "the workers that run are of the version before. One that ends is forked again from the preloader that has " \
     "loaded that version, and only if the preloader has ended too, it is loaded from the files as they are then"
+# What its operator is told that has taken away the last worker.
+NOBODY_SERVES = "nobody serves: no worker is wanted, and connections wait until TTIN or HUP"
 
 
 def is_broken(word: str, block: str) -> bool:

@@ -11,7 +11,8 @@ from .burying import started
 from .chronicle import Done
 from .reasons import is_plain
 from .rehearsing import rehearsal
-from .status import LEFT_BEHIND, shown_doing
+from .state import times
+from .status import LEFT_BEHIND, asked, shown_doing, workers
 from .words import START
 
 Status = dict[str, Any]
@@ -28,6 +29,8 @@ td.number { text-align: right; font-variant-numeric: tabular-nums }
 th { font-weight: 600; border-bottom: 1px solid #bbb } pre { background: #f5f5f5; padding: .7rem; overflow-x: auto }
 .calls { display: flex; flex-wrap: wrap; gap: 1px } .calls i { width: 7px; height: 14px; background: #7fb58a }
 .calls i.wrong { background: #c62828 } .calls i.cause { outline: 2px solid #000 }
+.state { padding: .5rem .7rem; border-left: .4rem solid #1b5e20; background: #f5f5f5 }
+.state.short, .state.stopped { border-color: #a31515; font-weight: 600 } .state.changes { border-color: #8a6d00 }
 .done { color: #1b5e20 } .not-done { color: #a31515; font-weight: 600 } code { font-size: .95em }
 """
 
@@ -52,12 +55,30 @@ def workers_table(status: Status) -> str:
     rows = []
     for worker in status["workers"]:
         beat = worker["last_beat_seconds"]
-        told = f"{beat} s ago" if beat is not None else "none"
-        process = worker["process"] or "has ended"
+        told = f"beat {beat} s ago" if beat is not None else "no beat yet"
+        process = worker["process"] or "none"
+        told = told if worker["process"] else "has ended"
         rows.append(row(text(worker["generation"]), worker["number"], process, worker["seconds"] or 0, told))
+    for worker in status["others"]:
+        cells = (worker["number"], worker["process"], worker["seconds"], text(worker["state"]))
+        rows.append(row(text(worker["generation"]), *cells))
+    for one in status["failing"]:
+        told = f"has failed {times(one['failed'])}: {text(one['reason'])}; next try in {one['next_try_seconds']:.0f} s"
+        rows.append(row("", one["worker"], "none", 0, told))
     if not rows:
         return "<p>No worker runs.</p>"
-    return table(("generation", "worker", "process", "age, s", "last beat"), rows)
+    return table(("generation", "worker", "process", "age, s", "state"), rows)
+
+
+def band(status: Status) -> str:
+    """The state of the whole, and what is asked."""
+    asks = f"<p>{text(asked(status))}.</p>" if status["question"] else ""
+    return f'<p class="state {status["state"]}">{text(status["line"])}</p>{asks}'
+
+
+def said(errors: dict[str, list[str]]) -> str:
+    """What workers said last that did not start."""
+    return "".join(f"<br>worker {text(name)} said last:<pre>{text(chr(10).join(lines))}</pre>" for name, lines in errors.items())
 
 
 def masters_list(status: Status) -> str:
@@ -90,7 +111,8 @@ def timeline(words: Sequence[Done]) -> str:
         wrong = "".join(f"<br><code>{text(why)}</code>" for why in done.reasons)
         cause = f"<br>call that went wrong: <code>{text(done.cause)}</code>" if done.cause and not wrong else ""
         word = "start" if done.word == START else done.word
-        rows.append(row(text(done.began), text(word), f"{done.seconds:.2f} s", f"{report}{wrong}{cause}{drawn(done)}"))
+        told = f"{report}{wrong}{cause}{said(done.errors)}{drawn(done)}"
+        rows.append(row(text(done.began), text(word), f"{done.seconds:.2f} s", told))
     return table(("began", "word", "took", "what came of it"), rows) if rows else "<p>None yet.</p>"
 
 
@@ -99,11 +121,12 @@ def page_of(status: Status, words: Sequence[Done], plan: str) -> str:
     service = status["service"]
     changed = "<p>The file has changed since it was accepted.</p>" if status["file_has_changed"] else ""
     addresses = " ".join(status["addresses"]) or "none"
-    title = f"{len(status['workers'])} workers of generation {status['generation'] or 'none'}"
+    title = f"{status['running']} of {workers(status['wanted'])}, generation {status['generation'] or 'none'}"
     return f"""<!doctype html>
 <html lang="en"><head><meta charset="utf-8"><meta name="viewport" content="width=device-width">
 <title>{text(title)}</title><style>{STYLE}</style></head><body>
 <h1>{text(title)}</h1>
+{band(status)}
 <p>Service process {service["process"]} in {text(service["folder"])}, for {service["seconds"]} s. Addresses: {text(addresses)}.
 Now: {text(shown_doing(status))}.</p>
 <h2>Workers</h2>{workers_table(status)}

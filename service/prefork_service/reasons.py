@@ -68,6 +68,13 @@ def cause_of(block: str) -> str | None:
     return next((line for line in block.splitlines() if named and line.startswith(f"{named[1]} m")), None)
 
 
+def failed_workers(block: str) -> list[str]:
+    """The workers that a block has started in vain, by their names."""
+    calls = filter(None, map(CALL.fullmatch, block.splitlines()))
+    found = [f"{call[3]}.{call[4]}" for call in calls if call[2] == "await-ready" and call[4] and call[5] in ("gone", "late")]
+    return list(dict.fromkeys(found))
+
+
 def explained(block: str, noted: dict[str, str], others: Iterable[str] = ()) -> list[str]:
     """Each call of a block that went wrong, with the reason; calls that went wrong alike once. `others` are reasons
     that nobody has noted for one worker. However many starts have failed, one process is started to learn why."""

@@ -41,15 +41,16 @@ from .commands import PID_OF_MASTER, Commands, refusal_of
 from .convention import Unfit
 from .errors import take_standard
 from .folder import Folder, say
+from .hooks import Hooks
 from .keeper import DEFER, socket_options
 from .keeping import Keeping
 from .limits import limits_of, ready_seconds
 from .needs import addresses_of, needs_of, shortages
-from .options import arguments, fault_of, place_of, processes_each, program_of, worker_command
+from .options import arguments, fault_of, hooks_of, place_of, processes_each, program_of, worker_command
 from .preloading import Preloading
 from .records import MEGABYTE
 from .service import Service
-from .systemd import inherited, notify
+from .systemd import has_journal, inherited, notify
 from .titles import set_title
 
 
@@ -100,7 +101,11 @@ def serve(given: argparse.Namespace, folder: Folder, commands: Commands, stored:
             commands.preloading = Preloading(keeping.events, folder, commands.default, ready_seconds(given))
         service = Service(keeping, supervise, commands, chronicle, limits_of(given))
         service.telling.open(keeping.events, given.metrics, given.page)
-        return service.run()
+        service.keeps_trying, service.telling.hooks = given.keep_trying, Hooks(hooks_of(given))
+        status = service.run()
+        if service.failure:
+            sys.exit(f"prefork-serve: {service.failure}")
+        return status
     except Broken as fault:
         # As if it were killed: the next start finds workers and sockets as systemd has them.
         say(f"{fault}; it ends, and leaves everything as it is")
@@ -131,6 +136,7 @@ def main() -> int:
     os.environ |= {
         "PREFORK_KEEPER": str(folder.keeper), "PREFORK_PROGRAM": str(given.prefork), "PREFORK_FOLDER": str(folder.path),
         "PREFORK_PLACE": place_of(given),
+        "PREFORK_LOG": "plain" if given.plain_log else "named" if has_journal() else "timed",
     }
     try:
         commands = commands_of(given, folder)

@@ -1,5 +1,4 @@
 """The loop of a service: words to the master, one at a time, and their blocks to those that asked."""
-import os
 import selectors
 import sys
 import time
@@ -16,15 +15,17 @@ from .leaving import Leaving
 from .limits import end_seconds, known
 from .master import Master
 from .needs import addresses_of
-from .outcomes import OLD_SERVES, PRELOADER_SERVES, is_broken
+from .outcomes import NOBODY_SERVES, OLD_SERVES, PRELOADER_SERVES, is_broken
 from .patience import Hanging
 from .questions import line_of
 from .reasons import NEW_MASTER
-from .status import Record, Status, masters_of, started_workers, workers_of
+from .state import workers_in
+from .summary import Summary
 from .systemd import notify
 from .telling import Telling
-from .ticks import Ticks, pause_of, timeout_of
-from .words import CHANGES, NOTE, START, STOPS, Queue, Word
+from .ticks import Ticks, timeout_of
+from .watching import Watching
+from .words import CHANGES, NOTE, START, STOPS, TICK, Queue, Word
 
 # What comes of a tick comes in many small pieces, and nobody waits for it: what came in this time is read together.
 TOGETHER_SECONDS = 0.01
@@ -45,13 +46,17 @@ class Service:
         self.waiting = Queue()
         self.current: Word | None = None
         # The question that the current word asks, or 0.
-        self.question = 0
+        self.question, self.asked = 0, 0.0
         self.begun, self.ticks, self.is_stopped = 0.0, Ticks(), False
         self.has_heard, self.is_ready = False, False
-        self.record, self.began, self.starts = Record(), time.monotonic(), 0
+        self.watching, self.began, self.starts = Watching(keeping.folder), time.monotonic(), 0
+        self.record = self.watching.record
+        # Why the service ends that could not start, and whether it goes on trying in place of that.
+        self.failure, self.keeps_trying = "", False
         self.leaving = Leaving(self.folder.path, end_seconds(limits))
         self.hanging, self.status_of_end = Hanging(self), 0
-        self.telling = Telling(self.status, self.brief, self.line, chronicle)
+        self.summary = Summary(self)
+        self.telling = Telling(self.summary, chronicle)
         self.asking = Asking(self)
 
     def run(self) -> int:
@@ -60,6 +65,7 @@ class Service:
             self.turn()
         while self.waiting:
             self.waiting.next().answer("lost: the service has stopped\n")
+        self.watching.end_all()
         return self.status_of_end
 
     def turn(self) -> None:
@@ -79,9 +85,11 @@ class Service:
             duty(tend)
 
     def hurry(self) -> None:
-        """A worker may have ended: the next tick is due."""
-        if self.keeping.has_lost():
+        """Where a worker may have ended, the next tick is due."""
+        is_lost = self.keeping.has_lost()
+        if is_lost:
             self.ticks.hurry()
+        self.watching.look(is_lost)
 
     def forsake(self, source: Any) -> None:
         """A source of events has failed again and again."""
@@ -134,13 +142,15 @@ class Service:
         self.events.register(master.errors, selectors.EVENT_READ, self.hear_errors)
         self.master, self.current = master, Word(START)
         self.starts += 1
-        self.record.forget_workers()
+        text = self.commands.current_text
+        self.watching.begin_master(workers_in(text), timeout_of(text))
         self.barrier.duty(self.chronicle.begin_master, self.commands.now_text, master.process.pid)
         self.begin_word(self.current)
 
     def begin_word(self, word: Word) -> None:
         self.current = word
         self.barrier.duty(self.hanging.begin)
+        self.barrier.duty(self.watching.begin, word.text)
         self.barrier.duty(self.chronicle.begin_word, word.text)
         self.barrier.duty(self.telling.begin_word, word.text in CHANGES)
         if word.text in STOPS:
@@ -157,10 +167,16 @@ class Service:
         if self.master is None or self.current is not None:
             return
         if self.waiting:
-            self.begin_word(self.waiting.next())
+            word = self.waiting.next()
+            if word.text == TICK:
+                self.watching.begin(word.text)
+                word.text = self.ticks.tell(self.watching.pause())
+            self.begin_word(word)
+        elif self.ticks.is_due() and self.watching.wants_tick(self.ticks.told):
+            self.begin_word(Word(self.ticks.tell(self.watching.pause())))
         elif self.ticks.is_due():
-            pause = pause_of(len(self.record.workers), timeout_of(self.commands.current_text))
-            self.begin_word(Word(self.ticks.tell(pause)))
+            self.ticks.put_off()
+            return
         else:
             return
         try:
@@ -225,7 +241,7 @@ class Service:
 
     def ask(self, question: int) -> None:
         """The current word asks: no tick and no other word is told until it is answered."""
-        self.question = question
+        self.question, self.asked = question, time.monotonic()
         if self.current:
             say(f"{self.current.text} {line_of(question)}".rstrip())
             self.current.tell(line_of(question))
@@ -236,16 +252,23 @@ class Service:
             return
         report, self.has_heard = block.splitlines()[-1], True
         self.barrier.duty(self.commands.settle, report)
-        self.barrier.duty(self.record.note, block)
+        reasons = self.barrier.duty(self.chronicle.take_reasons, block) or {}
+        self.barrier.duty(self.watching.end, word.text, block, reasons)
         self.barrier.duty(self.leaving.note, block)
         self.barrier.duty(self.tell_of, word, block)
-        if not word.text.startswith("tick ") or not report.startswith("done"):
-            say(f"{word.text}: {report}")
+        # (what ticks leave missing is told once, by the state of the whole)
+        if not word.text.startswith("tick ") or not report.startswith(("done", "degraded")):
+            say(f"{'start' if word.text == START else word.text}: {report}")
         try:
             self.conclude(word, report, block)
         finally:
             word.answer(block)
-        if report.startswith("done") and not self.is_ready:
+        has_failed = word.text == START and report.startswith("degraded") and not self.record.workers
+        if has_failed and not self.is_ready and not self.keeps_trying:
+            # It would try for ever what its operator has to mend.
+            self.failure = f"no worker has started: {self.watching.why()}"
+            self.waiting.take(Word("INT"))
+        if (report.startswith("done") or self.record.workers) and not self.is_ready:
             self.is_ready = True
             notify("READY=1")
 
@@ -297,7 +320,9 @@ class Service:
             say(told)
             found.append(told)
         if word.text not in (START, *STOPS) and not word.text.startswith("tick "):
-            found.append(self.runs_now())
+            found.append(f"runs now: {self.summary.runs_now()}")
+            if word.text in ("TTOU", "WINCH") and not self.record.wanted:
+                found.append(NOBODY_SERVES)
         return found
 
     def mistake(self, word: Word, block: str) -> list[str]:
@@ -308,12 +333,6 @@ class Service:
             return [f"{self.commands.config} could not be read"]
         refusal = refusal_of(str(self.command[0]), self.commands.source())
         return [mistake_of(refusal)] if refusal else []
-
-    def runs_now(self) -> str:
-        """Who serves what, in a line."""
-        count, generation = len(self.record.workers), self.record.generation or "none"
-        addresses = " ".join(sorted(self.keeping.held)) or "no address"
-        return f"runs now: {count} worker{'' if count == 1 else 's'} of generation {generation} at {addresses}"
 
     def end_master(self) -> None:
         """The master has ended without having been told to."""
@@ -346,49 +365,6 @@ class Service:
     def doing(self) -> str | None:
         """The word that is being carried out, if it is no tick."""
         return self.current.text if self.current and not self.is_ticking() else None
-
-    def line(self) -> str:
-        """What runs and what was done last, in a line."""
-        last = self.chronicle.last_word()
-        if self.doing():
-            asks = f", asks question {self.question}" if self.question else ""
-            return f"carries out {self.doing()}{asks}"
-        told = f"; last word {last.word}: {last.report}" if last else ""
-        return f"{self.runs_now().removeprefix('runs now: ')}{told}"
-
-    def brief(self) -> Status:
-        """The part of the status for which no process is looked at; of workers it has the numbers."""
-        last = self.chronicle.last_word()
-        return {
-            "service": {
-                "process": os.getpid(), "seconds": int(time.monotonic() - self.began), "folder": str(self.folder.path),
-                "file": str(self.commands.config.absolute()), "prefork": str(self.command[0]),
-                "records": str(self.chronicle.records.place),
-            },
-            "addresses": sorted(self.keeping.held),
-            "lost_paths": self.keeping.lost_paths(),
-            "generation": self.record.generation,
-            "workers": self.record.workers,
-            "master_restarts": max(0, self.starts - 1),
-            "keeper": {
-                "process": self.keeping.process.pid if self.keeping.process else None, "restarts": self.keeping.restarts
-            },
-            "last": last.as_json() if last else None,
-            "counts": self.chronicle.counted(),
-            "ticks": self.ticks.count,
-            "doing": self.doing(),
-            "question": self.question,
-            "waiting": len(self.waiting),
-            "file_has_changed": self.commands.has_changed(),
-            "records_waiting": self.chronicle.waiting(),
-            **({"preloaders": self.commands.preloading.status()} if self.commands.preloading else {}),
-        }
-
-    def status(self) -> Status:
-        """Who runs, what was done last, and what is being done now."""
-        running, beats = started_workers(self.folder.workers), self.master.beats if self.master else {}
-        masters = masters_of(self.master.process.pid) if self.master else []
-        return {**self.brief(), "workers": workers_of(self.record, running, beats), "masters": masters}
 
     def take(self, word: Word) -> None:
         """Lets a word wait for its turn."""

@@ -7,8 +7,11 @@ from typing import Any
 
 from .folder import files_in
 from .questions import line_of
+from .state import times
 
 CENSUS = re.compile(r" census (\d+\.\d+) : counted (\S+)$", re.M)
+# How a block ends that says how many workers are wanted: all that were counted, or more by what each group lacks.
+WANTED = re.compile(r"(?:done|degraded target ([\d,]+)) cause ")
 TICKS = os.sysconf("SC_CLK_TCK")
 Status = dict[str, Any]
 LEFT_BEHIND = "an upgrade has left it; it passes words on. QUIT and a new start of the service end it"
@@ -25,10 +28,10 @@ def numbers_of(counted: str) -> list[int]:
 
 
 class Record:
-    """What blocks have told: which workers there are."""
+    """What blocks have told: which workers there are, and how many are wanted."""
 
     def __init__(self) -> None:
-        self.generation, self.workers = "", []
+        self.generation, self.workers, self.wanted = "", list[int](), 0
 
     def forget_workers(self) -> None:
         """A master has been started, and has counted nobody yet. Those of the one before are not its own."""
@@ -36,8 +39,13 @@ class Record:
 
     def note(self, block: str) -> None:
         counted = CENSUS.findall(block)
-        if counted:
-            self.generation, self.workers = counted[-1][0], numbers_of(counted[-1][1])
+        if not counted:
+            return
+        self.generation, self.workers = counted[-1][0], numbers_of(counted[-1][1])
+        # (USR1 counts those that it has told, and leaves the number that is wanted as it was)
+        found = WANTED.match(block.splitlines()[-1])
+        if found and not block.startswith("word USR1\n"):
+            self.wanted = len(self.workers) + sum(map(int, (found[1] or "0").split(",")))
 
 
 def fields_of(process: int) -> list[str]:
@@ -127,14 +135,44 @@ def workers_of(record: Record, running: dict[tuple[str, int], int], beats: dict[
     return found
 
 
+# A call of a worker, and what it does then.
+OF_WORKER = re.compile(r"\d+ m\d+ (fork|await-ready|quit|kill) (\d+\.\d+) (\d+).* : (\S+)")
+STATES = {("fork", "forked"): "starts", ("await-ready", "ready"): "is ready", ("quit", "ok"): "finishes", ("kill", "ok"): "ends"}
+
+
+def states_in(lines: list[str]) -> dict[tuple[str, int], str]:
+    """What workers do, as the lines of a block say that is not complete."""
+    found = {}
+    for call in filter(None, map(OF_WORKER.fullmatch, lines)):
+        if state := STATES.get((call[1], call[4])):
+            found[call[2], int(call[3])] = state
+    return found
+
+
+def others_of(record: Record, running: dict[tuple[str, int], int], lines: list[str]) -> list[Status]:
+    """The workers that run beside those that were counted last: they start, or finish. `lines` are those of a block that
+    is not complete."""
+    states, found = states_in(lines), []
+    for (generation, number), process in sorted(running.items()):
+        if generation != record.generation or number not in record.workers:
+            found.append({
+                "generation": generation, "number": number, "process": process, "seconds": age_of(process),
+                "state": states.get((generation, number), "starts" if lines and not record.generation else "finishes"),
+            })
+    return found
+
+
 def shown(status: Status) -> str:
     """A status in words."""
     service, keeper, last = status["service"], status["keeper"], status["last"]
     lines = [
         f"service     process {service['process']}, for {service['seconds']} s, in {service['folder']}",
+        f"state       {status['line']}",
+        *map(shown_failing, status["failing"]),
         f"addresses   {' '.join(status['addresses']) or 'none'}",
         f"generation  {status['generation'] or 'none'}, {workers(len(status['workers']))}",
         *map(shown_worker, status["workers"]),
+        *map(shown_other, status["others"]),
         *shown_masters(status["masters"], status["master_restarts"]),
         f"keeper      process {keeper['process'] or 'none'}, started again {times(keeper['restarts'])}",
         *map(shown_preloader, status.get("preloaders", [])),
@@ -160,6 +198,14 @@ def shown_worker(worker: Status) -> str:
     return f"worker {worker['number']:<4} process {worker['process']}, for {worker['seconds']} s, {told}"
 
 
+def shown_other(worker: Status) -> str:
+    return f"worker {worker['generation']}.{worker['number']} process {worker['process']}, for {worker['seconds']} s, {worker['state']}"
+
+
+def shown_failing(one: Status) -> str:
+    return f"next try    worker {one['worker']} in {one['next_try_seconds']:.0f} s: it has failed {times(one['failed'])}, {one['reason']}"
+
+
 def shown_masters(masters: list[int], restarts: int) -> list[str]:
     old = [f"old master  process {process}: {LEFT_BEHIND}" for process in masters[:-1]]
     reigning = f"process {masters[-1]}" if masters else "none runs"
@@ -168,12 +214,14 @@ def shown_masters(masters: list[int], restarts: int) -> list[str]:
 
 def shown_doing(status: Status) -> str:
     doing = f"carries out {status['doing']}" if status["doing"] else "waits for words"
-    asks = f", {line_of(status['question']).strip()}" if status["question"] else ""
+    asks = f", {asked(status)}" if status["question"] else ""
     return f"{doing}{asks}, {status['waiting']} more wait" if status["waiting"] else f"{doing}{asks}"
 
 
-def times(count: int) -> str:
-    return "once" if count == 1 else f"{count} times"
+def asked(status: Status) -> str:
+    """A question, since when it is asked, and what to type."""
+    question = line_of(status["question"]).strip()
+    return f"{question}, for {status['question_seconds']} s: type prefork-ctl go, or prefork-ctl back"
 
 
 def workers(count: int) -> str:

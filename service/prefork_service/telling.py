@@ -2,27 +2,33 @@
 import pathlib
 import selectors
 import time
-from collections.abc import Callable
-from typing import Any
 
 from . import metrics, page
-from .chronicle import Chronicle
+from .chronicle import Chronicle, Done
+from .folder import say
+from .hooks import OF_OUTCOMES, Hooks
 from .metrics import MetricsFile, metrics_of
 from .page import NextPlan, page_of
+from .sites import is_site
+from .state import SERVES, SHORT, Whole
+from .summary import Summary
 from .systemd import Watchdog, notify
 from .web import Site
 
-Status = dict[str, Any]
 # How often the file of metrics is written.
 FILE_SECONDS = 10.0
+# The pause of the loop while a state is about to be told.
+NEWS_SECONDS = 0.25
 
 
 class Telling:
-    """Systemd, metrics and page. `status` is what they tell of; `brief` is the part of it that costs little, and `line`
-    says it in one line."""
+    """Systemd, metrics and page. The summary is what they tell of."""
 
-    def __init__(self, status: Callable[[], Status], brief: Callable[[], Status], line: Callable[[], str], chronicle: Chronicle):
-        self.status, self.brief, self.line, self.chronicle = status, brief, line, chronicle
+    def __init__(self, summary: Summary, chronicle: Chronicle):
+        self.status, self.brief, self.line, self.chronicle = summary.status, summary.brief, summary.line, chronicle
+        self.summary, self.hooks = summary, Hooks({})
+        # The word that was told last to a hook.
+        self.last: Done | None = None
         self.sites: list[Site] = []
         self.file: MetricsFile | None = None
         self.plan: NextPlan | None = None
@@ -32,7 +38,7 @@ class Telling:
         """Opens the places that were asked for: a file or an address for metrics, and the address of the page. Raises
         OSError."""
         numbers = {"/metrics": lambda: (metrics.KIND, metrics_of(self.status()))}
-        if measured and ":" in measured and "/" not in measured:
+        if measured and is_site(measured):
             self.sites.append(Site(events, measured, numbers))
         elif measured:
             self.file = MetricsFile(pathlib.Path(measured).absolute())
@@ -54,19 +60,37 @@ class Telling:
         if self.is_reloading:
             self.is_reloading = False
             notify("READY=1")
+        done = self.chronicle.last_word()
+        if done and done is not self.last:
+            self.last = done
+            told = {**done.as_json(), "lines": done.block.splitlines()}
+            self.hooks.tell(OF_OUTCOMES.get(done.report.split()[0], ""), {"folder": self.summary.folder(), **told})
 
     def tend(self) -> None:
         self.watchdog.tend()
+        if news := self.summary.news():
+            self.tell_state(*news)
         line = self.line()
         if line != self.told:
             self.told = line
             notify(f"STATUS={line}")
+        self.hooks.tend()
         for site in self.sites:
             site.tend()
         if self.plan:
             self.plan.tend(self.brief())
         if self.file and time.monotonic() - self.written > FILE_SECONDS:
             self.write()
+
+    def tell_state(self, whole: Whole, before: Whole | None) -> None:
+        """Says another state of the whole to people."""
+        line = f"{SERVES}: {self.summary.runs_now()}" if whole.state == SERVES else whole.line
+        say(line)
+        self.chronicle.journal.note(line)
+        is_healed = before and before.state == SHORT and whole.state != SHORT
+        event = "on-short" if whole.state == SHORT else "on-healed" if is_healed else ""
+        told = {**whole.as_json(), **self.summary.failing(), "runs_now": self.summary.runs_now()}
+        self.hooks.tell(event, {"folder": self.summary.folder(), **told})
 
     def write(self) -> None:
         """Writes the file of metrics, if there is one."""
@@ -76,9 +100,10 @@ class Telling:
 
     def seconds(self) -> float:
         """How long the loop may wait at most."""
-        return self.watchdog.every
+        return min(self.watchdog.every, NEWS_SECONDS if self.summary.has_news() else self.watchdog.every)
 
     def end(self) -> None:
+        self.hooks.end()
         for site in self.sites:
             site.end()
         if self.file:

@@ -44,6 +44,10 @@ class Ticks:
         """How long until the next one."""
         return max(0.0, self.due - time.monotonic())
 
+    def put_off(self) -> None:
+        """A tick that is due would do nothing: it is asked again later."""
+        self.due = time.monotonic() + LEAST_SECONDS
+
     def hurry(self) -> None:
         """A worker may have ended: the next one is due as soon as one may be told."""
         self.due = min(self.due, self.told + LEAST_SECONDS)

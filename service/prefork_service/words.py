@@ -9,6 +9,8 @@ ATTENDED = "USR2 attended"
 WORDS = (*SIGNALS, ATTENDED)
 # Asked in place of a word: what runs.
 STATUS = "status"
+# Said by an operator: a tick now, which tries again what has failed.
+TICK = "tick"
 # What a master that starts carries out.
 START = "tick 0"
 # Words at which the configuration is read again.

@@ -24,7 +24,7 @@ import traceback
 from collections.abc import Callable
 from typing import Any
 
-from . import convention
+from . import VERSION, convention
 from .convention import Hold, Pipes, Unfit, clear_environment, is_known_late, note_late, warn
 from .probing import probe, warm
 from .proxies import corrected, proxy_of
@@ -154,6 +154,7 @@ def arguments() -> argparse.Namespace:
     parser = argparse.ArgumentParser(
         prog="prefork-wsgi", description="A worker of a Prefork master that serves a WSGI application."
     )
+    parser.add_argument("--version", action="version", version=f"prefork-wsgi {VERSION}")
     parser.add_argument("--threads", type=int, default=4, help="how many requests it answers at a time (4)")
     for option, kind, seconds, text in (
         ("--timeout", float, 30.0, "end if all threads have been at one request for this long (30)"),

@@ -14,7 +14,9 @@ STATUS = {
     "masters": [3, 4], "master_restarts": 1, "keeper": {"process": 5, "restarts": 2},
     "last": {"word": "HUP", "report": "rolled-back cause 2 pid no-file"}, "doing": None, "question": 0, "waiting": 3,
     "counts": [{"word": "USR2 attended", "outcome": "done", "count": 4}], "file_has_changed": True, "records_waiting": 0,
-    "ticks": 59,
+    "ticks": 59, "tick_outcomes": {"nothing": 50, "degraded": 8, "lost": 1}, "question_seconds": 0, "others": [],
+    "state": "short", "wanted": 3, "running": 1, "failed_starts": 21, "line": "short: wanted 3, runs 1: worker 2 has failed",
+    "failing": [{"worker": 2, "failed": 21, "reason": "it <ended>", "next_try_seconds": 9.0}],
 }
 
 
@@ -28,7 +30,10 @@ class MetricsTest(unittest.TestCase):
             "prefork_master_restarts_total 1", "prefork_keeper_up 1", "prefork_keeper_restarts_total 2",
             'prefork_words_total{word="USR2 attended",outcome="done"} 4', 'prefork_last_word_done{word="HUP"} 0',
             "prefork_busy 0", "prefork_words_waiting 3", "prefork_file_has_changed 1", "prefork_service_seconds 60",
-            "prefork_addresses 1", "prefork_ticks_total 59",
+            "prefork_addresses 1", 'prefork_ticks_total{outcome="nothing"} 50', 'prefork_ticks_total{outcome="degraded"} 8',
+            'prefork_ticks_total{outcome="done"} 0', 'prefork_ticks_total{outcome="lost"} 1', 'prefork_state{state="short"} 1',
+            'prefork_state{state="serves"} 0', "prefork_workers_wanted 3", "prefork_workers_running 1",
+            "prefork_failed_starts_total 21",
         ):
             self.assertIn(line, lines)
         self.assertFalse([line for line in lines if "number=\"1\"" in line])

@@ -44,10 +44,11 @@ def read(text: str) -> Reader:
 
 class PageTest(unittest.TestCase):
     def test_it_says_who_runs_what_was_done_and_the_plan(self) -> None:
-        done = Done("HUP", "2026-01-01T00:00:00+00:00", 1.5, BLOCK, [WHY])
+        done = Done("HUP", "2026-01-01T00:00:00+00:00", 1.5, BLOCK, [WHY], {"1.2.0": ["ZeroDivisionError: <x>"]})
         found = read(page_of(STATUS, [done], "plan steps 3 longest 3\n1 m1 <x>"))
         self.assertNotIn("script", found.kinds)
-        for wanted in ("2 workers of generation 1.2", "has ended", "1 s ago", "old master, process 3:", "master: process 4",
+        for wanted in ("1 of 3 workers, generation 1.2", "has ended", "beat 1 s ago", "short: wanted 3, runs 1",
+                       "has failed 21 times: it <ended>; next try in 9 s", "worker 1.2.0 said last:", "ZeroDivisionError: <x>", "old master, process 3:", "master: process 4",
                        "rolled-back cause 2 pid no-file", WHY, "1.50 s", "plan steps 3 longest 3\n1 m1 <x>", "127.0.0.1:8080",
                        "The file has changed", "3 more wait"):
             self.assertIn(wanted, found.said)
@@ -64,7 +65,7 @@ class PageTest(unittest.TestCase):
         self.assertTrue(said.index("TTIN") < said.index("HUP") < said.index("start"))
 
     def test_without_anything(self) -> None:
-        status = {**STATUS, "workers": [], "masters": [], "generation": ""}
+        status = {**STATUS, "workers": [], "failing": [], "masters": [], "generation": ""}
         self.assertIn("No worker runs.", read(page_of(status, [], "")).said)
 
 

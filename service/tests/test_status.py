@@ -7,7 +7,7 @@ import time
 import unittest
 
 from kit import PYTHON, until
-from prefork_service.status import Record, age_of, descends, masters_of, numbers_of, shown, started_workers, workers_of
+from prefork_service.status import Record, others_of, age_of, descends, masters_of, numbers_of, shown, started_workers, workers_of
 
 BLOCK = "word HUP\n1 m1 census 1.1 : counted 0-2\n2 m1 census 1.2 : counted 0-1,3\ndone cause none pid no-file\n"
 
@@ -90,6 +90,30 @@ class ProcessesTest(unittest.TestCase):
         self.assertIn(found[0]["last_beat_seconds"], range(max(0, int(time.monotonic()) - moment) + 1))
 
 
+class WantedTest(unittest.TestCase):
+    def test_how_many_workers_are_wanted(self) -> None:
+        record = Record()
+        record.wanted = 9
+        for word, census, report, wanted in (
+            ("HUP", "counted 0-3", "done cause none pid no-file", 4), ("tick 7", "counted 0-1", "degraded target 2 cause 1 pid no-file", 4),
+            ("TTIN", "counted 0-1", "rolled-back cause 1 pid no-file", 4), ("HUP", "counted 0", "degraded old 1 cause 1 pid no-file", 4),
+            ("USR1", "counted 0-1", "done cause none pid no-file", 4), ("tick 8", "counted 0", "degraded target 0,2 cause 1 pid no-file", 3),
+            ("WINCH", "counted none", "done cause none pid no-file", 0),
+        ):
+            record.note(f"word {word}\n1 m1 census 1.1 : {census}\n{report}\n")
+            self.assertEqual(record.wanted, wanted, (word, report))
+        record.note("word tick 9\nnothing\n")
+        self.assertEqual((record.wanted, record.workers), (0, []))
+
+    def test_workers_that_start_and_finish(self) -> None:
+        record = Record()
+        record.note("word HUP\n1 m1 census 1.1 : counted 0\ndone cause none pid no-file\n")
+        lines = ["word HUP", "1 m1 fork 1.2 0 : forked", "2 m1 fork 1.2 1 fds 3 : forked", "3 m1 await-ready 1.2 0 : ready"]
+        running = {("1.1", 0): 1, ("1.0", 0): 1, ("1.2", 0): 1, ("1.2", 1): 1}
+        found = [(f"{it['generation']}.{it['number']}", it["state"]) for it in others_of(record, running, lines)]
+        self.assertEqual(found, [("1.0.0", "finishes"), ("1.2.0", "is ready"), ("1.2.1", "starts")])
+
+
 class ShownTest(unittest.TestCase):
     def test_a_status_in_words(self) -> None:
         worker = {"generation": "2.2", "number": 0, "process": 7, "seconds": 9, "last_beat_seconds": 1}
@@ -98,14 +122,18 @@ class ShownTest(unittest.TestCase):
             "generation": "2.2", "workers": [worker, {**worker, "number": 1, "process": None}], "masters": [3, 4],
             "master_restarts": 1, "keeper": {"process": 5, "restarts": 0},
             "last": {"word": "USR2", "report": "done", "at": "2026-01-01T00:00:00+00:00", "reasons": ["2 m1 x: why"]}, "doing": "HUP", "question": 1,
-            "waiting": 2, "file_has_changed": True,
+            "waiting": 2, "file_has_changed": True, "question_seconds": 7, "line": "changes: HUP",
+            "others": [{"generation": "2.3", "number": 0, "process": 8, "seconds": 1, "state": "is ready"}],
+            "failing": [{"worker": 1, "failed": 2, "reason": "it ended", "next_try_seconds": 3.9}],
         }
         said = shown(status)
         for wanted in (
             "worker 0    process 7, for 9 s, beat 1 s ago\n", "worker 1    has ended\n",
             "master      process 4, started again once\n", "old master  process 3: an upgrade has left it",
             "last word   USR2 at 2026-01-01T00:00:00+00:00: done\n", "because     2 m1 x: why\n",
-            "now         carries out HUP, asks 1: old and new workers serve, 2 more wait\n", "file        has changed",
+            "now         carries out HUP, asks 1: old and new workers serve, for 7 s: type prefork-ctl go, or prefork-ctl back, "
+            "2 more wait\n", "file        has changed", "state       changes: HUP\n",
+            "worker 2.3.0 process 8, for 1 s, is ready\n", "next try    worker 1 in 4 s: it has failed 2 times, it ended\n",
         ):
             self.assertIn(wanted, said)
         quiet = {**status, "last": None, "doing": None, "question": 0, "waiting": 0, "masters": [], "file_has_changed": False}

@@ -12,9 +12,12 @@ import unittest
 from typing import Any
 
 from kit import BIN, PROGRAMS, answer_of, built, free_address, until
+from prefork_service.hooks import EVENTS
 
 SECONDS = 60
 BACK = "1 m1 fork 1.2 0 : forked\n2 m1 await-ready 1.2 0 : gone\n3 m1 census 1.1 : counted 0-1\nrolled-back cause 2 pid no-file\n"
+NONE = "1 m1 fork 1.1 0 : forked\n2 m1 fork 1.1 1 : forked\n3 m1 await-ready 1.1 0 : gone\n4 m1 await-ready 1.1 1 : gone\n" \
+    "5 m1 census 1.1 : counted none\ndegraded target 2 cause 3 pid no-file\n"
 
 
 class Systemd:
@@ -158,6 +161,75 @@ class WholeTest(unittest.TestCase):
     def answer(self, address: str, path: str) -> str:
         return answer_of(address, path, SECONDS)
 
+    def test_a_first_start_without_a_worker_fails(self) -> None:
+        """The service ends with status 1 and the reason, unless it is told to go on."""
+        self.environment["WORKERS"] = "0"
+        (self.blocks / "tick").write_text(NONE)
+        command = [BIN / "prefork-serve", "--prefork", PROGRAMS / "master.py", "site.toml"]
+        found = subprocess.run(command, cwd=self.room, env=self.environment, capture_output=True, text=True, timeout=SECONDS)
+        self.assertEqual(found.returncode, 1)
+        self.assertIn("prefork-serve: no worker has started: workers 0, 1 have failed 2 times, last: await-ready: gone\n", found.stderr)
+        self.start("--keep-trying")
+        self.assertTrue(until(lambda: self.status()["state"] == "short"))
+        status = self.status()
+        self.assertEqual((status["wanted"], status["running"]), (2, 0))
+        self.assertEqual([it["worker"] for it in status["failing"]], [0, 1])
+        self.assertTrue(until(lambda: "short: wanted 2, runs 0: workers 0, 1 have failed" in self.said.read_text()))
+        for number in range(2):
+            (self.folder / "workers" / f"1.1.{number}").write_text(f"{self.serve.pid}\n")
+        (self.blocks / "tick").write_text("1 m1 census 1.1 : counted 0-1\ndone cause none pid no-file\n")
+        found = self.ctl("tick")
+        self.assertEqual((found.returncode, found.stdout.splitlines()[-1]), (0, "done cause none pid no-file"))
+        self.assertRegex(found.stdout, r"\Aword tick \d+\n")
+
+    def test_it_is_waited_for_a_state_and_hooks_are_told(self) -> None:
+        hook = self.room / "hook"
+        hook.write_text('#!/bin/sh\ncat >"$0.$1.new"; mv "$0.$1.new" "$0.$1"\n')
+        hook.chmod(0o755)
+        options = [word for event in EVENTS for word in (f"--{event}", str(hook))]
+        self.assertEqual(self.ctl("--wait", "serves", "--seconds", "0", "status").returncode, 1)
+        self.assertEqual(self.ctl("--wait", "stopped", "status").stdout, "stopped: no service in run\n")
+        self.start(*options)
+        found = self.ctl("--wait", "serves", "status")
+        self.assertEqual(found.returncode, 0)
+        self.assertIn("state       serves: wanted 2, runs 2\n", found.stdout)
+        self.assertEqual(self.ctl("--wait", "short", "--seconds", "0.1", "status").returncode, 1)
+
+        def told(event: str) -> Any:
+            file = self.room / f"hook.{event}"
+            self.assertTrue(until(file.exists), (event, self.said.read_text()))
+            return json.loads(file.read_text())
+        self.assertEqual(self.ctl("reload").returncode, 0)
+        self.assertEqual((told("on-done")["word"], told("on-done")["report"]), ("HUP", "done cause none pid no-file"))
+        (self.blocks / "HUP").write_text(BACK)
+        self.assertEqual(self.ctl("hup").returncode, 3)
+        self.assertEqual(told("on-rolled-back")["cause"], "2 m1 await-ready 1.2 0 : gone")
+        worker = self.folder / "workers" / "1.1.1"
+        process = worker.read_text()
+        worker.unlink()
+        short = told("on-short")
+        self.assertEqual((short["state"], short["wanted"], short["running"]), ("short", 2, 1))
+        self.assertEqual(self.ctl("--wait", "short", "status").returncode, 0)
+        worker.write_text(process)
+        self.assertEqual(told("on-healed")["state"], "serves")
+        said = self.said.read_text()
+        lines = [line for line in said.splitlines() if "serves: " in line or "short: " in line]
+        runs = f"prefork-serve: serves: 2 workers of generation 1.1 at {self.address}"
+        self.assertEqual(lines, [runs, "prefork-serve: short: wanted 2, runs 1: 1 of 2 workers ended", runs])
+
+    def test_words_that_are_not_known(self) -> None:
+        self.start()
+        for words, near in ((("HUPP",), "Do you mean HUP?"), (("restart",), ""), (("USR2", "attendd"), "Do you mean USR2 attended?")):
+            found = self.ctl(*words)
+            self.assertEqual((found.returncode, found.stdout), (2, "unread W1\n"))
+            self.assertIn(near, found.stderr)
+        (self.blocks / "TTOU").write_text("1 m1 census 1.1 : counted none\ndone cause none pid no-file\n")
+        (self.blocks / "tick").write_text("nothing\n")
+        self.assertIn("nobody serves: no worker is wanted, and connections wait until TTIN or HUP\n", self.ctl("ttou").stderr)
+        self.assertEqual(self.ctl("--wait", "stopped", "status").returncode, 0)
+        found = self.ctl("--folder", "nowhere", "HUP")
+        self.assertIn("no service in nowhere: No such file or directory. Name its folder: --folder F, or", found.stderr)
+
     def test_systemd_is_told(self) -> None:
         systemd = Systemd(self.room / "notify")
         self.addCleanup(systemd.close)
@@ -191,7 +263,7 @@ class WholeTest(unittest.TestCase):
         self.assertIn('prefork_words_total{word="HUP",outcome="rolled-back"} 1\n', self.answer(measured, "/metrics"))
         self.assertTrue(until(lambda: "plan --why --from" in self.answer(seen, "/"), SECONDS))
         page = self.answer(seen, "/")
-        for wanted in ("2 workers of generation 1.1", "rolled-back cause 2 pid no-file", "2 m1 await-ready 1.2 0 : gone"):
+        for wanted in ("2 of 2 workers, generation 1.1", "serves: wanted 2, runs 2", "rolled-back cause 2 pid no-file", "2 m1 await-ready 1.2 0 : gone"):
             self.assertIn(wanted, page)
         self.assertIn("prefork_workers", self.answer(seen, "/metrics"))
         self.end()

@@ -34,7 +34,15 @@ def upgrade() -> str:
     return "word USR2\n1 m1 spawn-master 2 : spawned\n2 m2 adopt : master-gone\nrolled-back cause 2 pid no-file\n"
 
 
+def note_workers() -> None:
+    """Is the process of each worker: as many run as are counted."""
+    place = pathlib.Path(os.environ.get("PREFORK_FOLDER", "/nowhere")) / "workers"
+    for number in range(COUNT if place.exists() else 0):
+        (place / f"1.1.{number}").write_text(f"{os.getpid()}\n")
+
+
 def supervise() -> None:
+    note_workers()
     if (PLACE / "arguments").exists():
         (PLACE / "arguments").write_text(" ".join(sys.argv[1:]))
     print(block_of("tick 0"), end="", flush=True)

@@ -1,0 +1,18 @@
+# Fish completion for prefork-ctl. To use it: put this file into ~/.config/fish/completions.
+
+set -l words status tick plan explore certify go back reload upgrade log-rotate stop HUP USR1 USR2 WINCH TTIN TTOU QUIT INT TERM
+complete -c prefork-ctl -f
+complete -c prefork-ctl -n "not __fish_seen_subcommand_from $words" -a "$words"
+complete -c prefork-ctl -n "__fish_seen_subcommand_from plan explore" -a "HUP USR1 USR2 WINCH TTIN TTOU QUIT INT TERM"
+complete -c prefork-ctl -n "__fish_seen_subcommand_from USR2 upgrade" -a attended
+complete -c prefork-ctl -l folder -r -a "(__fish_complete_directories)" -d "the folder of the service"
+complete -c prefork-ctl -l json -d "print as JSON"
+complete -c prefork-ctl -l wait -x -a "serves changes short stopped" -d "ask until the service is in this state"
+complete -c prefork-ctl -l seconds -x -d "for how long at most"
+complete -c prefork-ctl -l events -x -a "1 2" -d "at most a number of events in a run"
+complete -c prefork-ctl -l forbid -x -a degraded -d "what must not be"
+complete -c prefork-ctl -l require -x -a done -d "what must be"
+complete -c prefork-ctl -l least -x -d "the fewest ready workers"
+complete -c prefork-ctl -l records -r -d "where the records are"
+complete -c prefork-ctl -l prefork -r -d "the program of the master"
+complete -c prefork-ctl -l version -d "print the version"

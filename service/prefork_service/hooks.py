@@ -1,0 +1,84 @@
+"""Programs of an operator that are told what happens: each gets it as JSON on its standard input. Nobody waits for them."""
+import json
+import os
+import signal
+import subprocess
+import time
+from typing import Any
+
+from .folder import say
+
+# The options that name a program, and when it is started.
+EVENTS = {
+    "on-done": "once a word was done",
+    "on-rolled-back": "once a word was rolled back",
+    "on-degraded": "once a word has left the service short",
+    "on-short": "once fewer workers run than are wanted",
+    "on-healed": "once as many workers run as are wanted again",
+}
+OF_OUTCOMES = {"done": "on-done", "rolled-back": "on-rolled-back", "degraded": "on-degraded"}
+# How long such a program may run, how many may run at a time, and how long the last ones may take at the end of the service.
+SECONDS, MOST, END_SECONDS = 30.0, 8, 2.0
+# What systemd tells prefork-serve alone.
+OF_SYSTEMD = ("LISTEN_", "NOTIFY_SOCKET", "WATCHDOG_")
+
+
+class Hooks:
+    """The programs of each event, and those that run."""
+
+    def __init__(self, programs: dict[str, str]):
+        self.programs = programs
+        self.running: list[tuple[subprocess.Popen, str, float]] = []
+
+    def tell(self, event: str, told: dict[str, Any]) -> None:
+        """Starts the program of an event, if it has one."""
+        program = self.programs.get(event)
+        if not program:
+            return
+        if len(self.running) >= MOST:
+            say(f"--{event} is not started: {MOST} such programs run still")
+            return
+        text = os.memfd_create(event)
+        environment = {name: value for name, value in os.environ.items() if not name.startswith(OF_SYSTEMD)}
+        try:
+            os.write(text, json.dumps({"event": event, **told}).encode() + b"\n")
+            os.lseek(text, 0, os.SEEK_SET)
+            streams: dict[str, Any] = {"stdin": text, "stdout": subprocess.DEVNULL, "env": environment}
+            found = subprocess.Popen([program, event], start_new_session=True, **streams)
+            self.running.append((found, event, time.monotonic() + SECONDS))
+        except OSError as fault:
+            say(f"--{event}: {program}: {fault.strerror}")
+        finally:
+            os.close(text)
+
+    def tend(self) -> None:
+        """Buries those that have ended, and kills those that take too long."""
+        left = []
+        for process, event, until in self.running:
+            status = process.poll()
+            if status is None and time.monotonic() < until:
+                left.append((process, event, until))
+            elif status is None:
+                say(f"--{event}: {process.args[0]} has not ended after {SECONDS:g} seconds, and is killed")  # type: ignore[index]
+                kill(process)
+            elif status:
+                say(f"--{event}: {process.args[0]} has ended with status {status}")  # type: ignore[index]
+        self.running = left
+
+    def end(self) -> None:
+        """The last ones may take a moment."""
+        until = time.monotonic() + END_SECONDS
+        for process, _, _ in self.running:
+            try:
+                process.wait(max(0.0, until - time.monotonic()))
+            except subprocess.TimeoutExpired:
+                kill(process)
+
+
+def kill(process: subprocess.Popen) -> None:
+    """Kills a program with what it has started."""
+    try:
+        os.killpg(process.pid, signal.SIGKILL)
+    except OSError:
+        process.kill()
+    process.wait()

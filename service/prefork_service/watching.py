@@ -1,0 +1,81 @@
+"""What is wanted of a service beside what runs: looked at all the while, and told where it has changed."""
+import time
+from typing import Any
+
+from .folder import Folder
+from .state import News, Whole, whole_of
+from .status import Record, started_workers
+from .ticks import pause_of
+from .trying import Trying
+from .words import START
+
+
+class Watching:
+    """The workers that are wanted, those that were counted last, those of them that run, and those that fail to start."""
+
+    def __init__(self, folder: Folder):
+        self.folder, self.record, self.news = folder, Record(), News()
+        self.trying = Trying(folder.path / "waiting")
+        # How many of the workers that were counted run, how many have ended since, and when it is looked again.
+        self.running, self.lost, self.next_look = 0, 0, 0.0
+        self.is_started, self.timeout = False, 60
+
+    def begin_master(self, wanted: int, timeout: int) -> None:
+        """A master is started, which has counted nobody yet."""
+        self.record.forget_workers()
+        self.record.wanted, self.timeout, self.next_look = wanted, timeout, 0.0
+        self.trying.begin_word(time.monotonic())
+
+    def begin(self, word: str) -> None:
+        """A word is told to the master."""
+        if word.startswith("tick ") and word != START:
+            self.trying.begin_tick(time.monotonic())
+        else:
+            self.trying.begin_word(time.monotonic())
+
+    def end(self, word: str, block: str, reasons: dict[str, str]) -> None:
+        """Takes a block, and why workers have ended in it."""
+        self.record.note(block)
+        self.is_started, self.next_look = True, 0.0
+        if word.startswith("tick "):
+            self.trying.note(block, reasons, time.monotonic())
+        self.trying.forget_others(self.record.wanted, self.record.workers)
+        self.look()
+
+    def look(self, is_lost: bool = False) -> None:
+        """Counts the workers that run: once in a while, and where one may have ended."""
+        now = time.monotonic()
+        if now < self.next_look and not is_lost:
+            return
+        self.next_look = now + self.pause()
+        found = started_workers(self.folder.workers)
+        self.running = sum((self.record.generation, number) in found for number in self.record.workers)
+        self.lost = len(self.record.workers) - self.running
+
+    def pause(self) -> float:
+        return pause_of(len(self.record.workers), self.timeout)
+
+    def wants_tick(self, told: float) -> bool:
+        """Whether a tick would do more than to repeat what has failed; `told` is when the last one was told."""
+        now, missing = time.monotonic(), self.record.wanted - len(self.record.workers)
+        # Where no worker runs, none can be overdue.
+        since = now - told if self.record.workers else 0.0
+        return self.trying.wants_tick(missing, self.lost > 0, since, self.timeout, now)
+
+    def whole(self, word: str | None) -> Whole:
+        return whole_of(word, self.is_started, self.record.wanted, self.running, self.why())
+
+    def why(self) -> str:
+        """Why fewer workers run than are wanted."""
+        if self.trying.failing:
+            return self.trying.why()
+        return f"{self.lost} of {len(self.record.workers)} workers ended" if self.lost else ""
+
+    def as_json(self, word: str | None) -> dict[str, Any]:
+        now = time.monotonic()
+        return {
+            **self.whole(word).as_json(), "failing": self.trying.as_json(now), "failed_starts": self.trying.total,
+        }
+
+    def end_all(self) -> None:
+        self.trying.unmark()
