@@ -1,0 +1,178 @@
+"""A service that is short, for each of six reasons: status, JSON, metrics, page, systemd and hooks tell the same, and that it
+is over."""
+import json
+import os
+import pathlib
+import resource
+import signal
+import socket
+import subprocess
+from collections.abc import Callable
+from typing import Any
+
+from gate.addresses import answer_of, free_address
+from gate.waiting import SECONDS, until
+from web.site import BIN, BROKEN, Scenario, Site, text_of
+from web.systemd import Systemd
+
+EVENTS = ("on-short", "on-healed")
+HOOK = '#!/bin/sh\ncat >"$0.$1.new" && mv "$0.$1.new" "$0.$1"\n'
+# Goes into the application: what its start needs, and does not get while a file is there.
+NEEDS = """
+if sys.argv[1:] == ["child"] and os.path.exists({there!r}):
+    {needs}
+"""
+BIND = "import socket; host, _, port = {address!r}.rpartition(':'); socket.socket().bind((host, int(port)))"
+ALLOCATE = "import resource; resource.setrlimit(resource.RLIMIT_AS, (1 << 28, 1 << 28)); bytearray(1 << 30)"
+
+
+class Views:
+    """All that tells of a service."""
+
+    def __init__(self, site: Site):
+        self.site, self.page, self.hook = site, free_address(), site.room / "hook"
+        self.hook.write_text(HOOK)
+        self.hook.chmod(0o755)
+        self.systemd = Systemd(site.room / "notify")
+        site.environment["NOTIFY_SOCKET"] = str(self.systemd.path)
+        site.options = ["--page", self.page, *(word for event in EVENTS for word in (f"--{event}", str(self.hook)))]
+
+    def ctl(self, *words: str) -> str:
+        command: list[Any] = [BIN / "prefork-ctl", "--folder", self.site.run, *words]
+        return subprocess.run(command, capture_output=True, text=True, env=self.site.environment, timeout=SECONDS).stdout
+
+    def told_to_systemd(self) -> str:
+        said = [text.removeprefix("STATUS=") for text in self.systemd.said if text.startswith("STATUS=")]
+        return said[-1] if said else ""
+
+    def told_to_hook(self, event: str) -> dict:
+        file = pathlib.Path(f"{self.hook}.{event}")
+        return json.loads(file.read_text()) if file.exists() else {}
+
+    def forget_hooks(self) -> None:
+        for event in EVENTS:
+            pathlib.Path(f"{self.hook}.{event}").unlink(missing_ok=True)
+
+    def differences(self, state: str, running: int, why: str) -> list[str]:
+        """Where something else is told than this state of two workers that are wanted, and this reason."""
+        status, page = json.loads(self.ctl("--json", "status") or "{}"), answer_of(self.page)
+        metrics = answer_of(self.page, "/metrics").splitlines()
+        text, hook = self.ctl("status"), self.told_to_hook("on-short" if state == "short" else "on-healed")
+        line = f"{state}: wanted 2, runs {running}"
+        named = line if state == "short" else f"{running} workers of generation "
+        looks = {
+            "json": (status.get("state"), status.get("wanted"), status.get("running")) == (state, 2, running),
+            "status": f"state       {line}" in text, "page": f'class="state {state}"' in page and line in page,
+            "metrics": {f'prefork_state{{state="{state}"}} 1', "prefork_workers_wanted 2", f"prefork_workers_running {running}"}
+            <= set(metrics), "systemd": self.told_to_systemd().startswith(named),
+            "hook": (hook.get("state"), hook.get("wanted"), hook.get("running")) == (state, 2, running),
+        }
+        reasons = {"json": status.get("line", ""), "status": text, "page": page, "systemd": self.told_to_systemd()}
+        wrong = [name for name, is_well in looks.items() if not is_well]
+        return wrong + [f"{name}: not {why}" for name, said in reasons.items() if state == "short" and why not in said]
+
+    def agree(self, what: str, state: str, running: int, why: str = "") -> None:
+        """Waits until all tell the same."""
+        found: list[str] = []
+
+        def holds() -> bool:
+            try:
+                found[:] = self.differences(state, running, why)
+            except (OSError, ValueError) as fault:
+                found[:] = [f"nobody answers: {fault}"]
+            return not found
+        try:
+            until(f"all tell of {what}", holds)
+        except Exception:
+            self.site.check(f"{what}: {found}; {self.ctl('status')}{self.told_to_systemd()}", False)
+            raise
+
+
+def began(site: Site) -> Views:
+    """A service of two workers, without load, and all that tells of it."""
+    views = Views(site)
+    for file in ("from.toml", "to.toml", "site.toml"):
+        site.configure(file)
+    site.serve = site.started()
+    return views
+
+
+def short_from_its_start(site: Site) -> None:
+    """An application that does not start ends the service with its reason; with --keep-trying it is short, and then serves."""
+    site.configure()
+    site.install(BROKEN.replace("exit 7", "echo no database >&2; exit 7"))
+    site.serve = site.started()
+    site.check("a start without a worker goes on", site.serve.wait(SECONDS) == 1)
+    said = text_of(site.room / "said")
+    reason = "prefork-serve: no worker has started: workers 0, 1 have failed "
+    site.check(f"the reason is not said: {said}", reason in said and said.count(", last: no database\n") == 1)
+    site.nothing_left()
+    views = Views(site)
+    site.options = [*site.options, "--keep-trying"]
+    site.serve = site.started()
+    try:
+        views.agree("a broken start", "short", 0, ", last: no database")
+        site.install(site.app_text)
+        site.check("tick does not mend", views.ctl("tick").splitlines()[-1].startswith("done "))
+        views.agree("the end of a broken start", "serves", 2)
+        site.stop()
+    finally:
+        views.systemd.close()
+
+
+def short_for_five_reasons(site: Site) -> None:
+    """A worker that is killed is not replaced while its application is broken, its port is taken, it has no memory, the master
+    has no descriptor for another process, or its program is gone."""
+    there, address = str(site.room / "there"), free_address()
+    app = site.app_text
+    views = began(site)
+    try:
+        until("two workers", lambda: "serves: wanted 2, runs 2" in views.ctl("status"))
+        fails(site, views, "a rollback", ", last: no database", lambda: roll_back(site), lambda: site.install(app))
+        with socket.socket() as other:
+            host, _, port = address.rpartition(":")
+            other.bind((host, int(port)))
+            other.listen()
+            site.install(needing(app, there, BIND.format(address=address)))
+            fails(site, views, "a port that is taken", "Address already in use", pathlib.Path(there).touch, pathlib.Path(there).unlink)
+        site.install(needing(app, there, ALLOCATE))
+        fails(site, views, "no memory", "MemoryError", pathlib.Path(there).touch, pathlib.Path(there).unlink)
+        master = site.master() or 0
+        limits = resource.prlimit(master, resource.RLIMIT_NOFILE)
+        fails(site, views, "a limit", "fork: again", lambda: resource.prlimit(master, resource.RLIMIT_NOFILE, (3, limits[1])),
+              lambda: resource.prlimit(master, resource.RLIMIT_NOFILE, limits))
+        fails(site, views, "a program that is gone", "No such file or directory", (site.home / "app").unlink, lambda: site.install(app))
+        site.stop()
+    finally:
+        views.systemd.close()
+    said = text_of(site.room / "said")
+    lines = [line for line in said.splitlines() if line.startswith(("prefork-serve: short: ", "prefork-serve: serves: "))]
+    kinds = [line.split(": ")[1] for line in lines]
+    site.check(f"the states are told more than once: {lines}", kinds == ["serves", "short"] * 5 + ["serves"])
+    site.certify()
+
+
+def needing(app: str, there: str, needs: str) -> str:
+    """The text of an application whose start needs something."""
+    return app.replace("\n\ndef page(", NEEDS.format(there=there, needs=needs) + "\n\ndef page(", 1)
+
+
+def roll_back(site: Site) -> None:
+    """Installs an application that does not start, and has the reload rolled back."""
+    site.install(BROKEN.replace("exit 7", "echo no database >&2; exit 7"))
+    site.wants("HUP", 3, "rolled-back ", 2)
+
+
+def fails(site: Site, views: Views, what: str, why: str, spoil: Callable, mend: Callable) -> None:
+    """Kills a worker whose start fails from now on, and mends it."""
+    views.forget_hooks()
+    spoil()
+    os.kill(min(site.workers()), signal.SIGKILL)
+    views.agree(what, "short", 1, why)
+    mend()
+    said = views.ctl("tick")
+    site.check(f"{what}: tick does not mend: {said}", said.splitlines()[-1].startswith(("done ", "nothing")))
+    views.agree(f"the end of {what}", "serves", 2)
+
+
+SCENARIOS: list[Scenario] = [short_from_its_start, short_for_five_reasons]
