@@ -127,10 +127,11 @@ def differences(program: str, seen: dict[str, Any]) -> Iterator[str]:
         yield f"{seen['command']}: {seen['doubt']}"
 
 
-def link_faults(page: Page, seen: dict[str, Any], reloads: bool) -> Iterator[str]:
-    """Whether a link gives the same state back."""
-    if reloads:
-        page.go(page.value("location.href.replace(/[?].*/, '').replace(/#.*/, '')") + f"?again{seen['link']}", READY)
+def link_faults(page: Page, seen: dict[str, Any], visit: int) -> Iterator[str]:
+    """Whether a link gives the same state back: in a page that is open, or with a number of a visit in one that is opened."""
+    if visit:
+        # (another address than before: a browser would only go to another place of the same page)
+        page.go(page.value("location.href.replace(/[?].*/, '').replace(/#.*/, '')") + f"?visit={visit}{seen['link']}", READY)
     else:
         page.value("location.hash = '#start'")
         page.becomes("document.querySelectorAll('#row button').length === 1")
@@ -146,10 +147,10 @@ def state_faults(page: Page, program: str, dice: random.Random, number: int) -> 
     try:
         wander(page, dice)
         seen = page.value(SEEN)
-        found = [*differences(program, seen), *link_faults(page, seen, number % 10 == 0)]
+        found = [*differences(program, seen), *link_faults(page, seen, 0 if number % 10 else number + 1)]
         return found + (look_faults(page) if number % 5 == 0 else [])
     except BrowserFault as fault:
-        return [f"state {number}: {fault}"]
+        return [str(fault)]
 
 
 def keyboard_faults(page: Page) -> Iterator[str]:

@@ -32,6 +32,7 @@ SCRIPTS = {
     "service": "checks of a web service",
     "adapters": "checks of applications as they are",
     "package": "checks of the package and of a roll-out",
+    "page": "checks of the page and the library",
     "documents": "checks of documents",
     "selftest": "runs of the gate itself",
 }
@@ -46,7 +47,7 @@ AHEAD = -5
 # What computes: first what tells most in a second, and then the longest, so that short ones fill the end. It begins once
 # the last proofs of tests leave it room, and gives way to the others, whose loads and time limits are those of an
 # operator.
-COMPUTING = ("cases", "hostile", "rehearsals", "roundtrips", "reader", "limits", "explorations", "documents",
+COMPUTING = ("cases", "hostile", "rehearsals", "roundtrips", "reader", "limits", "page", "explorations", "documents",
              "terminals", "deployments", "pictures")
 NICE = 10
 # From this number of processors on, two of those that wait run side by side. On four, two of them have starved each
