@@ -7,7 +7,8 @@ from typing import NamedTuple
 
 from reader.altered import altered
 from reader.chance import any_moments, any_start, any_turns, any_word
-from reader.claims import Claims, IsAccepted, KeepsPromise, is_short
+from reader.beside import KeepsBeside
+from reader.claims import Claims, IsAccepted, KeepsPromise, is_short, run_of
 from reader.master import sides_of
 from reader.path import KeepsPathLaw
 from reader.plans import plan_tree
@@ -29,6 +30,7 @@ def claims_of(run: Run) -> Claims:
         "accepted": IsAccepted(t, r, target, run.pattern, ran),
         "path": KeepsPathLaw(tree, r.note, sides, ran.entries, run.report),
         **KeepsPromise(t, r, target, ran),
+        **KeepsBeside(t, r, target, ran, lambda pattern: run_of(r, target, run.turns, pattern, t)),
         "length": is_short(r, target, ran),
     }
 

@@ -1,0 +1,179 @@
+"""What a run keeps beside the headline (quiet_runs/specs/Quiet.antt, further_theorems/specs/Proper.antt and
+Left.antt)."""
+from collections.abc import Callable
+from typing import NamedTuple
+
+from reader.addresses import Addresses, FilePath
+from reader.after import next_record
+from reader.claims import Claims
+from reader.master import (
+    Attended, Mend, Record, Reload, Reopen, Stop, Target, Upgrade, Workers, addresses_of, addresses_wanted,
+    generation_wanted, oldbin, sides_of, upgrade_generation, want,
+)
+from reader.numbers import is_in, numbers_below
+from reader.pieces import quiet
+from reader.plans import only_in
+from reader.run import Moment, Pattern, Ran, report_of
+from reader.table import IsSame, Table, is_held, is_own, owner_at, same_generation, service
+from reader.vocabulary import (
+    Adopt, Alive, Ask, AwaitGone, AwaitReady, Call, Census, CloseAt, Degraded, Entry, Fork, Generation, Kill, Leave,
+    MovePid, OpenAt, Outcome, Quit, RemovePid, Report, Side, SpawnMaster, TermMaster, Usr1, WritePid,
+)
+
+# That plans work
+
+
+def addresses_opened(r: Record, target: Target) -> Addresses:
+    """The addresses that a target opens."""
+    return only_in(addresses_wanted(r, target), addresses_of(r))
+
+
+def processes_started(r: Record, target: Target) -> int:
+    """The processes that a target starts."""
+    match target:
+        case Workers(n):
+            return sum(not is_in(r.ready, k) for k in numbers_below(n))
+        case Mend(overdue):
+            return sum(not is_in(r.ready, k) or is_in(overdue, k) for k in numbers_below(r.wanted))
+        case Reload(s):
+            return s.workers
+        case Upgrade(s) | Attended(s):
+            return s.workers + 1
+        case Reopen() | Stop():
+            return 0
+
+
+def HasResources(t: Table, r: Record, target: Target) -> bool:
+    """There is room for the processes that the target starts and for the descriptors of the addresses that it opens,
+    which nobody holds, and of which none is named twice."""
+    opened = addresses_opened(r, target)
+    return (
+        sum(is_own(p) for p in t.rows) + processes_started(r, target) <= t.limits.processes
+        and len(r.listeners) + len(opened) <= t.limits.descriptors
+        and not any(is_held(a, t.rows) for a in opened)
+        and len(set(opened)) == len(opened)
+    )
+
+
+def IsDone(r: Record, target: Target, ran: Ran) -> bool:
+    """A run ends Done, no call of it went wrong, and the service is the target's."""
+    report = report_of(sides_of(r, target), ran)
+    same = IsSame(service(ran.last.table), want(r, target))
+    return report.outcome is Outcome.Done and report.cause is None and same
+
+
+def no_event(n: int) -> Moment:
+    return quiet
+
+
+def QuietIsDone(t: Table, r: Record, target: Target, run: Callable[[Pattern], Ran]) -> bool:
+    """Under no event and with the resources that a target needs it ends Done."""
+    return not HasResources(t, r, target) or IsDone(r, target, run(no_event))
+
+
+# Which calls are made, and by whom
+
+
+def own_files(path: FilePath | None) -> tuple[FilePath, ...]:
+    """The master's two files."""
+    return () if path is None else (path, oldbin(path))
+
+
+def IsOfOwn(r: Record, wanted: Generation, by: int, g: Generation) -> bool:
+    """The workers are the master's own, of the generation that runs or of the one that is wanted."""
+    return by == g.image and (same_generation(g, r.generation) or same_generation(g, wanted))
+
+
+def IsOfHeir(r: Record, by: int, image: int) -> bool:
+    """The old master, of its heir."""
+    return by == r.generation.image and image == upgrade_generation(r.generation).image
+
+
+def IsProper(r: Record, target: Target, e: Entry) -> bool:
+    """The call is made by the master whose workers it names, and touches no file, address or master of others."""
+    wanted, addresses, files = generation_wanted(r, target), addresses_wanted(r, target), own_files(r.pid_path)
+    old = r.generation.image
+    match e.call:
+        case OpenAt(a):
+            return e.by == wanted.image and a in addresses and a not in addresses_of(r)
+        case CloseAt(a):
+            return e.by == wanted.image and (a not in addresses_of(r) or a not in addresses)
+        case Fork(g, _, _) | AwaitReady(g, _) | Quit(g, _) | Kill(g, _) | Census(g) | AwaitGone(g, _) | Usr1(g, _):
+            return IsOfOwn(r, wanted, e.by, g)
+        case SpawnMaster(image) | TermMaster(image) | Alive(image):
+            return IsOfHeir(r, e.by, image)
+        case Adopt():
+            return e.by == wanted.image
+        case WritePid(path):
+            return e.by == wanted.image and path in files
+        case MovePid(source, to):
+            return e.by == old and source in files and to in files
+        case RemovePid(path):
+            return e.by in (old, wanted.image) and path in files
+        case Leave() | Ask(_):
+            return e.by == old
+
+
+def FilesOfOthersStay(r: Record, t: Table, ran: Ran) -> bool:
+    """Each file but the master's two is in each table of a run as it was at first."""
+    own = own_files(r.pid_path)
+    tables = [t, *(p.table for p in ran.passed)]
+    paths = {f.path for table in tables for f in table.files} - set(own)
+    return all(owner_at(path, table.files) == owner_at(path, t.files) for path in paths for table in tables)
+
+
+# The record that is left
+
+
+class Wants(NamedTuple):
+    """How many workers a target has the master want, how often it retries, and how long it waits for a beat."""
+
+    workers: int
+    retries: int
+    timeout: int
+
+
+def wants_then(r: Record, target: Target) -> Wants:
+    match target:
+        case Workers(n):
+            return Wants(n, r.retries, r.timeout)
+        case Reload(s) | Upgrade(s) | Attended(s):
+            return Wants(s.workers, s.retries, s.timeout)
+        case Mend() | Reopen() | Stop():
+            return Wants(r.wanted, r.retries, r.timeout)
+
+
+def names_target(report: Report) -> bool:
+    """Whether the outcome names the target's side."""
+    outcome = report.outcome
+    return outcome is Outcome.Done or (isinstance(outcome, Degraded) and outcome.side is Side.Target)
+
+
+def IsLeft(r: Record, target: Target, report: Report, left: Record) -> bool:
+    """The record has the settings of the side that the outcome names, and what the report says."""
+    is_target = names_target(report)
+    wants = wants_then(r, target) if is_target else Wants(r.wanted, r.retries, r.timeout)
+    generation = generation_wanted(r, target) if is_target else r.generation
+    return (
+        Wants(left.wanted, left.retries, left.timeout) == wants
+        and same_generation(left.generation, generation)
+        and left.pid_path == r.pid_path
+        and (left.ready, left.note) == (report.ready, report.note)
+    )
+
+
+def RecordIsLeft(r: Record, target: Target, ran: Ran) -> bool:
+    """What comes of the record, where one is left."""
+    report = report_of(sides_of(r, target), ran)
+    left = next_record(r, target, report, ran.last.table)
+    return left is None or IsLeft(r, target, report, left)
+
+
+def KeepsBeside(t: Table, r: Record, target: Target, ran: Ran, run: Callable[[Pattern], Ran]) -> Claims:
+    """What a run keeps beside the headline; and how the target's plan is run under another pattern."""
+    return {
+        "quiet": QuietIsDone(t, r, target, run),
+        "proper": all(IsProper(r, target, e) for e in ran.entries),
+        "files": FilesOfOthersStay(r, t, ran),
+        "left": RecordIsLeft(r, target, ran),
+    }
