@@ -1,5 +1,6 @@
 """What `prefork explain` says of each code, answer, outcome and note: what was found, and what to do about it."""
 import functools
+import itertools
 import re
 import subprocess
 from collections.abc import Iterator
@@ -11,6 +12,8 @@ SECONDS = 180
 # The lines of a terminal, less what `--why` puts before each of them.
 COLUMNS = 80
 INDENT = 4
+# All that it prints of each, one after another with an empty line between them.
+GOLDEN = "tests/explanations.txt"
 # Tables whose words are explained, by their first cells: the page, and the column that has the words.
 TABLES = {
     "| fault |": ("docs/FORMATS.md", 0),
@@ -54,9 +57,20 @@ def page_faults(name: str, line: str, page: str) -> Iterator[str]:
             yield f"explain {name} has a line of {len(text)} columns: {text[:40]}.."
 
 
+def golden_faults(tree: Tree) -> Iterator[str]:
+    """The first line in which the explanations are not those of the file."""
+    wanted = tree.text(GOLDEN).splitlines()
+    printed = "\n".join(page for _, page in pages(tree.program).values()).splitlines()
+    for number, (want, have) in enumerate(itertools.zip_longest(wanted, printed), 1):
+        if want != have:
+            yield f"{GOLDEN}: line {number} is {want!r}, and explain prints {have!r}"
+            return
+
+
 def faults(tree: Tree) -> Iterator[str]:
     """Explanations that lack something, and words of the formats that have none."""
     known = pages(tree.program)
+    yield from golden_faults(tree)
     for name, (line, page) in known.items():
         yield from page_faults(name, line, page)
     for heading, (path, _) in TABLES.items():

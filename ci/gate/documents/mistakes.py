@@ -63,6 +63,7 @@ MISTAKES = (
     Mistake("codes", "docs/formats/plans.md", "| `H5` |", "| `H6` |", "no code H6"),
     Mistake("explained", "docs/formats/blocks.md", "`forked`, `again`", "`forked`, `eagain`", "does not know eagain"),
     Mistake("explained", "docs/formats/blocks.md", "| outcome |", "| end |", "no table begins with | outcome |"),
+    Mistake("explained", "tests/explanations.txt", "The calls are a whole run", "The calls are no run", "explain prints"),
     Mistake("commands", "README.md", "6 m1 census 1.2 : counted 0-1", "6 m1 census 1.2 : counted 0-2", "counted 0-2"),
     Mistake("commands", "docs/prefork-plan.1", r"\-\-workers 2 TTOU", r"\-\-workers two TTOU", "status 2"),
     Mistake("commands", "docs/prefork.toml.5", "workers = 2\npid", "workers = 3\npid", "workers = 3"),

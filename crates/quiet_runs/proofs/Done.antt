@@ -11,10 +11,10 @@ use Rattle.definitions.specs.Master.{Record, Target, Workers, Mend, Reopen, Relo
 use Rattle.definitions.specs.After.{crew_wanted}
 use Rattle.definitions.specs.Plans.{plan_tree}
 use Rattle.definitions.specs.Run.{report_of, start_at}
-use Rattle.definitions.specs.Claims.{IsStart, Says, HasCause, refused_among, run_of, is_leave_call}
+use Rattle.definitions.specs.Claims.{KeepsPromise, IsStart, Says, HasCause, refused_among, run_of, is_leave_call}
 use Rattle.theorems.proofs.Promise.{headline}
-use Rattle.quiet_runs.specs.Quiet.{QuietIsDone, HasResources, no_event}
-use Rattle.quiet_runs.proofs.Ways.{Goes, run-clean}
+use Rattle.quiet_runs.specs.Quiet.{QuietIsDone, HasResources, IsDone, no_event}
+use Rattle.quiet_runs.proofs.Ways.{Clean, Goes, run-clean}
 use Rattle.quiet_runs.proofs.Alone.{go-workers, go-mend, go-reopen, go-reload, go-stop}
 use Rattle.quiet_runs.proofs.Upgrades.{go-upgrade}
 
@@ -49,17 +49,25 @@ done-by (outcome.Degraded side.Old n) cause h e = absurd (let f = subst (λ (o :
 done-by (outcome.Degraded side.Target n) cause h e = absurd (let f = subst (λ (o : Option ℕ). is_some o ≡ true) e h in cc)
 done-by outcome.Lost cause h e = absurd h
 
-pub quiet-is-done : QuietIsDone
-quiet-is-done t r target turns start accepts res =
+-- A run that keeps the promise under no event is done.
+pub done-of-kept :
+    (t : Table) (r : Record) (target : Target) (turns : List Turn) → IsStart t r → HasResources t r target →
+    KeepsPromise t r target (run_of r target turns no_event t) → IsDone r target (run_of r target turns no_event t)
+done-of-kept t r target turns start res kept =
     let ran = run_of r target turns no_event t in
-    let kept =
-    headline t r target turns no_event
-    (record { start = start; accepts = accepts; spared = spared _ _ 0 ran.entries }) in
-    let none = run-clean (handover_for r target) (plan_tree r target turns) (start_at t r.note) (goes t r target turns start res)
-    (record { faults = refl; losses = refl; returns = refl; cause = refl }) kept.blamed in
+    let clean : Clean (start_at t r.note) = record { faults = refl; losses = refl; returns = refl; cause = refl } in
+    let none =
+    run-clean (handover_for r target) (plan_tree r target turns) (start_at t r.note) (goes t r target turns start res) clean
+    kept.blamed in
     let done = done-by (report_of (sides_of r target) ran).outcome ran.last.cause kept.cause none in
     record {
       outcome = done;
       cause = none;
       service = subst (λ o. Says r target o t ran.last.table) done kept.says;
     }
+
+pub quiet-is-done : QuietIsDone
+quiet-is-done t r target turns start accepts res =
+    let spares = spared _ _ 0 (run_of r target turns no_event t).entries in
+    done-of-kept t r target turns start res
+    (headline t r target turns no_event (record { start = start; accepts = accepts; spared = spares }))
