@@ -1,5 +1,6 @@
 """Status, page, metrics and blocks say the same, after each of twenty random words."""
 import html
+import json
 import random
 import re
 import shutil
@@ -15,8 +16,8 @@ from web.starts import status
 WORDS = 20
 SAMPLE = re.compile(r"^(\w+)(\{.*\})? (\S+)$", re.M)
 ROW = re.compile(r"<tr>(?:<td[^>]*>(.*?)</td>)(?:<td[^>]*>(.*?)</td>)(?:<td[^>]*>(.*?)</td>)(?:<td[^>]*>(.*?)</td>)", re.S)
-# A row of the last words.
-NEWEST = re.compile(r'<td>([^<]*)</td><td>[^<]*</td><td><span class="[a-z-]+">([^<]*)</span>')
+# One of the last words.
+NEWEST = re.compile(r'<code class="word">([^<]*)</code>: <code class="report">([^<]*)</code>')
 BROWSERS = ("chromium", "chromium-browser", "google-chrome")
 
 
@@ -76,6 +77,7 @@ def agree(site: Site, name: str, page: str, word: str, report: str, counted: dic
     site.check(f"{name}: the last block is another", written(site, word) == report)
     agree_metrics(site, name, found, numbers, counted)
     agree_page(site, name, found, text, [word, report])
+    agree_live(site, name, found, page)
 
 
 def agree_metrics(site: Site, name: str, found: dict, numbers: dict, counted: dict[tuple[str, str], int]) -> None:
@@ -91,15 +93,31 @@ def agree_metrics(site: Site, name: str, found: dict, numbers: dict, counted: di
 
 def agree_page(site: Site, name: str, found: dict, text: str, newest: list[str]) -> None:
     """Compares the page with the status and with the processes."""
-    head = f"<h1>{len(found['workers'])} workers of generation {found['generation']}</h1>"
-    site.check(f"{name}: the head of the page", head in text)
+    head = f"{found['running']} of {counted_workers(found['wanted'])}, generation {found['generation']}</p>"
+    site.check(f"{name}: the head of the page", head in text and f'class="band {found["state"]}"' in text)
     shown_workers = {process for row in ROW.findall(text) if (process := row[2]).isdigit()}
     running = {worker["process"] for worker in found["workers"]}
-    site.check(f"{name}: workers on the page: {shown_workers}, {running}", shown_workers == set(map(str, running)))
+    # (old workers may still finish beside them)
+    site.check(f"{name}: workers on the page: {shown_workers}, {running}", set(map(str, running)) <= shown_workers)
     site.check(f"{name}: the processes", running <= site.workers())
     first = NEWEST.search(text.partition("Last words")[2])
     said = [html.unescape(it) for it in first.groups()] if first else []
     site.check(f"{name}: the newest word on the page: {said}", said == newest)
+
+
+def agree_live(site: Site, name: str, found: dict, page: str) -> None:
+    """Compares what a page that is open takes, and what a program reads, with the status."""
+    told, event = json.loads(answer_of(page, "/status.json")), answer_of(page, "/live")
+    for key in ("generation", "wanted", "running", "state", "last"):
+        site.check(f"{name}: status.json has another {key}: {told[key]}", told[key] == found[key])
+    data = json.loads(event.partition("data: ")[2])
+    head = f"{found['running']} of {counted_workers(found['wanted'])}, generation {found['generation']}"
+    site.check(f"{name}: the event has another title: {data['title']}", data["title"].endswith(f": {head}"))
+    site.check(f"{name}: the script of the page", "EventSource" in answer_of(page, "/live.js"))
+
+
+def counted_workers(count: int) -> str:
+    return "1 worker" if count == 1 else f"{count} workers"
 
 
 def is_done(report: str) -> bool:
@@ -114,7 +132,7 @@ def written(site: Site, word: str) -> str:
 
 
 def shown(site: Site, page: str) -> None:
-    """The page in a browser, which makes a picture of it; the page allows no script. Without a browser that is left out."""
+    """The page in a browser, which makes a picture of it. Without a browser that is left out."""
     browser = next((path for name in BROWSERS if (path := shutil.which(name))), None)
     if not browser:
         print("random_words: no browser (apt-get install chromium); the picture of the page is left out")

@@ -1,5 +1,5 @@
-"""The page of a service, in HTML that needs no script: who runs, the last words as a timeline, and what the next reload
-would do."""
+"""Parts of the page of a service (view.py): its processes in a table, the calls of a word, and what the next reload would
+do."""
 import html
 import pathlib
 import subprocess
@@ -12,27 +12,12 @@ from .chronicle import Done
 from .reasons import is_plain
 from .rehearsing import rehearsal
 from .state import times
-from .status import LEFT_BEHIND, asked, shown_doing, workers
-from .words import START
+from .status import LEFT_BEHIND
 
 Status = dict[str, Any]
 KIND = "text/html; charset=utf-8"
 # The calls of a word that are drawn, and the lines of a plan that are shown.
 MOST_CALLS, MOST_LINES = 300, 400
-STYLE = """
-body { font: 15px/1.5 system-ui, sans-serif; margin: 2rem auto; max-width: 70rem; padding: 0 1rem; color: #1b1b1b;
-  background: #fff }
-h1 { font-size: 1.4rem } h2 { font-size: 1.1rem; margin-top: 2rem }
-table { border-collapse: collapse } th, td { text-align: left; padding: .15rem 1rem .15rem 0; vertical-align: top }
-td:first-child, td:nth-child(3) { white-space: nowrap }
-td.number { text-align: right; font-variant-numeric: tabular-nums }
-th { font-weight: 600; border-bottom: 1px solid #bbb } pre { background: #f5f5f5; padding: .7rem; overflow-x: auto }
-.calls { display: flex; flex-wrap: wrap; gap: 1px } .calls i { width: 7px; height: 14px; background: #7fb58a }
-.calls i.wrong { background: #c62828 } .calls i.cause { outline: 2px solid #000 }
-.state { padding: .5rem .7rem; border-left: .4rem solid #1b5e20; background: #f5f5f5 }
-.state.short, .state.stopped { border-color: #a31515; font-weight: 600 } .state.changes { border-color: #8a6d00 }
-.done { color: #1b5e20 } .not-done { color: #a31515; font-weight: 600 } code { font-size: .95em }
-"""
 
 
 def text(value: object) -> str:
@@ -45,9 +30,9 @@ def row(*cells: object) -> str:
     return f"<tr>{''.join(told)}</tr>"
 
 
-def table(head: Sequence[str], rows: Sequence[str]) -> str:
-    titles = "".join(f"<th>{text(title)}</th>" for title in head)
-    return f"<table><tr>{titles}</tr>{''.join(rows)}</table>"
+def table(name: str, head: Sequence[str], rows: Sequence[str]) -> str:
+    titles = "".join(f'<th scope="col">{text(title)}</th>' for title in head)
+    return f'<table aria-label="{text(name)}"><tr>{titles}</tr>{"".join(rows)}</table>'
 
 
 def workers_table(status: Status) -> str:
@@ -67,18 +52,12 @@ def workers_table(status: Status) -> str:
         rows.append(row("", one["worker"], "none", 0, told))
     if not rows:
         return "<p>No worker runs.</p>"
-    return table(("generation", "worker", "process", "age, s", "state"), rows)
-
-
-def band(status: Status) -> str:
-    """The state of the whole, and what is asked."""
-    asks = f"<p>{text(asked(status))}.</p>" if status["question"] else ""
-    return f'<p class="state {status["state"]}">{text(status["line"])}</p>{asks}'
+    return table("workers", ("generation", "worker", "process", "age, s", "state"), rows)
 
 
 def said(errors: dict[str, list[str]]) -> str:
     """What workers said last that did not start."""
-    return "".join(f"<br>worker {text(name)} said last:<pre>{text(chr(10).join(lines))}</pre>" for name, lines in errors.items())
+    return "".join(f"<p>worker {text(name)} said last:</p><pre>{text(chr(10).join(lines))}</pre>" for name, lines in errors.items())
 
 
 def masters_list(status: Status) -> str:
@@ -100,41 +79,6 @@ def drawn(done: Done) -> str:
         boxes.append(f'<i{kind} title="{text(call)}"></i>')
     more = f"<span>and {len(calls) - MOST_CALLS} more</span>" if len(calls) > MOST_CALLS else ""
     return f'<div class="calls">{"".join(boxes)}{more}</div>'
-
-
-def timeline(words: Sequence[Done]) -> str:
-    """The last words, newest first."""
-    rows = []
-    for done in reversed(words):
-        is_done = done.report.startswith(("done", "nothing"))
-        report = f'<span class="{"done" if is_done else "not-done"}">{text(done.report)}</span>'
-        wrong = "".join(f"<br><code>{text(why)}</code>" for why in done.reasons)
-        cause = f"<br>call that went wrong: <code>{text(done.cause)}</code>" if done.cause and not wrong else ""
-        word = "start" if done.word == START else done.word
-        told = f"{report}{wrong}{cause}{said(done.errors)}{drawn(done)}"
-        rows.append(row(text(done.began), text(word), f"{done.seconds:.2f} s", told))
-    return table(("began", "word", "took", "what came of it"), rows) if rows else "<p>None yet.</p>"
-
-
-def page_of(status: Status, words: Sequence[Done], plan: str) -> str:
-    """The whole page."""
-    service = status["service"]
-    changed = "<p>The file has changed since it was accepted.</p>" if status["file_has_changed"] else ""
-    addresses = " ".join(status["addresses"]) or "none"
-    title = f"{status['running']} of {workers(status['wanted'])}, generation {status['generation'] or 'none'}"
-    return f"""<!doctype html>
-<html lang="en"><head><meta charset="utf-8"><meta name="viewport" content="width=device-width">
-<title>{text(title)}</title><style>{STYLE}</style></head><body>
-<h1>{text(title)}</h1>
-{band(status)}
-<p>Service process {service["process"]} in {text(service["folder"])}, for {service["seconds"]} s. Addresses: {text(addresses)}.
-Now: {text(shown_doing(status))}.</p>
-<h2>Workers</h2>{workers_table(status)}
-<h2>Masters and keeper</h2>{masters_list(status)}
-<h2>Last words</h2>{timeline(words)}
-<h2>Plan of the next HUP</h2>{changed}<pre>{text(plan)}</pre>
-</body></html>
-"""
 
 
 class NextPlan:

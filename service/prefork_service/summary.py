@@ -88,6 +88,10 @@ class Summary:
             **({"preloaders": of.commands.preloading.status()} if of.commands.preloading else {}),
         }
 
+    def calls(self) -> list[str]:
+        """The lines so far of the block of the present word."""
+        return [*self.of.master.block] if self.of.master else []
+
     def status(self) -> Status:
         """Who runs, what was done last, and what is being done now."""
         of = self.of

@@ -1,19 +1,21 @@
 """What a service tells of itself without being asked a word: to systemd, in a file of metrics, and on pages."""
+import json
 import pathlib
 import selectors
 import time
 
-from . import metrics, page
+from . import live, metrics, page, view
 from .chronicle import Chronicle, Done
 from .folder import say
 from .hooks import OF_OUTCOMES, Hooks
 from .metrics import MetricsFile, metrics_of
-from .page import NextPlan, page_of
+from .page import NextPlan
 from .sites import is_site
 from .state import SERVES, SHORT, Whole
 from .summary import Summary
 from .systemd import Watchdog, notify
-from .web import Site
+from .status import Status
+from .web import Pages, Site
 
 # How often the file of metrics is written.
 FILE_SECONDS = 10.0
@@ -44,11 +46,20 @@ class Telling:
             self.file = MetricsFile(pathlib.Path(measured).absolute())
         if seen:
             self.plan = NextPlan()
-            self.sites.append(Site(events, seen, {"/": self.page, **numbers}))
+            self.sites.append(Site(events, seen, {**self.pages(), **numbers}))
 
-    def page(self) -> tuple[str, str]:
-        text = self.plan.text if self.plan else ""
-        return page.KIND, page_of(self.status(), self.chronicle.done, text)
+    def pages(self) -> Pages:
+        """What the page's address shows: the page, what keeps it as the service is, and the status for programs."""
+        return {
+            "/": lambda: (page.KIND, view.page_of(*self.seen())),
+            "/live": lambda: (live.KIND, view.event_of(*self.seen())),
+            "/live.js": lambda: (live.SCRIPT_KIND, live.SCRIPT),
+            "/status.json": lambda: (live.JSON_KIND, json.dumps(self.status()) + "\n"),
+        }
+
+    def seen(self) -> tuple[Status, list[Done], list[str], str]:
+        """What a page shows."""
+        return self.status(), [*self.chronicle.done], self.summary.calls(), self.plan.text if self.plan else ""
 
     def begin_word(self, changes: bool) -> None:
         """A word begins; systemd is told of one that changes the service."""

@@ -14,6 +14,9 @@ from .sockets import remove_stale
 SECONDS, LONGEST, MOST_VISITS, MOST_SILENT = 10.0, 8192, 16, 16
 QUEUE = 32
 REASONS = {200: "OK", 400: "Bad Request", 404: "Not Found", 405: "Method Not Allowed"}
+# What a page may do: show itself, and run and ask the scripts and paths of its own address.
+POLICY = "default-src 'none'; style-src 'unsafe-inline'; script-src 'self'; connect-src 'self'; base-uri 'none'; " \
+    "form-action 'none'; frame-ancestors 'none'"
 # What is told of a path: a kind of text, and the text.
 Pages = dict[str, Callable[[], tuple[str, str]]]
 
@@ -98,7 +101,7 @@ class Site:
             kind, text = self.pages[path]()
         body = text.encode()
         head = f"HTTP/1.1 {status} {REASONS[status]}\r\nContent-Type: {kind}\r\nContent-Length: {len(body)}\r\n" \
-            "Cache-Control: no-store\r\nContent-Security-Policy: default-src 'none'; style-src 'unsafe-inline'\r\n" \
+            f"Cache-Control: no-store\r\nContent-Security-Policy: {POLICY}\r\n" \
             "X-Content-Type-Options: nosniff\r\nConnection: close\r\n\r\n"
         return head.encode() + (b"" if words[0] == "HEAD" else body)
 

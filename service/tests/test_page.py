@@ -7,11 +7,10 @@ import unittest
 
 from kit import until
 from prefork_service.chronicle import Done
-from prefork_service.page import MOST_LINES, NextPlan, page_of, timeline
+from prefork_service.page import MOST_LINES, NextPlan, drawn, masters_list, said, workers_table
 from test_metrics import STATUS
 
 BLOCK = "word HUP\n1 m1 fork 1.2 0 : forked\n2 m1 await-ready 1.2 0 : gone\nrolled-back cause 2 pid no-file\n"
-WHY = "2 m1 await-ready 1.2 0 : gone: <b>&"
 
 
 class Reader(html.parser.HTMLParser):
@@ -43,30 +42,21 @@ def read(text: str) -> Reader:
 
 
 class PageTest(unittest.TestCase):
-    def test_it_says_who_runs_what_was_done_and_the_plan(self) -> None:
-        done = Done("HUP", "2026-01-01T00:00:00+00:00", 1.5, BLOCK, [WHY], {"1.2.0": ["ZeroDivisionError: <x>"]})
-        found = read(page_of(STATUS, [done], "plan steps 3 longest 3\n1 m1 <x>"))
-        self.assertNotIn("script", found.kinds)
-        for wanted in ("1 of 3 workers, generation 1.2", "has ended", "beat 1 s ago", "short: wanted 3, runs 1",
-                       "has failed 21 times: it <ended>; next try in 9 s", "worker 1.2.0 said last:", "ZeroDivisionError: <x>", "old master, process 3:", "master: process 4",
-                       "rolled-back cause 2 pid no-file", WHY, "1.50 s", "plan steps 3 longest 3\n1 m1 <x>", "127.0.0.1:8080",
-                       "The file has changed", "3 more wait"):
+    def test_it_says_who_runs(self) -> None:
+        found = read(workers_table(STATUS) + masters_list(STATUS))
+        for wanted in ("has ended", "beat 1 s ago", "has failed 21 times: it <ended>; next try in 9 s", "old master, process 3:", "master: process 4"):
             self.assertIn(wanted, found.said)
+        self.assertIn("No worker runs.", workers_table({**STATUS, "workers": [], "failing": []}))
+
+    def test_what_a_worker_said_last(self) -> None:
+        found = read(said({"1.2.0": ["ZeroDivisionError: <x>"]}))
+        self.assertIn("worker 1.2.0 said last:", found.said)
+        self.assertIn("ZeroDivisionError: <x>", found.said)
 
     def test_the_call_that_went_wrong_is_drawn(self) -> None:
-        said = timeline([Done("HUP", "now", 0.0, BLOCK, [])])
-        self.assertEqual((said.count("<i "), said.count('<i title=')), (2, 1))
-        self.assertIn('<i class="wrong cause" title="2 m1 await-ready 1.2 0 : gone">', said)
-        self.assertIn("call that went wrong: <code>2 m1 await-ready 1.2 0 : gone</code>", said)
-
-    def test_the_newest_word_is_the_first(self) -> None:
-        words = [Done(word, "now", 0.0, f"word {word}\nnothing\n", []) for word in ("tick 0", "HUP", "TTIN")]
-        said = timeline(words)
-        self.assertTrue(said.index("TTIN") < said.index("HUP") < said.index("start"))
-
-    def test_without_anything(self) -> None:
-        status = {**STATUS, "workers": [], "failing": [], "masters": [], "generation": ""}
-        self.assertIn("No worker runs.", read(page_of(status, [], "")).said)
+        told = drawn(Done("HUP", "now", 0.0, BLOCK, []))
+        self.assertEqual((told.count("<i "), told.count("<i title=")), (2, 1))
+        self.assertIn('<i class="wrong cause" title="2 m1 await-ready 1.2 0 : gone">', told)
 
 
 class NextPlanTest(unittest.TestCase):

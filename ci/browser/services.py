@@ -1,0 +1,125 @@
+"""The page of a service in each of its states, as its program writes it, for pictures and looks."""
+import pathlib
+import selectors
+import sys
+import threading
+from collections.abc import Iterator
+from typing import Any
+
+from browser import looks
+from browser.chromium import Page
+from gate.addresses import free_address
+
+SERVICE = pathlib.Path(__file__).resolve().parent.parent.parent / "service"
+sys.path.insert(0, str(SERVICE))
+
+from prefork_service import live, page, view
+from prefork_service.chronicle import Done
+from prefork_service.web import Site
+
+Status = dict[str, Any]
+BEGAN = "2026-11-30T13:21:07+00:00"
+RELOAD = ("word HUP", "1 m1 open 0.0.0.0:9090 : opened 4", "2 m1 fork 1.3 0 : forked", "3 m1 fork 1.3 1 : forked", "4 m1 fork 1.3 2 : forked",
+          "5 m1 fork 1.3 3 : forked", "6 m1 await-ready 1.3 0 : ready", "7 m1 await-ready 1.3 1 : ready")
+DONE = "\n".join((*RELOAD, "8 m1 census 1.3 : counted 0-3", "done cause none pid in-place", ""))
+BACK = "\n".join((*RELOAD[:6], "6 m1 await-ready 1.3 0 : gone", "7 m1 quit 1.3 1 : ok", "8 m1 census 1.2 : counted 0-3", "rolled-back cause 6 pid in-place", ""))
+ATTENDED = ("word USR2 attended", "1 m1 spawn-master 2 : spawned", "2 m2 adopt : adopted", "3 m2 fork 2.3 0 : forked",
+            "4 m2 await-ready 2.3 0 : ready", "5 m1 census 1.2 : counted 0-3", "6 m2 census 2.3 : counted 0-3")
+TRACE = ["Traceback (most recent call last):", '  File "site.py", line 3, in <module>', "ZeroDivisionError: division by zero"]
+PLAN = "plan steps 3 longest 3\n1 m1 fork 1.3 0 | forked 2 | again no-memory 3\n"
+
+
+def worker(generation: str, number: int, **more: Any) -> Status:
+    return {"generation": generation, "number": number, "process": 4100 + number, "seconds": 7261, "last_beat_seconds": 1, **more}
+
+
+def status(**more: Any) -> Status:
+    """A service that serves, but for what differs."""
+    return {
+        "service": {"process": 4001, "seconds": 86400, "folder": "/run/prefork/shop"}, "addresses": ["0.0.0.0:8080"],
+        "generation": "1.2", "workers": [worker("1.2", number) for number in range(4)], "others": [], "failing": [],
+        "masters": [4002], "master_restarts": 0, "keeper": {"process": 4003, "restarts": 0}, "last": None, "doing": None,
+        "question": 0, "question_seconds": 0, "waiting": 0, "counts": [], "file_has_changed": False, "records_waiting": 0,
+        "state": "serves", "wanted": 4, "running": 4, "line": "serves: wanted 4, runs 4", **more,
+    }
+
+
+def done(word: str, block: str, reasons: list[str], errors: dict[str, list[str]] | None = None) -> Done:
+    return Done(word, BEGAN, 2.41, block, reasons, errors or {})
+
+
+RELOADED = done("HUP", DONE, [])
+TAKEN_BACK = done("HUP", BACK, ["6 m1 await-ready 1.3 0 : gone: gunicorn ended with status 3"], {"1.3.0": TRACE})
+FAILING = [{"worker": 0, "failed": 21, "reason": "gunicorn ended with status 3", "next_try_seconds": 12.0}]
+NEW = [worker("1.3", number, state="is ready" if number < 2 else "starts", seconds=3) for number in range(4)]
+UPGRADED = [worker("2.3", number, state="is ready", seconds=40) for number in range(4)]
+# Each state: the status, the last words, and the lines of the block that is not complete.
+STATES: dict[str, tuple[Status, list[Done], tuple[str, ...]]] = {
+    "before": (status(), [], ()),
+    "during": (status(state="changes", line="changes: HUP", doing="HUP", others=NEW), [RELOADED], RELOAD),
+    "after": (status(generation="1.3", workers=[worker("1.3", number) for number in range(4)]), [TAKEN_BACK, RELOADED], ()),
+    "rolled-back": (status(file_has_changed=True), [RELOADED, TAKEN_BACK], ()),
+    "short": (status(state="short", running=2, line="short: wanted 4, runs 2: worker 0 has failed 21 times, last: gunicorn ended with status 3",
+                     workers=[worker("1.2", 1), worker("1.2", 2), worker("1.2", 3, process=None, seconds=None)], failing=FAILING), [TAKEN_BACK], ()),
+    "question": (status(state="changes", line="changes: USR2 attended", doing="USR2 attended", question=1, question_seconds=95,
+                        others=UPGRADED, masters=[4002, 4200]), [RELOADED], ATTENDED),
+    "stopped": (status(state="stopped", wanted=0, running=0, workers=[], line="stopped: no worker is wanted"), [RELOADED], ()),
+}
+
+
+class Shown:
+    """A server of the page, by the service's own code, that shows one state after another."""
+
+    def __init__(self) -> None:
+        self.name, self.is_over, self.address = "before", False, free_address()
+        self.events = selectors.DefaultSelector()
+        self.site = Site(self.events, self.address, {
+            "/": lambda: (page.KIND, view.page_of(*self.seen())),
+            "/live": lambda: (live.KIND, view.event_of(*self.seen())),
+            "/live.js": lambda: (live.SCRIPT_KIND, live.SCRIPT),
+        })
+        self.thread = threading.Thread(target=self.turn)
+
+    def seen(self) -> tuple[Status, list[Done], tuple[str, ...], str]:
+        return *STATES[self.name], PLAN
+
+    def turn(self) -> None:
+        while not self.is_over:
+            for key, _ in self.events.select(0.05):
+                key.data(key.fileobj)
+            self.site.tend()
+
+    def __enter__(self) -> "Shown":
+        self.thread.start()
+        return self
+
+    def __exit__(self, *_: Any) -> None:
+        self.is_over = True
+        self.thread.join()
+        self.site.end()
+
+
+BAND = "document.querySelector('.band').className"
+
+
+def live_faults(seen: Page, shown: Shown) -> Iterator[str]:
+    """An open page follows the service by itself: each state is seen, what is open and where the keys are stays, and it
+    says so if the service does not answer."""
+    seen.go(f"http://{shown.address}/")
+    seen.value("(() => { const it = document.getElementById('plan'); it.open = true; it.querySelector('summary').id = 'key'; it.querySelector('summary').focus(); })()")
+    for name, (found, _, _) in STATES.items():
+        shown.name = name
+        seen.becomes(f"{BAND} === 'band {found['state']}' && document.querySelector('.count').textContent.startsWith('{found['running']} of ')")
+        yield from (f"{name}: {fault}" for fault in looks.faults(seen))
+        if not seen.value("document.getElementById('plan').open"):
+            yield f"{name}: what was open is closed"
+    others = [it for it in seen.requests if it.startswith("http") and not it.startswith(f"http://{shown.address}/")]
+    yield from (f"the page asks for {it}" for it in others)
+
+
+def lay_out(name: str, folder: pathlib.Path) -> pathlib.Path:
+    """The page of a state, in a file."""
+    found, words, calls = STATES[name]
+    file = folder / f"service-{name}.html"
+    file.write_text(view.page_of(found, words, calls, PLAN))
+    return file

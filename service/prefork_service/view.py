@@ -1,0 +1,183 @@
+"""The page of a service, from top to bottom as an operator reads: how it is, in a colour, a word and a sentence; what to
+type, if it asks; the workers of each generation; where the present word is; the last words; and then the numbers."""
+import pathlib
+from collections.abc import Sequence
+
+from . import live
+from .chronicle import Done
+from .page import drawn, masters_list, said, text, workers_table
+from .sentences import newest, on_its_way, sentence
+from .state import CHANGES, SERVES, SHORT, STOPPED
+from .stations import shown_stations
+from .status import Status, asked, shown_doing, workers
+from .words import START
+
+# The cells of a generation that are drawn.
+MOST_CELLS = 256
+STYLE = """
+:root { color-scheme: light dark; --ink: #1c2430; --soft: #566171; --line: #d5dbe3; --edge: #7f8a99; --paper: #fff;
+  --ground: #f4f6f9; --good: #146c43; --warn: #8a5300; --bad: #b02a37; --accent: #2f6fb5; --new: #1e8a5a }
+@media (prefers-color-scheme: dark) { :root { --ink: #e4e9f0; --soft: #a3afbe; --line: #36404d; --edge: #76828f;
+  --paper: #1a212b; --ground: #12171e; --good: #5fc990; --warn: #e0a85a; --bad: #f08a94; --accent: #6aa8ea; --new: #55c791 } }
+* { box-sizing: border-box }
+body { font: 15px/1.5 system-ui, sans-serif; margin: 0 auto; max-width: 70rem; padding: 1rem; color: var(--ink);
+  background: var(--ground) }
+section, details { background: var(--paper); border: 1px solid var(--line); border-radius: 8px; padding: .7rem; margin-top: .8rem }
+h1 { font-size: 1.4rem; margin: 0 } h2 { font-size: 1.05rem; margin: 0 0 .3rem } p { margin: .2rem 0 }
+.soft, .count, .state { color: var(--soft) } .state.short { color: var(--ink) } code, pre { font: .87rem/1.5 ui-monospace, monospace; overflow-wrap: anywhere }
+pre { background: var(--ground); padding: .6rem; overflow-x: auto; white-space: pre-wrap; margin: .2rem 0 }
+.band { border-left: .5rem solid var(--good) } .band strong { color: var(--good) }
+.band.changes { border-color: var(--warn) } .band.changes strong { color: var(--warn) }
+.band.short, .band.stopped { border-color: var(--bad) } .band.short strong, .band.stopped strong { color: var(--bad) }
+.question { border-left: .5rem solid var(--accent) }
+.bar { display: flex; flex-wrap: wrap; gap: 3px; align-items: center; margin: .3rem 0 }
+.bar b { font-weight: 600; min-width: 9rem } i.cell { width: 16px; height: 20px; border-radius: 3px; border: 2px solid var(--accent) }
+i.ready { background: var(--accent) } .new i.cell { border-color: var(--new) } .new i.ready { background: var(--new) }
+i.starts { background: linear-gradient(to top, var(--new) 45%, transparent 45%) } i.leaves { border-style: dotted; opacity: .75 }
+.bar i.missing { border: 2px dashed var(--bad) } .bar i.ended { border-color: var(--bad) }
+.stations { display: flex; flex-wrap: wrap; gap: .3rem; list-style: none; margin: 0; padding: 0 }
+.stations li { border: 1px solid var(--edge); border-radius: 1rem; padding: .05rem .7rem; color: var(--soft) }
+.stations li.done { color: var(--good); border-color: var(--good) }
+.stations li.now { color: var(--ink); border: 2px solid var(--accent); font-weight: 600 }
+.words { list-style: none; margin: 0; padding: 0 } .words li { border-left: 4px solid var(--edge); padding-left: .6rem; margin: .5rem 0 }
+.words li.done { border-color: var(--good) } .words li.rolled-back { border-color: var(--warn) }
+.words li.degraded, .words li.refused, .words li.lost { border-color: var(--bad) } .words .why { color: var(--bad) }
+.calls { display: flex; flex-wrap: wrap; gap: 2px; margin: .2rem 0 } .calls i { width: 8px; height: 14px; background: var(--edge); border-radius: 2px }
+.calls i.wrong { background: var(--bad) } .calls i.cause { outline: 2px solid var(--ink) }
+.scroll { overflow-x: auto } table { border-collapse: collapse } th, td { text-align: left; padding: .15rem 1rem .15rem 0; vertical-align: top }
+td:last-child { min-width: 12rem } td.number { text-align: right; font-variant-numeric: tabular-nums } th { font-weight: 600; border-bottom: 1px solid var(--line) }
+summary { cursor: pointer; font-weight: 600 } :focus-visible { outline: 2px solid var(--accent); outline-offset: 1px }
+#live { color: var(--bad); font-weight: 600 } ul { margin: .2rem 0; padding-left: 1.2rem }
+"""
+STATES = {SERVES: "serves", CHANGES: "changes", SHORT: "is short", STOPPED: "is stopped"}
+# What marks the station that is lit, for a reader that hears the page.
+MARK = ' aria-current="step"'
+# What a cell shows of a worker by what it does.
+KINDS = {"is ready": "ready", "starts": "starts", "finishes": "leaves", "ends": "leaves"}
+
+
+def name_of(status: Status) -> str:
+    """What people call a service: the name of its folder, or where that is the usual one, of the folder around it."""
+    folder = pathlib.Path(status["service"]["folder"])
+    return folder.parent.name or folder.name if folder.name == "run" else folder.name
+
+
+def count(status: Status) -> str:
+    return f"{status['running']} of {workers(status['wanted'])}, generation {status['generation'] or 'none'}"
+
+
+def title_of(status: Status) -> str:
+    return f"{name_of(status)} {STATES.get(status['state'], status['state'])}: {count(status)}"
+
+
+def band(status: Status, words: Sequence[Done]) -> str:
+    """How the service is."""
+    state = status["state"]
+    told = on_its_way(status["doing"]) if state == CHANGES and status["doing"] else newest(words)
+    return f'<section class="band {text(state)}" aria-label="state"><h1>{text(name_of(status))} ' \
+        f'<strong>{text(STATES.get(state, state))}</strong></h1><p>{text(told)}</p>' \
+        f'<p class="state {text(state)}">{text(status["line"])}</p><p class="count">{text(count(status))}</p></section>'
+
+
+def question(status: Status) -> str:
+    """What is asked, and what to type."""
+    if not status["question"]:
+        return ""
+    return f'<section class="question" aria-label="question"><h2>It asks whether to go on</h2><p>{text(asked(status))}.</p>' \
+        "<pre>prefork-ctl go\nprefork-ctl back</pre></section>"
+
+
+def cell(kind: str, told: str) -> str:
+    return f'<i class="cell {kind}" title="{text(told)}"></i>'
+
+
+def bar(name: str, cells: list[tuple[str, str]], is_new: bool) -> str:
+    """A generation: a cell for each worker, and in words how many there are of each kind."""
+    kinds = list(dict.fromkeys(kind for kind, _ in cells))
+    said = ", ".join(f"{sum(kind == it for it, _ in cells)} {'leaving' if kind == 'leaves' else 'starting' if kind == 'starts' else kind}" for kind in kinds)
+    drawn_cells = "".join(cell(*it) for it in cells[:MOST_CELLS])
+    more = f"<span>and {len(cells) - MOST_CELLS} more</span>" if len(cells) > MOST_CELLS else ""
+    told = f"{name}: {said or 'no worker'}"
+    return f'<div class="bar{" new" if is_new else ""}" role="img" aria-label="{text(told)}"><b>{text(name)}</b>{drawn_cells}{more}' \
+        f'<span class="soft">{text(said or "no worker")}</span></div>'
+
+
+def bars(status: Status) -> str:
+    """The workers of each generation: those that were counted last, with what is missing, and those beside them."""
+    cells = []
+    for worker in status["workers"]:
+        process = worker["process"]
+        told = f"worker {worker['number']}: " + (f"process {process}, for {worker['seconds']} s" if process else "has ended")
+        cells.append(("ready" if process else "ended", told))
+    missing = max(0, status["wanted"] - len(cells)) if status["state"] != CHANGES else 0
+    cells += [("missing", "is wanted, and does not run")] * missing
+    found = [bar(f"generation {status['generation']}" if status["generation"] else "no generation", cells, False)]
+    for generation in sorted({worker["generation"] for worker in status["others"]}):
+        beside = [worker for worker in status["others"] if worker["generation"] == generation]
+        told = [(KINDS.get(it["state"], "starts"), f"worker {it['number']}: process {it['process']}, {it['state']}") for it in beside]
+        is_new = any(kind != "leaves" for kind, _ in told)
+        if is_new:
+            told += [("missing", "is to be started")] * max(0, status["wanted"] - len(told))
+        found.append(bar(f"generation {generation}", told, is_new))
+    return f'<section><h2>Workers</h2>{"".join(found)}</section>'
+
+
+def stations(status: Status, calls: Sequence[str]) -> str:
+    """Where the present word is."""
+    found = shown_stations(status["doing"], calls, status["question"])
+    if not found:
+        return ""
+    rows = "".join(f'<li class="{kind}"{MARK if kind == "now" else ""}>{text(name)}</li>' for name, kind in found)
+    return f'<section><h2>{text(status["doing"])}, on its way</h2><ol class="stations">{rows}</ol></section>'
+
+
+def word_row(done: Done) -> str:
+    """A word that was carried out, with its reasons, and what its workers said last."""
+    kind = done.report.partition(" ")[0]
+    word = "start" if done.word == START else done.word
+    why = "".join(f'<p class="why"><code>{text(line)}</code></p>' for line in done.reasons)
+    cause = f'<p class="why">call that went wrong: <code>{text(done.cause)}</code></p>' if done.cause and not why else ""
+    return f'<li class="{text(kind)}"><p title="{text(done.began)}">{text(sentence(done))}</p>' \
+        f'<p class="soft"><code class="word">{text(word)}</code>: <code class="report">{text(done.report)}</code>, in {done.seconds:.2f} s</p>' \
+        f"{why}{cause}{said(done.errors)}{drawn(done)}</li>"
+
+
+def last_words(words: Sequence[Done]) -> str:
+    """The last words, newest first."""
+    rows = "".join(word_row(done) for done in reversed(words))
+    return f'<section><h2>Last words</h2>{f"<ol class=words>{rows}</ol>" if rows else "<p>None yet.</p>"}</section>'
+
+
+def numbers(status: Status, plan: str) -> str:
+    """Who runs by number, and the plan of the next reload."""
+    service = status["service"]
+    changed = "<p>The file has changed since it was accepted.</p>" if status["file_has_changed"] else ""
+    addresses = " ".join(status["addresses"]) or "none"
+    return f"""<details id="processes" open><summary>Processes</summary>
+<p>Service process {service["process"]} in {text(service["folder"])}, for {service["seconds"]} s. Addresses: {text(addresses)}.
+Now: {text(shown_doing(status))}.</p>
+<div class="scroll">{workers_table(status)}</div>{masters_list(status)}</details>
+<details id="plan"><summary>Plan of the next HUP</summary>{changed}<pre>{text(plan)}</pre></details>"""
+
+
+def middle_of(status: Status, words: Sequence[Done], calls: Sequence[str], plan: str) -> str:
+    """What changes of the page."""
+    parts = [band(status, words), question(status), bars(status), stations(status, calls), last_words(words), numbers(status, plan)]
+    return "".join(parts)
+
+
+def page_of(status: Status, words: Sequence[Done], calls: Sequence[str], plan: str) -> str:
+    """The whole page. `calls` are the lines of a block that is not complete."""
+    return f"""<!doctype html>
+<html lang="en"><head><meta charset="utf-8"><meta name="viewport" content="width=device-width, initial-scale=1">
+<title>{text(title_of(status))}</title><style>{STYLE}</style><script src="live.js" defer></script>
+<noscript><meta http-equiv="refresh" content="5"></noscript></head><body>
+<p id="live" role="status"></p>
+<main>{middle_of(status, words, calls, plan)}</main>
+</body></html>
+"""
+
+
+def event_of(status: Status, words: Sequence[Done], calls: Sequence[str], plan: str) -> str:
+    """The same for a page that is open."""
+    return live.event_of(title_of(status), middle_of(status, words, calls, plan))

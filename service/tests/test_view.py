@@ -1,0 +1,135 @@
+"""The page of a service: its sentences, its stations, and what it shows of each state."""
+import json
+import re
+import unittest
+
+from prefork_service import live, view
+from prefork_service.chronicle import Done
+from prefork_service.sentences import on_its_way, sentence
+from prefork_service.stations import BACK, PLANS, shown_stations
+from prefork_service.words import START
+from test_metrics import STATUS
+from test_page import read
+
+BEGAN = "2026-01-01T13:21:00+00:00"
+WHY = ["2 m1 await-ready 1.2 0 : gone: gunicorn ended with status 3"]
+RELOAD = ["word HUP", "1 m1 open 0.0.0.0:9090 : opened 4", "2 m1 fork 1.2 0 : forked", "3 m1 await-ready 1.2 0 : ready"]
+UPGRADE = ["word USR2", "1 m1 spawn-master 2 : spawned", "2 m2 adopt : adopted", "3 m2 fork 2.2 0 : forked",
+           "4 m1 census 1.1 : counted 0", "5 m2 await-ready 2.2 0 : ready"]
+
+
+def done(word: str, report: str, reasons: list[str] | None = None) -> Done:
+    return Done(word, BEGAN, 1.5, f"word {word}\n{report}\n", reasons or [], {})
+
+
+def lit(word: str, lines: list[str], question: int = 0) -> str:
+    """The station that is lit."""
+    return next(name for name, kind in shown_stations(word, lines, question) if kind == "now")
+
+
+class SentenceTest(unittest.TestCase):
+    def test_each_outcome(self) -> None:
+        for word, report, reasons, wanted in (
+            ("HUP", "done cause none pid in-place", [], "The reload at 13:21 is done."),
+            ("HUP", "rolled-back cause 2 pid no-file", WHY,
+             "The reload at 13:21 was taken back: gunicorn ended with status 3. The version before serves."),
+            ("USR2", "degraded target 1,2 cause 2 pid no-file", WHY,
+             "The upgrade at 13:21 ended short: gunicorn ended with status 3. 3 workers are missing."),
+            ("TTIN", "degraded target 1 cause none pid no-file", [], "The start of one worker more at 13:21 ended short. 1 worker is missing."),
+            ("HUP", "refused C4", ["workers: out of range"], "The reload at 13:21 was refused: workers: out of range. Nothing has changed."),
+            ("TTOU", "nothing", [], "The end of one worker at 13:21 had nothing to do."),
+            (START, "done cause none pid no-file", [], "The start at 13:21 is done."),
+            ("tick 7", "lost cause none pid no-file", [], "The tick at 13:21 was lost."),
+        ):
+            self.assertEqual(sentence(done(word, report, reasons)), wanted)
+
+    def test_the_present_word(self) -> None:
+        self.assertEqual(on_its_way("HUP"), "A reload is on its way.")
+        self.assertEqual(on_its_way("USR2 attended"), "An attended upgrade is on its way.")
+
+
+class StationsTest(unittest.TestCase):
+    def test_a_reload_goes_from_station_to_station(self) -> None:
+        told = [lit("HUP", RELOAD[:length]) for length in range(1, len(RELOAD) + 1)]
+        self.assertEqual(told, ["open addresses", "open addresses", "start workers", "hear them ready"])
+        self.assertEqual(lit("HUP", [*RELOAD, "4 m1 census 1.2 : counted 0"]), "count them")
+        self.assertEqual(lit("HUP", [*RELOAD, "4 m1 census 1.2 : counted 0", "5 m1 quit 1.1 0 : ok"]), "let the old ones finish")
+
+    def test_the_old_master_of_an_upgrade_counts_meanwhile(self) -> None:
+        self.assertEqual(lit("USR2", UPGRADE[:5]), "start its workers")
+        self.assertEqual(lit("USR2", UPGRADE), "hear them ready")
+
+    def test_a_question_is_lit(self) -> None:
+        for question in (1, 2):
+            found = [kind for name, kind in shown_stations("USR2 attended", UPGRADE, question) if name == "it asks"]
+            self.assertEqual(found.index("now"), question - 1)
+
+    def test_a_call_that_went_wrong_goes_back(self) -> None:
+        self.assertEqual(lit("HUP", [*RELOAD[:3], "3 m1 await-ready 1.2 0 : gone"]), BACK)
+
+    def test_other_words_have_none(self) -> None:
+        self.assertEqual([shown_stations(word, [], 0) for word in (None, "tick 1", "USR1")], [[], [], []])
+
+    def test_one_station_is_lit_in_each_plan(self) -> None:
+        for word in PLANS:
+            self.assertEqual([kind for _, kind in shown_stations(word, [], 0)].count("now"), 1)
+
+
+class ViewTest(unittest.TestCase):
+    def shown(self, **more: object) -> str:
+        return view.page_of({**STATUS, **more}, [done("HUP", "rolled-back cause 2 pid no-file", WHY)], RELOAD, "plan <x>")
+
+    def test_each_state_has_its_word_and_colour(self) -> None:
+        for state, word in (("serves", "serves"), ("changes", "changes"), ("short", "is short"), ("stopped", "is stopped")):
+            page = self.shown(state=state, line=f"{state}: x")
+            self.assertIn(f'<section class="band {state}"', page)
+            self.assertIn(f"site <strong>{word}</strong>", page)
+
+    def test_it_says_what_runs_what_is_missing_and_what_was_done(self) -> None:
+        found = read(self.shown())
+        for wanted in ("1 of 3 workers, generation 1.2", "short: wanted 3, runs 1: worker 2 has failed", "1 ready, 1 ended, 1 missing",
+                       "The reload at 13:21 was taken back: gunicorn ended with status 3.", "rolled-back cause 2 pid no-file", "plan <x>",
+                       "The file has changed", "old master, process 3:"):
+            self.assertIn(wanted, found.said)
+
+    def test_the_newest_word_is_the_first(self) -> None:
+        words = [done(word, "nothing") for word in (START, "HUP", "TTIN")]
+        told = view.last_words(words)
+        self.assertEqual(re.findall('<code class="word">([^<]*)', told), ["TTIN", "HUP", "start"])
+        self.assertIn("None yet.", view.last_words([]))
+
+    def test_the_call_that_went_wrong_is_named_where_nobody_noted_why(self) -> None:
+        word = Done("HUP", BEGAN, 1.0, "word HUP\n1 m1 fork 1.2 0 : again\nrolled-back cause 1 pid no-file\n", [])
+        self.assertIn("call that went wrong: <code>1 m1 fork 1.2 0 : again</code>", view.last_words([word]))
+
+    def test_a_generation_beside_it(self) -> None:
+        others = [{"generation": "1.3", "number": number, "process": 9, "seconds": 1, "state": state} for number, state in enumerate(("is ready", "starts"))]
+        page = self.shown(state="changes", line="changes: HUP", doing="HUP", others=others)
+        self.assertIn('aria-label="generation 1.3: 1 ready, 1 starting, 1 missing"', page)
+        self.assertIn('<li class="now" aria-current="step">hear them ready</li>', page)
+        self.assertIn("A reload is on its way.", page)
+
+    def test_a_question_says_what_to_type(self) -> None:
+        said = read(self.shown(state="changes", line="changes: USR2 attended", doing="USR2 attended", question=1)).said
+        self.assertIn("prefork-ctl go\nprefork-ctl back", said)
+        self.assertNotIn("It asks", read(self.shown()).said)
+
+    def test_what_others_have_written_is_no_markup(self) -> None:
+        bad = "<script>x</script>"
+        word = Done("HUP", bad, 1.0, f"word HUP\nrolled-back cause 1 pid {bad}\n", [bad], {bad: [bad]})
+        service = {**STATUS["service"], "folder": f"/run/{bad}"}
+        page = view.page_of({**STATUS, "service": service, "addresses": [bad], "line": f"short: {bad}"}, [word], [bad], bad)
+        self.assertEqual(re.findall("<script[^>]*>", page), ['<script src="live.js" defer>'])
+        read(page)
+
+    def test_an_event_has_the_middle_of_the_page(self) -> None:
+        told = view.event_of(STATUS, [], [], "")
+        self.assertTrue(told.startswith(f"retry: {live.RETRY}\ndata: "))
+        self.assertTrue(told.endswith("\n\n") and told.count("\n") == 3)
+        event = json.loads(told.splitlines()[1].removeprefix("data: "))
+        self.assertIn(f"<main>{event['middle']}</main>", view.page_of(STATUS, [], [], ""))
+        self.assertIn(f"<title>{event['title']}</title>", view.page_of(STATUS, [], [], ""))
+
+
+if __name__ == "__main__":
+    unittest.main()
