@@ -45,6 +45,14 @@ def text_of(file: pathlib.Path) -> str:
     return file.read_text() if file.exists() else ""
 
 
+def name_of(process: int) -> str:
+    """The name of a process; nothing if it has ended."""
+    try:
+        return pathlib.Path(f"/proc/{process}/comm").read_text().rstrip("\n")
+    except OSError:
+        return ""
+
+
 def catches(process: int, number: int) -> bool:
     """Whether a process takes a signal by itself."""
     caught = re.search(r"^SigCgt:\s*([0-9a-f]+)$", text_of(pathlib.Path(f"/proc/{process}/status")), re.M)
@@ -72,6 +80,10 @@ class Site:
         self.given: list[int] = []
         # The program that runs in place of the double, with an adapter, if there is one.
         self.program: list[str] = []
+        # Whether a preloader forks the workers, which have their names and not words of their own.
+        self.is_forked = False
+        # More options of the load.
+        self.load_options: list[str] = []
         # Whether the blocks are where they usually are.
         self.is_recorded = True
         # Processes, once they are started.
@@ -95,7 +107,7 @@ class Site:
         """Writes a configuration: the first address and two workers, if nothing else or groups are said."""
         served = {} if "groups" in settings else {"listeners": [self.first], "workers": 2}
         command = [str(self.home / "app"), "child"]
-        settings = {**served, "command": None if self.program else command, "timeout": 60, **settings}
+        settings = {**served, "command": None if self.program or self.is_forked else command, "timeout": 60, **settings}
         new = self.room / "new.toml"
         new.write_text(configuration(**{key: value for key, value in settings.items() if value is not None}))
         new.replace(self.room / file)
@@ -154,10 +166,13 @@ class Site:
         until("the pid file of serve", lambda: text_of(self.run / "serve.pid") == f"{self.serve.pid}\n")
         until("the first block", lambda: "\ndone " in self.blocks() or not self.is_recorded)
         until("the first answer", lambda: is_answered(self.first))
+        self.begin_load()
+
+    def begin_load(self) -> None:
         self.load = subprocess.Popen(
             [
                 BIN / "prefork-load", "--json", "--clients", str(CLIENTS), "--rate", str(RATE), "--patience",
-                str(PATIENCE), self.first,
+                str(PATIENCE), *self.load_options, self.first,
             ],
             stdout=subprocess.PIPE, text=True, env=self.environment, cwd=self.room,
         )
@@ -176,8 +191,14 @@ class Site:
 
     def workers(self) -> set[int]:
         """The processes that are workers."""
+        if self.is_forked:
+            return self.named("worker ")
         own = self.program or [str(self.home / "app"), "child"]
         return {number for number, words in self.mark.processes().items() if is_worker(words, own)}
+
+    def named(self, begin: str) -> set[int]:
+        """The processes whose name begins so."""
+        return {number for number in self.mark.processes() if name_of(number).startswith(begin)}
 
     def has_others(self, old: Collection[int], count: int = 2) -> bool:
         """Whether this number of workers runs and none of the old ones, in one look at the processes."""

@@ -53,7 +53,7 @@ _prefork_service() {
             options='--folder --prefork --records --records-size --metrics --page --answer-within --defer-accept --socket-mode --socket-group --public --on-done --on-rolled-back --on-degraded --on-short --on-healed --keep-trying --plain-log --wsgi --preload --python --threads --timeout --keep --chdir --warm --after-load --after-fork --ready --ready-within --probe --probe-within --probe-limit --stop --finish --usr1 --env --no-listen-fds --blocking --version --help'
             ;;
         prefork-ctl) options='--folder --json --wait --seconds --events --forbid --require --least --records --prefork --version --help' ;;
-        prefork-checkworker) options='--path --slow --one --patience --version --help' ;;
+        prefork-checkworker) options='--path --slow --one --preload --patience --version --help' ;;
         prefork-load) options='--clients --rate --seconds --patience --path --again --json --version --help' ;;
         *) return ;;
     esac

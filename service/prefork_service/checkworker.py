@@ -1,9 +1,10 @@
-"""prefork-checkworker [--path PATH] [--slow PATH] [--one] [--patience SECONDS] COMMAND..
+"""prefork-checkworker [--path PATH] [--slow PATH] [--one] [--preload] [--patience SECONDS] COMMAND..
 
 Checks whether COMMAND is a worker by the convention of docs/WORKERS.md. It plays the master, with a keeper beside it,
 on loopback and in a temporary folder, and compares what the worker answers and serves. --path is a page (/), --slow one
 that takes a second or more; without it, what concerns requests in progress is not checked. With --one it is told one
-address at a time. --patience says how long it may take to load, and to finish (45).
+address at a time. With --preload, COMMAND is a preloader (docs/workers/preloaders.md): it is checked, and the workers that
+it forks are. --patience says how long it may take to load, and to finish (45).
 
 Prints a line for each point, and then 'N passed, M failed'. The status is 1 if any point failed.
 """
@@ -21,6 +22,7 @@ import tempfile
 import threading
 import time
 import uuid
+from collections.abc import Callable, Sequence
 from typing import Any
 
 from . import VERSION, places
@@ -92,6 +94,10 @@ class NotReady(Exception):
     """The worker has not become ready: the rest of a check says nothing."""
 
 
+class NotLoaded(Exception):
+    """The preloader has not loaded: the other checks say nothing."""
+
+
 class Bench:
     """What a worker is checked on: a keeper, addresses, and the points that were met or not."""
 
@@ -104,11 +110,23 @@ class Bench:
         while not self.path.exists() and self.keeper.poll() is None:
             time.sleep(0.01)
 
+    def command(self) -> list[str]:
+        """What a master starts."""
+        return self.given.command
+
+    def more(self, mark: str) -> dict[str, str]:
+        """More variables of a worker with a mark."""
+        return {}
+
+    def left(self, talk: Conversation) -> list[int]:
+        """The processes of a worker."""
+        return marked(talk.mark)
+
     def started(self, *addresses: str, go: bool = True, keeper: str = "") -> Conversation:
         """A worker that was told its addresses."""
         mark = uuid.uuid4().hex
-        environment = {**os.environ, MARK: mark, "PREFORK_KEEPER": keeper or str(self.path)}
-        talk = Conversation(self.given.command, environment, mark)
+        environment = {**os.environ, MARK: mark, "PREFORK_KEEPER": keeper or str(self.path), **self.more(mark)}
+        talk = Conversation(self.command(), environment, mark)
         self.talks.append(talk)
         talk.say("worker 1.1 0 7", *(f"listener {address}" for address in addresses))
         if go:
@@ -147,14 +165,14 @@ class Bench:
 
     def nothing_left(self, when: str, talk: Conversation) -> None:
         deadline = time.monotonic() + self.answer
-        while marked(talk.mark) and time.monotonic() < deadline:
+        while self.left(talk) and time.monotonic() < deadline:
             time.sleep(0.05)
-        self.point(f"{when}, no process of it is left", marked(talk.mark), [])
+        self.point(f"{when}, no process of it is left", self.left(talk), [])
 
     def close(self) -> None:
         for talk in self.talks:
             talk.close()
-            for number in marked(talk.mark):
+            for number in self.left(talk):
                 os.kill(number, signal.SIGKILL)
         os.kill(self.keeper.pid, signal.SIGCONT)
         self.keeper.stdin.close()
@@ -285,6 +303,7 @@ def arguments() -> argparse.Namespace:
     parser.add_argument("--path", default="/", help="a page that it serves (/)")
     parser.add_argument("--slow", metavar="PATH", help="a page that takes a second or more")
     parser.add_argument("--one", action="store_true", help="tell it one address at a time")
+    parser.add_argument("--preload", action="store_true", help="it is a preloader: check it, and the workers that it forks")
     patience = f"how long it may take to load, and to finish ({PATIENCE:g})"
     parser.add_argument("--patience", type=float, default=PATIENCE, metavar="SECONDS", help=patience)
     parser.add_argument("command", nargs=argparse.REMAINDER, metavar="COMMAND")
@@ -295,19 +314,32 @@ def arguments() -> argparse.Namespace:
     return given
 
 
+def bench_of(given: argparse.Namespace, room: pathlib.Path) -> tuple[Bench, Sequence[Callable[[Any], None]]]:
+    """What is checked, and the checks."""
+    if not given.preload:
+        return Bench(given, room), CHECKS
+    from . import checkpreloader as preloaders
+
+    first, last = (preloaders.check_load, preloaders.check_forks), (preloaders.check_end,)
+    return preloaders.PreloaderBench(given, room), (*first, *CHECKS, *last)
+
+
 def main() -> int:
     given = arguments()
     if fault := fault_of(given.command[0]):
         print(f"prefork-checkworker: {fault}", file=sys.stderr)
         return 2
     with tempfile.TemporaryDirectory(prefix="checkworker-") as room:
-        bench = Bench(given, pathlib.Path(room))
+        bench, checks = bench_of(given, pathlib.Path(room))
         try:
-            for check in CHECKS:
+            for check in checks:
                 try:
                     check(bench)
                 except NotReady:
                     print("note   the points that need a ready worker are left out")
+                except NotLoaded:
+                    print("note   all other points are left out")
+                    break
         finally:
             bench.close()
     if not given.slow:

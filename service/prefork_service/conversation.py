@@ -4,6 +4,7 @@ import pathlib
 import select
 import subprocess
 import time
+from collections.abc import Sequence
 from typing import Any
 
 MARK = "CHECKED_WORKER"
@@ -25,8 +26,8 @@ def marked(mark: str) -> list[int]:
 class Conversation:
     """A worker that was started, and the pipes to it."""
 
-    def __init__(self, command: list[str], environment: dict[str, str], mark: str = ""):
-        pipes: dict[str, Any] = {"stdin": subprocess.PIPE, "stdout": subprocess.PIPE, "bufsize": 0}
+    def __init__(self, command: list[str], environment: dict[str, str], mark: str = "", given: Sequence[int] = ()):
+        pipes: dict[str, Any] = {"stdin": subprocess.PIPE, "stdout": subprocess.PIPE, "bufsize": 0, "pass_fds": given}
         self.process: Any = subprocess.Popen(command, **pipes, env=environment)
         self.unread, self.mark = b"", mark
 

@@ -6,6 +6,7 @@ import subprocess
 import time
 from typing import Any
 
+from .burying import started
 from .folder import say
 
 # The options that name a program, and when it is started.
@@ -44,7 +45,7 @@ class Hooks:
             os.write(text, json.dumps({"event": event, **told}).encode() + b"\n")
             os.lseek(text, 0, os.SEEK_SET)
             streams: dict[str, Any] = {"stdin": text, "stdout": subprocess.DEVNULL, "env": environment}
-            found = subprocess.Popen([program, event], start_new_session=True, **streams)
+            found = started([program, event], start_new_session=True, **streams)
             self.running.append((found, event, time.monotonic() + SECONDS))
         except OSError as fault:
             say(f"--{event}: {program}: {fault.strerror}")

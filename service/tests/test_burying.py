@@ -38,6 +38,12 @@ class BuryingTest(unittest.TestCase):
         found = subprocess.run([sys.executable, "-c", PROGRAM], env=environment, capture_output=True, text=True, timeout=60)
         self.assertEqual((found.stdout, found.stderr), ("True None 7 0 []\n", ""))
 
+    def test_all_that_prefork_serve_starts_is_known(self) -> None:
+        """What a module starts by itself would be buried here, and its status lost."""
+        of_others = {"burying.py", "checkworker.py", "checkpreloader.py", "conversation.py"}
+        files = [file for file in (BIN.parent / "prefork_service").glob("*.py") if file.name not in of_others]
+        self.assertEqual([file.name for file in files if "Popen(" in file.read_text()], [])
+
     def test_nobody_is_there(self) -> None:
         text = "from prefork_service.burying import bury_orphans\nprint(bury_orphans())"
         environment = {**os.environ, "PYTHONPATH": str(BIN.parent)}

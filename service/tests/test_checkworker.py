@@ -1,9 +1,16 @@
 """prefork-checkworker: passes a worker, and names the fault of a program that is not one."""
+import argparse
 import concurrent.futures
+import contextlib
+import io
+import pathlib
+import re
 import subprocess
+import tempfile
 import unittest
 
 from kit import BIN, OUT, PROGRAMS, PYTHON, SERVICE, built
+from prefork_service.checkpreloader import PreloaderBench, check_end, check_forks, check_load
 from test_wsgi import PYTHON as PYTHON_WITH_WAITRESS
 
 RIGHT = {
@@ -30,15 +37,41 @@ WRONG = {
 }
 
 
+# Of each wrong preloader, the point that it does not meet.
+WRONG_PRELOADERS = {
+    "keeps": "it keeps no descriptor of a worker that has ended",
+    "hands": "no worker has a descriptor of the preloader, or of another worker",
+    "loose": "a stopped worker ends with its shim",
+    "silent": "it says forked for each worker",
+    "buries": "after a killed worker, no process of it is left",
+    "stays": "at the end of its input it closes the fork socket",
+}
+
+
 # A wrong worker is not waited for long, unless a busy machine does not let it start in this time.
 SHORT, LONG = 5, 45
 
 
 def checked(command: list, seconds: int = LONG) -> tuple[int, str]:
     """The status of the check, and what it said."""
-    words = [BIN / "prefork-checkworker", "--slow", "/slow", "--patience", str(seconds), "--", *command]
+    options, program = (["--preload"], command[1:]) if command[:1] == ["--preload"] else ([], command)
+    words = [BIN / "prefork-checkworker", "--slow", "/slow", *options, "--patience", str(seconds), "--", *program]
     found = subprocess.run(words, stdout=subprocess.PIPE, stderr=subprocess.DEVNULL, stdin=subprocess.DEVNULL, text=True)
     return found.returncode, found.stdout
+
+
+def preloader_checked(command: list[str]) -> str:
+    """What the checks of a preloader say, without those of its workers."""
+    said = io.StringIO()
+    given = argparse.Namespace(command=command, patience=LONG, path="/", slow=None, one=False)
+    with tempfile.TemporaryDirectory(prefix="checkworker-") as room, contextlib.redirect_stdout(said):
+        bench = PreloaderBench(given, pathlib.Path(room))
+        try:
+            for check in (check_load, check_forks, check_end):
+                check(bench)
+        finally:
+            bench.close()
+    return said.getvalue()
 
 
 class CheckTest(unittest.TestCase):
@@ -70,6 +103,22 @@ class CheckTest(unittest.TestCase):
                     status, said = checked(wrong[fault])
                 self.assertEqual(status, 1)
                 self.assertIn(f"FAULT  {point}; found: ", said)
+
+    @unittest.skipUnless(PYTHON_WITH_WAITRESS, "no Python with waitress")
+    def test_wrong_preloaders(self) -> None:
+        """A leak of descriptors, from the preloader to workers or from workers to the preloader, is among the faults."""
+        for fault, point in {"nothing": "", **WRONG_PRELOADERS}.items():
+            with self.subTest(fault):
+                program = [PROGRAMS / "wrong_preloader.py", fault, "--chdir", PROGRAMS, "--preloader", "wsgi_page:application"]
+                said = preloader_checked([str(PYTHON_WITH_WAITRESS), *map(str, program)])
+                found = re.findall(r"^FAULT  (.*); found: ", said, re.M)
+                self.assertEqual(point in found, fault != "nothing", said)
+
+    def test_a_preloader_that_does_not_load(self) -> None:
+        status, said = checked(["--preload", PYTHON, "-c", "raise SystemExit(1)"])
+        self.assertEqual(status, 1)
+        self.assertIn("FAULT  it says loaded, and nothing before; found: '(the end of its output)'\n", said)
+        self.assertIn("\n0 passed, 1 failed\n", said)
 
     def test_a_command_that_cannot_be_started(self) -> None:
         found = subprocess.run([BIN / "prefork-checkworker"], capture_output=True, text=True)

@@ -1,4 +1,5 @@
 """prefork-shim and preloaders: who ends with whom, and what those that wait are told."""
+import ast
 import os
 import pathlib
 import selectors
@@ -209,6 +210,17 @@ class PreloadingTest(WorkerTest):
         self.assertEqual((told.returncode, told.stdout), (0, "loaded\n"))
         for text in ("threads (poller)", "a connection (descriptor", "/base (descriptor"):
             self.assertIn(text, told.stderr)
+
+    def test_random_numbers_of_workers_differ(self) -> None:
+        """Also where the application has drawn some while it loaded. Its own generators, which it has seeded, do not."""
+        text = "import random\ndrawn = random.random()\nown = random.Random(1)\n"
+        text += APPLICATION.replace('b"version 1 process %d\\n" % os.getpid()', 'repr((drawn, own.random(), random.random())).encode()')
+        (self.room / "app.py").write_text(text)
+        self.begun()
+        talks = [self.worker(number) for number in range(4)]
+        self.assertEqual([talk.hear() for talk, _ in talks], ["ready"] * 4)
+        drawn, own, numbers = zip(*(ast.literal_eval(answer_of(address)) for _, address in talks))
+        self.assertEqual((len(set(drawn)), len(set(own)), len(set(numbers))), (1, 1, 4))
 
     def test_hooks_and_a_page_before_the_first_fork(self) -> None:
         text = "import pathlib, os\ndef note(text):\n    open('notes', 'a').write(f'{text} {os.getpid()}\\n')\n"
