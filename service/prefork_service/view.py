@@ -15,7 +15,7 @@ from .words import START
 # The cells of a generation that are drawn.
 MOST_CELLS = 256
 STYLE = """
-:root { color-scheme: light dark; --ink: #1c2430; --soft: #566171; --line: #d5dbe3; --edge: #7f8a99; --paper: #fff;
+:root { color-scheme: light dark; --ink: #1c2430; --soft: #4c5766; --line: #d5dbe3; --edge: #7f8a99; --paper: #fff;
   --ground: #f4f6f9; --good: #146c43; --warn: #8a5300; --bad: #b02a37; --accent: #2f6fb5; --new: #1e8a5a }
 @media (prefers-color-scheme: dark) { :root { --ink: #e4e9f0; --soft: #a3afbe; --line: #36404d; --edge: #76828f;
   --paper: #1a212b; --ground: #12171e; --good: #5fc990; --warn: #e0a85a; --bad: #f08a94; --accent: #6aa8ea; --new: #55c791 } }
