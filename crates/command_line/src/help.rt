@@ -29,7 +29,7 @@ pub(crate) const WHY_HELP: &str = "Explain errors and refusals [default: at a te
 
 pub(crate) const JSON_HELP: &str = "Print the answer as JSON";
 
-pub(crate) const CODE_HELP: &str = "A code as the program prints it: Y1, C4, usage";
+pub(crate) const CODE_HELP: &str = "A code, an answer, a word or a call: C4, late, HUP, fork";
 
 pub(crate) const FILES_HELP: &str = "A configuration, a TOML file";
 
@@ -139,7 +139,7 @@ pub(crate) const EXPLAIN_NOTES: &str = "\
 Status: 0, or 2 if there is no such code.
 
 Example: an error line ends with C4 workers:
-  prefork explain C4";
+  prefork explain C4 (or 'C4 workers', or c4)";
 
 pub(crate) const EXPLORE_NOTES: &str = "\
 It carries out WORD under no event, under each single event and, with --events

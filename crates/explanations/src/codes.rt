@@ -3,52 +3,26 @@ ghost use Rattle.std.specs.Prelude.{◌≡◌, ◌++◌, ◌⊎◌, IfOk, IfErr,
 ghost use Rattle.explanations.specs.Pages.{meaning_line, page_text};
 ghost use Rattle.faults.specs.declared.fault.Fault.TheVariants.{Code, Memory};
 
-use code_explanations::{Explanation, answer_pages, explanation_of, fault_pages, word_pages};
+use crate::finding::find;
+use code_explanations::{Explanation, answer_pages, fault_pages, word_pages};
 use faults::Fault;
 use std::alloc::{AllocError, Global};
 
 /// The column at which meanings begin in the list of all.
 const COLUMN: usize = 12;
 
-/// What a code, an answer or an outcome means, and what to do about it; without one, a line for each.
+/// What a code, an answer, an outcome, a word or a call means, and what to do about it: of a text such as `C5 0 A3` the
+/// first word counts, in large or small letters. Without a text, a line for each but the words and calls.
 pub fn explain(alloc: Global, code: Option<&str>) -> Result<Vec<u8>, Fault>
     ensures { IfErr result (λ fault. (fault ≡ Memory) ⊎ ((fault ≡ Code) × IsTrue (is_some code.entry))) }
 {
     let Some(code) = code else {
         return Ok(list(alloc)?);
     };
-    match explanation_in_all(code) {
+    match find(code) {
         Some(found) => Ok(page(alloc, &found)?),
         None => Err(Fault::Code),
     }
-}
-
-/// What is known of a code, an answer or an outcome, if it is one.
-fn explanation_in_all(code: &str) -> Option<Explanation> {
-    match meaning_of(code) {
-        Some(found) => Some(found),
-        None => meaning_of_answer(code),
-    }
-}
-
-/// What is known of a code, if it is one.
-pub fn meaning_of(code: &str) -> Option<Explanation> {
-    match meaning_of_fault(code) {
-        Some(found) => Some(found),
-        None => meaning_of_word(code),
-    }
-}
-
-fn meaning_of_fault(code: &str) -> Option<Explanation> {
-    explanation_of(fault_pages(), code)
-}
-
-fn meaning_of_word(code: &str) -> Option<Explanation> {
-    explanation_of(word_pages(), code)
-}
-
-fn meaning_of_answer(code: &str) -> Option<Explanation> {
-    explanation_of(answer_pages(), code)
 }
 
 /// A line for each.

@@ -5,6 +5,7 @@
 mod asking;
 mod checking;
 mod codes;
+mod finding;
 mod keys;
 mod lines;
 mod places;
@@ -14,7 +15,7 @@ mod why;
 pub use asking::is_asked;
 pub use checking::{check_file, check_text};
 pub use codes::explain;
-use codes::meaning_of;
+use finding::meaning_of;
 pub use places::Evidence;
 pub use programs::tell_program;
 pub use why::{has_why, tell, tell_declined, tell_refusals, tell_usage};
