@@ -10,6 +10,7 @@ import time
 from gate.addresses import answer_of, is_answered, is_refused
 from gate.waiting import SECONDS, until
 from web.site import BROKEN, CLIENTS, Scenario, Site, text_of
+from web.starts import status
 
 
 def there_and_back(site: Site) -> None:
@@ -130,6 +131,7 @@ def a_broken_file(site: Site) -> None:
     sent = site.sent("HUP")
     _, said = sent.communicate(timeout=SECONDS)
     site.check(f"the operator isn't told what is started again: {said}", "the files as they are now" in said)
+    site.check("the status doesn't say it", "the files as they are now" in (status(site)["of_files"] or ""))
     site.wants("HUP", 3, "rolled-back", 2)
     site.end("1")
     site.certify()

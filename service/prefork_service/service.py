@@ -53,6 +53,8 @@ class Service:
         self.record = self.watching.record
         # Why the service ends that could not start, and whether it goes on trying in place of that.
         self.failure, self.keeps_trying = "", False
+        # What is to be done about files whose version has not started, while the one before runs.
+        self.of_files: str | None = None
         self.leaving = Leaving(self.folder.path, end_seconds(limits))
         self.hanging, self.status_of_end = Hanging(self), 0
         self.summary = Summary(self)
@@ -316,9 +318,11 @@ class Service:
         self.keeping.refusals.clear()
         found = [*self.chronicle.end_word(word.text, block, refusals, self.mistake(word, block))]
         if is_broken(word.text, block) and not refusals:
-            told = PRELOADER_SERVES if self.commands.is_forked() else OLD_SERVES
-            say(told)
-            found.append(told)
+            self.of_files = PRELOADER_SERVES if self.commands.is_forked() else OLD_SERVES
+            say(self.of_files)
+            found.append(self.of_files)
+        elif word.text in CHANGES and block.splitlines()[-1].startswith(("done", "degraded target")):
+            self.of_files = None
         if word.text not in (START, *STOPS) and not word.text.startswith("tick "):
             found.append(f"runs now: {self.summary.runs_now()}")
             if word.text in ("TTOU", "WINCH") and not self.record.wanted:

@@ -180,6 +180,8 @@ def shown(status: Status) -> str:
         *(f"because     {why}" for why in (last["reasons"] if last else [])),
         f"now         {shown_doing(status)}",
     ]
+    if status.get("of_files"):
+        lines.append(f"files       {status['of_files']}")
     if status["file_has_changed"]:
         lines.append("file        has changed since it was accepted; HUP reads it")
     return "".join(f"{line}\n" for line in lines)

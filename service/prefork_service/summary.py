@@ -83,6 +83,8 @@ class Summary:
             "question_seconds": int(time.monotonic() - of.asked) if of.question else 0,
             "waiting": len(of.waiting),
             "file_has_changed": of.commands.has_changed(),
+            # What is to be done about files whose version has not started, while the one before runs.
+            "of_files": of.of_files,
             "records_waiting": of.chronicle.waiting(),
             **of.watching.as_json(of.doing()),
             **({"preloaders": of.commands.preloading.status()} if of.commands.preloading else {}),

@@ -124,19 +124,20 @@ class ShownTest(unittest.TestCase):
             "last": {"word": "USR2", "report": "done", "at": "2026-01-01T00:00:00+00:00", "reasons": ["2 m1 x: why"]}, "doing": "HUP", "question": 1,
             "waiting": 2, "file_has_changed": True, "question_seconds": 7, "line": "changes: HUP",
             "others": [{"generation": "2.3", "number": 0, "process": 8, "seconds": 1, "state": "is ready"}],
-            "failing": [{"worker": 1, "failed": 2, "reason": "it ended", "next_try_seconds": 3.9}],
+            "of_files": "mend the new one", "failing": [{"worker": 1, "failed": 2, "reason": "it ended", "next_try_seconds": 3.9}],
         }
         said = shown(status)
         for wanted in (
             "worker 0    process 7, for 9 s, beat 1 s ago\n", "worker 1    has ended\n",
-            "master      process 4, started again once\n", "old master  process 3: an upgrade has left it",
+            "master      process 4, started again once\n", "files       mend the new one\n", "old master  process 3: an upgrade has left it",
             "last word   USR2 at 2026-01-01T00:00:00+00:00: done\n", "because     2 m1 x: why\n",
             "now         carries out HUP, asks 1: old and new workers serve, for 7 s: type prefork-ctl go, or prefork-ctl back, "
             "2 more wait\n", "file        has changed", "state       changes: HUP\n",
             "worker 2.3.0 process 8, for 1 s, is ready\n", "next try    worker 1 in 4 s: it has failed 2 times, it ended\n",
         ):
             self.assertIn(wanted, said)
-        quiet = {**status, "last": None, "doing": None, "question": 0, "waiting": 0, "masters": [], "file_has_changed": False}
+        quiet = {**status, "last": None, "doing": None, "question": 0, "waiting": 0, "masters": [], "file_has_changed": False, "of_files": None}
+        self.assertNotIn("files  ", shown(quiet))
         for wanted in ("master      none runs", "last word   none\n", "now         waits for words\n"):
             self.assertIn(wanted, shown(quiet))
 
