@@ -185,6 +185,22 @@ def explore_faults(page: Page, program: str) -> Iterator[str]:
         yield "a pattern that explore names is not shown"
 
 
+def end_faults(page: Page) -> Iterator[str]:
+    """A long count says how far it is, blocks nothing, and can be ended; the next one works."""
+    to_start(page)
+    for field in ("a", "b"):
+        set_field(page, field, "workers = 16\n")
+    click(page, "#pairs")
+    page.becomes("document.getElementById('explored').textContent.includes('0000 runs')")
+    click(page, "#run button.call")
+    if not page.value("document.querySelectorAll('#run .opened').length"):
+        yield "the page does not answer while it counts"
+    click(page, "#endExplore")
+    page.becomes("document.getElementById('explored').textContent === 'Ended.' && document.getElementById('endExplore').hidden")
+    click(page, "#explore")
+    page.becomes("document.querySelectorAll('#explored li').length > 0")
+
+
 class Record(NamedTuple):
     """What a master wrote, with the texts of the configurations that it started with and went over to."""
 
