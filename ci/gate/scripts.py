@@ -30,6 +30,7 @@ SCRIPTS = {
     "children": "runs of real children",
     "soak": "words of a soak",
     "service": "checks of a web service",
+    "mistakes": "checks of what mistakes are told",
     "adapters": "checks of applications as they are",
     "package": "checks of the package and of a roll-out",
     "page": "checks of the page and the library",
@@ -42,7 +43,7 @@ WITHOUT_PROGRAM = ("selftest",)
 FIRST = ("json",)
 # What mostly waits, for services under load and for real children: the longest first. It begins once the program is
 # proved, beside the proofs of tests, and goes before them, as far as the system lets it.
-WAITING = ("adapters", "service", "children", "package", "soak")
+WAITING = ("adapters", "service", "children", "mistakes", "package", "soak")
 AHEAD = -5
 # What computes: first what tells most in a second, and then the longest, so that short ones fill the end. It begins once
 # the last proofs of tests leave it room, and gives way to the others, whose loads and time limits are those of an

@@ -1,5 +1,6 @@
 """A service that is short, for each of six reasons: status, JSON, metrics, page, systemd and hooks tell the same, and that it
 is over."""
+import itertools
 import json
 import os
 import pathlib
@@ -147,8 +148,10 @@ def short_for_five_reasons(site: Site) -> None:
         views.systemd.close()
     said = text_of(site.room / "said")
     lines = [line for line in said.splitlines() if line.startswith(("prefork-serve: short: ", "prefork-serve: serves: "))]
-    kinds = [line.split(": ")[1] for line in lines]
-    site.check(f"the states are told more than once: {lines}", kinds == ["serves", "short"] * 5 + ["serves"])
+    kinds = [kind for kind, _ in itertools.groupby(line.split(": ")[1] for line in lines)]
+    # (a shortfall is told again once it is known why)
+    is_few = kinds == ["serves", "short"] * 5 + ["serves"] and len(lines) <= 16
+    site.check(f"the states are told more than once: {lines}", is_few)
     site.certify()
 
 

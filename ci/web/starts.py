@@ -63,9 +63,9 @@ def a_bad_start(site: Site) -> None:
     """A start that cannot be ends with status 1, says in one place what is wrong and where, and leaves nothing."""
     refused(site, "site.toml: No such file or directory\n")
     site.configure(command=[])
-    refused(site, "--from site.toml, line 3: command = []\n")
+    refused(site, "prefork-serve: site.toml, line 3: command = []: ")
     site.config.write_text(f'# A line more.\nlisteners = ["{site.first}"]\ncommand = ["/bin/true"]\nworkrs = 1\n')
-    refused(site, "--from site.toml, line 4: workrs = 1\n")
+    refused(site, "prefork-serve: site.toml, line 4: workrs = 1: unknown key: workrs (the nearest known key is workers)\n")
     file = site.room / "file"
     file.write_text("no program")
     for program, why in ((str(site.room / "missing"), "No such file or directory\n"), (str(file), "Permission denied\n")):

@@ -16,6 +16,7 @@ if TYPE_CHECKING:
     from .service import Service
 
 LONGEST, QUEUE = 64, 64
+NOTHING_ASKED = "nothing is asked: go and back answer an upgrade that asks, USR2 attended"
 FAULT = "a fault in prefork-serve, which has logged it with its trace"
 
 
@@ -90,7 +91,7 @@ class Asking:
         """Answers the question, if there is one."""
         service = self.service
         if not service.question:
-            word.answer(f"word {word.text}\n{NOT_ASKED}\n")
+            word.answer(f"{NOTE}{NOTHING_ASKED}\nword {word.text}\n{NOT_ASKED}\n")
             return
         service.master.tell(ANSWERS[word.text])
         say(f"question {service.question} is answered: {word.text}")

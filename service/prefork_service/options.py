@@ -1,5 +1,6 @@
 """The command line of prefork-serve, and the command of a worker that it asks for."""
 import argparse
+import difflib
 import errno
 import os
 import shutil
@@ -18,6 +19,8 @@ USAGE = """prefork-serve [OPTIONS] CONFIG -- PROGRAM ARGUMENT..
        prefork-serve [OPTIONS] --preload CONFIG -- PRELOADER ARGUMENT..
        prefork-serve [OPTIONS] CONFIG"""
 WSGI_THREADS = 4
+# What other servers call a number that is in the configuration here.
+WORKERS = ("-w", "--worker", "--workers", "--processes")
 Options = dict[str, tuple[str | None, str]]
 # Options that are handed on to the worker: what they take, and what they mean.
 SHARED: Options = {
@@ -113,7 +116,9 @@ def arguments(words: list[str]) -> argparse.Namespace:
     """The options, and the program after `--`."""
     cut = words.index("--") if "--" in words else len(words)
     made = parser()
-    given = made.parse_args(joined(words[:cut]))
+    given, strange = made.parse_known_args(joined(words[:cut]))
+    if strange:
+        made.error(fault_of_strange(strange, made, cut < len(words)))
     given.program = words[cut + 1 :]
     if cut < len(words) and not given.program:
         made.error("no PROGRAM after --")
@@ -139,6 +144,19 @@ def arguments(words: list[str]) -> argparse.Namespace:
         if strange and not is_for:
             made.error(f"{strange[0]} is an option of {kind}, and there is none")
     return given
+
+
+def fault_of_strange(words: list[str], made: argparse.ArgumentParser, has_cut: bool) -> str:
+    """What is wrong with words that are no options, and what is meant perhaps."""
+    options = [word for word in words if word.startswith("-")]
+    if not options:
+        hint = "" if has_cut else ": the program and its arguments follow after --"
+        return f"more than one CONFIG: {' '.join(words)}{hint}"
+    name = options[0].partition("=")[0]
+    known = [option for action in made._actions for option in action.option_strings]
+    near = difflib.get_close_matches(name, known, 1, 0.75)
+    hint = "the number of workers is in CONFIG: workers = 4" if name in WORKERS else f"the nearest is {near[0]}" if near else "see --help"
+    return f"{name} is no option: {hint}"
 
 
 def hooks_of(given: argparse.Namespace) -> dict[str, str]:

@@ -47,6 +47,7 @@ from .keeping import Keeping
 from .limits import limits_of, ready_seconds
 from .needs import addresses_of, needs_of, shortages
 from .options import arguments, fault_of, hooks_of, place_of, processes_each, program_of, worker_command
+from .outcomes import fault_shown, refusal_shown
 from .preloading import Preloading
 from .records import MEGABYTE
 from .service import Service
@@ -74,7 +75,9 @@ def is_fit(given: argparse.Namespace, commands: Commands) -> bool:
     refusal, text = refusal_of(given.prefork, commands.source()), commands.now.read_bytes()
     is_adapted, sites = commands.has_adapter(), bool(given.page) + bool(given.metrics)
     is_forked = given.preload and is_adapted
-    faults = [refusal] if refusal else shortages(needs_of(text, processes_each(given), sites, is_adapted, is_forked))
+    if refusal:
+        say(refusal_shown(given.config, refusal))
+    faults = [] if refusal else shortages(needs_of(text, processes_each(given), sites, is_adapted, is_forked))
     faults += [PID_OF_MASTER] if commands.names_master() else []
     for fault in faults:
         say(f"{given.config}: {fault}")
@@ -83,7 +86,7 @@ def is_fit(given: argparse.Namespace, commands: Commands) -> bool:
     missing = fault_of(program, place_of(given)) if program and not refusal and not commands.accepted.exists() else None
     if missing:
         say(f"{'PROGRAM' if is_adapted else given.config}: {missing}")
-    return bool(commands.current) and not faults and not missing
+    return bool(commands.current) and not refusal and not faults and not missing
 
 
 def serve(given: argparse.Namespace, folder: Folder, commands: Commands, stored: dict[str, socket.socket]) -> int:
@@ -112,7 +115,7 @@ def serve(given: argparse.Namespace, folder: Folder, commands: Commands, stored:
         sys.stderr.flush()
         os._exit(1)
     except (OSError, Unfit) as fault:
-        sys.exit(f"prefork-serve: {fault}")
+        sys.exit(f"prefork-serve: {fault_shown(str(fault))}")
     finally:
         notify("STOPPING=1")
         ends = [service.telling.end] if service else []

@@ -151,6 +151,9 @@ class Service:
 
     def begin_word(self, word: Word) -> None:
         self.current = word
+        if word.text != START:
+            # What workers of the word before were refused, and have asked for since, explains nothing of this one.
+            self.keeping.refusals.clear()
         self.barrier.duty(self.hanging.begin)
         self.barrier.duty(self.watching.begin, word.text)
         self.barrier.duty(self.chronicle.begin_word, word.text)

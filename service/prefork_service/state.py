@@ -35,13 +35,14 @@ def times(count: int) -> str:
 @dataclasses.dataclass(frozen=True)
 class Whole:
     """A state, with the numbers that it rests on: the word that changes the service, how many workers are wanted and run,
-    and why there are too few."""
+    why there are too few, and which of them fail to start."""
 
     state: str
     wanted: int
     running: int
     word: str = ""
     why: str = ""
+    failing: tuple[int, ...] = ()
 
     @property
     def line(self) -> str:
@@ -60,7 +61,9 @@ class Whole:
         }
 
 
-def whole_of(word: str | None, is_started: bool, wanted: int, running: int, why: str) -> Whole:
+def whole_of(
+    word: str | None, is_started: bool, wanted: int, running: int, why: str, failing: tuple[int, ...] = ()
+) -> Whole:
     """The state of a service that carries out this word, or none. `is_started` is false up to its first block."""
     if not is_started:
         return Whole(CHANGES, wanted, running, "the service starts")
@@ -69,7 +72,7 @@ def whole_of(word: str | None, is_started: bool, wanted: int, running: int, why:
     if not wanted:
         return Whole(STOPPED, wanted, running)
     is_short = running < wanted
-    return Whole(SHORT if is_short else SERVES, wanted, running, "", why if is_short else "")
+    return Whole(SHORT, wanted, running, "", why, failing) if is_short else Whole(SERVES, wanted, running)
 
 
 class News:
@@ -97,5 +100,5 @@ class News:
 
 
 def key_of(whole: Whole) -> str:
-    """What makes a state another one; of a shortfall its size too."""
-    return f"{whole.state} {whole.wanted} {whole.running}" if whole.state == SHORT else whole.state
+    """What makes a state another one; of a shortfall its size too, and which workers fail to start."""
+    return f"{whole.state} {whole.wanted} {whole.running} {whole.failing}" if whole.state == SHORT else whole.state

@@ -63,7 +63,7 @@ class Watching:
         return self.trying.wants_tick(missing, self.lost > 0, since, self.timeout, now)
 
     def whole(self, word: str | None) -> Whole:
-        return whole_of(word, self.is_started, self.record.wanted, self.running, self.why())
+        return whole_of(word, self.is_started, self.record.wanted, self.running, self.why(), tuple(sorted(self.trying.failing)))
 
     def why(self) -> str:
         """Why fewer workers run than are wanted."""

@@ -46,6 +46,11 @@ class NewsTest(unittest.TestCase):
         seen = [(SERVES, 0.0), (SHORT, 1.0), (SHORT, 1.0 + SETTLE_SECONDS), (SHORT, 9.0), (SERVES, 10.0)]
         self.assertEqual(self.states_told(seen), ["none serves", "serves short", "short serves"])
 
+    def test_a_shortfall_is_told_again_once_it_is_known_who_fails(self) -> None:
+        news = News()
+        told = [news.take(Whole(SHORT, 4, 3, "", "", failing), now) for failing, now in (((), 0), ((), 2), ((0,), 3), ((0,), 5), ((0,), 6))]
+        self.assertEqual([it[0].failing if it else None for it in told], [None, (), None, (0,), None])
+
     def test_a_shortfall_of_another_size(self) -> None:
         news = News()
         told = [news.take(Whole(SHORT, 4, running), now) for running, now in ((3, 0), (3, 2), (2, 3), (2, 5), (2, 6))]
