@@ -21,10 +21,11 @@ from gate.tally import ROOT, Tally
 SERVICE = ROOT / "service"
 GUIDES = SERVICE / "guides"
 HELLO = "hello from process"
-# The pages, each with the set-ups of ci/adapters that it needs, and what an answer has.
+# The pages, each with the set-ups and programs of ci/adapters that it needs, what an answer has, and the options of curl.
 PAGES = {
     "wsgi.md": ({"wsgi"}, HELLO), "gunicorn.md": ({"gunicorn"}, HELLO), "uvicorn.md": ({"uvicorn"}, HELLO),
     "node.md": ({"node"}, HELLO), "ruby.md": ({"unicorn", "puma"}, HELLO), "nginx.md": ({"nginx"}, "Welcome to nginx"),
+    "haproxy.md": ({"haproxy"}, HELLO), "uwsgi.md": ({"uwsgi"}, HELLO), "django.md": ({"wsgi", "django"}, "to 192.0.2.7"),
 }
 ADDRESS, ADDED = "127.0.0.1:8080", "127.0.0.1:8081"
 README, README_NEEDS = "service/README.md", {"wsgi", "gunicorn"}
@@ -36,7 +37,9 @@ ASKS, OFTEN = "--retry 9 --retry-delay 1 ", "--retry 90 --retry-delay 1 "
 MOST_SECONDS = 120
 # A program is typed with & after it, so its output is a file.
 BLOCK = re.compile(r"^( *)```(\w+)\n(.*?)^ *```$", re.M | re.S)
-NAME = re.compile(r"`([\w.-]+\.(?:py|js|ru|toml|conf\.in)|start-\w+)`")
+NAME = re.compile(r"`([\w.-]+\.(?:py|js|ru|toml|cfg|conf\.in)|start-\w+)`")
+# What a page asks with beside the address: the proxy of its application.
+HEADERS = re.compile(r"-H '[^']*'")
 
 
 def blocks_of(text: str) -> Iterator[tuple[str, str]]:
@@ -57,6 +60,7 @@ class Reader:
         self.page, self.answer, self.room = page, answer, room
         self.address, self.mark, self.wrong = free_address(), Mark("GUIDES_OF"), list[str]()
         self.environment = self.mark.environment(PATH=path, LC_ALL="C")
+        self.headers = ""
 
     def text(self, page: str) -> str:
         return (GUIDES / page).read_text().replace(ADDRESS, self.address).replace(ASKS, OFTEN)
@@ -96,6 +100,7 @@ class Reader:
                 # (the word is answered a moment before the service has ended, and another one is refused until then)
                 self.stop()
             printed = self.typed(command)
+            self.headers = " ".join(HEADERS.findall(command)) or self.headers
             if "curl " in command:
                 self.expect(command, printed, self.answer)
             elif "prefork-serve " in command:
@@ -113,7 +118,7 @@ class Reader:
         if (self.room / "hello.py").exists():
             (self.room / "hello.py").write_text("1 / 0\n")
             self.expect("a broken hello.py", self.typed("prefork-ctl HUP", 3), "\nrolled-back ")
-            self.expect("a broken hello.py", self.typed(f"curl --silent http://{self.address}/"), self.answer)
+            self.expect("a broken hello.py", self.typed(f"curl --silent {self.headers} http://{self.address}/"), self.answer)
 
     def stop(self, quits: str = "prefork-ctl QUIT") -> None:
         self.typed(quits)

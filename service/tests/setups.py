@@ -168,7 +168,12 @@ SETUPS = [
     Setup("lighttpd", ["--stop", "INT"], "lighttpd -D -f @SITE@/lighttpd.conf",
           {"lighttpd.conf": LIGHTTPD, "index.html": "version @VERSION@\n", "slow": SLOW_PAGE}, "lighttpd.conf", has("lighttpd"), True),
 ]
-PACKAGES = ["python3-waitress", "python3-flask", "gunicorn", "uvicorn", "unicorn", "puma", "nodejs", "nginx-light", "lighttpd"]
+# What guides alone need.
+OTHERS = {"haproxy": has("haproxy"), "uwsgi": has("uwsgi"), "django": lambda: python_with("waitress", "django") is not None}
+PACKAGES = [
+    "python3-waitress", "python3-flask", "gunicorn", "uvicorn", "unicorn", "puma", "nodejs", "nginx-light", "lighttpd",
+    "python3-django", "haproxy", "uwsgi", "uwsgi-plugin-python3",
+]
 
 
 def lay_out(setup: Setup, site: pathlib.Path, version: int) -> None:
