@@ -102,7 +102,8 @@ class Start(NamedTuple):
 
 def asked(subcommand: str, a: Text | None, b: Text | None, start: Start) -> tuple[list[str], list[File]]:
     """The first words of a command line, and its files."""
-    words, files = [subcommand], []
+    words = [subcommand]
+    files: list[File] = []
     for option, name, text in (("--from", "a.toml", a), ("--to", "b.toml", b)):
         if text is not None:
             words += [option, name]

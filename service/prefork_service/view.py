@@ -114,11 +114,11 @@ def bars(status: Status) -> str:
     found = [bar(f"generation {status['generation']}" if status["generation"] else "no generation", cells, False)]
     for generation in sorted({worker["generation"] for worker in status["others"]}):
         beside = [worker for worker in status["others"] if worker["generation"] == generation]
-        told = [(KINDS.get(it["state"], "starts"), f"worker {it['number']}: process {it['process']}, {it['state']}") for it in beside]
-        is_new = any(kind != "leaves" for kind, _ in told)
+        others = [(KINDS.get(it["state"], "starts"), f"worker {it['number']}: process {it['process']}, {it['state']}") for it in beside]
+        is_new = any(kind != "leaves" for kind, _ in others)
         if is_new:
-            told += [("missing", "is to be started")] * max(0, status["wanted"] - len(told))
-        found.append(bar(f"generation {generation}", told, is_new))
+            others += [("missing", "is to be started")] * max(0, status["wanted"] - len(others))
+        found.append(bar(f"generation {generation}", others, is_new))
     return f'<section><h2>Workers</h2>{"".join(found)}</section>'
 
 

@@ -29,7 +29,7 @@ def lit(word: str, lines: list[str], question: int = 0) -> str:
 
 class SentenceTest(unittest.TestCase):
     def test_each_outcome(self) -> None:
-        for word, report, reasons, wanted in (
+        told: list[tuple[str, str, list[str], str]] = [
             ("HUP", "done cause none pid in-place", [], "The reload at 13:21 is done."),
             ("HUP", "rolled-back cause 2 pid no-file", WHY,
              "The reload at 13:21 was taken back: gunicorn ended with status 3. The version before serves."),
@@ -40,7 +40,8 @@ class SentenceTest(unittest.TestCase):
             ("TTOU", "nothing", [], "The end of one worker at 13:21 had nothing to do."),
             (START, "done cause none pid no-file", [], "The start at 13:21 is done."),
             ("tick 7", "lost cause none pid no-file", [], "The tick at 13:21 was lost."),
-        ):
+        ]
+        for word, report, reasons, wanted in told:
             self.assertEqual(sentence(done(word, report, reasons)), wanted)
 
     def test_the_present_word(self) -> None:
@@ -117,7 +118,7 @@ class ViewTest(unittest.TestCase):
     def test_what_others_have_written_is_no_markup(self) -> None:
         bad = "<script>x</script>"
         word = Done("HUP", bad, 1.0, f"word HUP\nrolled-back cause 1 pid {bad}\n", [bad], {bad: [bad]})
-        service = {**STATUS["service"], "folder": f"/run/{bad}"}
+        service = {"process": 1, "seconds": 60, "folder": f"/run/{bad}"}
         page = view.page_of({**STATUS, "service": service, "addresses": [bad], "line": f"short: {bad}"}, [word], [bad], bad)
         self.assertEqual(re.findall("<script[^>]*>", page), ['<script src="live.js" defer>'])
         read(page)
