@@ -1,11 +1,11 @@
-"""What a run keeps beside the headline (quiet_runs/specs/Quiet.antt, further_theorems/specs/Proper.antt and
-Left.antt)."""
+"""What a run keeps beside the headline (quiet_runs/specs/Quiet.antt, further_theorems/specs/Proper.antt,
+Left.antt and Bound.antt)."""
 from collections.abc import Callable
 from typing import NamedTuple
 
 from reader.addresses import Addresses, FilePath
 from reader.after import next_record
-from reader.claims import Claims
+from reader.claims import Claims, is_old_side, one_then
 from reader.master import (
     Attended, Mend, Record, Reload, Reopen, Stop, Target, Upgrade, Workers, addresses_of, addresses_wanted,
     generation_wanted, oldbin, sides_of, upgrade_generation, want,
@@ -16,8 +16,8 @@ from reader.plans import only_in
 from reader.run import Moment, Pattern, Ran, report_of
 from reader.table import IsSame, Table, is_held, is_own, owner_at, same_generation, service
 from reader.vocabulary import (
-    Adopt, Alive, Ask, AwaitGone, AwaitReady, Call, Census, CloseAt, Degraded, Entry, Fork, Generation, Kill, Leave,
-    MovePid, OpenAt, Outcome, Quit, RemovePid, Report, Side, SpawnMaster, TermMaster, Usr1, WritePid,
+    Adopt, Alive, Answer, Ask, AwaitGone, AwaitReady, Census, CloseAt, Degraded, Entry, Fork, Generation, Kill,
+    Leave, MovePid, OpenAt, Outcome, Quit, RemovePid, Report, Side, SpawnMaster, TermMaster, Usr1, WritePid,
 )
 
 # That plans work
@@ -169,6 +169,24 @@ def RecordIsLeft(r: Record, target: Target, ran: Ran) -> bool:
     return left is None or IsLeft(r, target, report, left)
 
 
+# That the operator is obeyed
+
+
+def is_back(e: Entry) -> bool:
+    """The operator went back."""
+    return isinstance(e.call, Ask) and e.answer is Answer.Back
+
+
+def ObeysOperator(r: Record, target: Target, ran: Ran) -> bool:
+    """Once the operator of an attended upgrade went back nobody is told to quit any more, and it ends on the old
+    side."""
+    if not isinstance(target, Attended):
+        return True
+    outcome = report_of(sides_of(r, target), ran).outcome
+    quits_after = one_then(is_back, lambda e: isinstance(e.call, Quit), ran.entries)
+    return not quits_after and (not any(map(is_back, ran.entries)) or is_old_side(outcome))
+
+
 def KeepsBeside(t: Table, r: Record, target: Target, ran: Ran, run: Callable[[Pattern], Ran]) -> Claims:
     """What a run keeps beside the headline; and how the target's plan is run under another pattern."""
     return {
@@ -176,4 +194,5 @@ def KeepsBeside(t: Table, r: Record, target: Target, ran: Ran, run: Callable[[Pa
         "proper": all(IsProper(r, target, e) for e in ran.entries),
         "files": FilesOfOthersStay(r, t, ran),
         "left": RecordIsLeft(r, target, ran),
+        "obeyed": ObeysOperator(r, target, ran),
     }

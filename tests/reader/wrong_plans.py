@@ -21,12 +21,13 @@ from reader.run import Ends, Pattern, Ran, Tree, plain_reply, run_with, start_at
 from reader.table import Table
 from reader.trial import Trial
 from reader.vocabulary import (
-    AwaitGone, AwaitReady, Call, CloseAt, End, Generation, Kill, MovePid, OpenAt, PidNote, Quit, Reply, Report, Side,
-    TermMaster, Usr1, WritePid,
+    Ask, AwaitGone, AwaitReady, Call, CloseAt, End, Generation, Kill, MovePid, OpenAt, PidNote, Quit, Reply, Report,
+    Side, TermMaster, Usr1, WritePid,
 )
 from reader.words import Run
 
 RIGHT_CALLS = plans.new_calls
+RIGHT_QUESTION = plans.asks
 RIGHT_RECORD = after.next_record
 # somebody who is no master here
 STRANGER = 77
@@ -130,6 +131,20 @@ def relieved_by_the_heir(
     return tells_any(new.generation.image, quits + waits, retire(by, old, new, ready, retries, path, n))
 
 
+def an_attended_upgrade(r: Record, target: Target, turns: Turns) -> Tree | None:
+    return plan_tree(r, target, turns) if isinstance(target, Attended) else None
+
+
+def asks_in_vain(attended: bool, by: int, question: int, on_go: Tree, on_back: Tree) -> Tree:
+    """The operator is asked, and the upgrade goes on whatever is answered."""
+    return either(by, Ask(question), (), on_go, on_go) if attended else on_go
+
+
+def asks_in_vain_at_last(attended: bool, by: int, question: int, on_go: Tree, on_back: Tree) -> Tree:
+    """The second answer is passed over."""
+    return RIGHT_QUESTION(attended, by, question, on_go, on_go if question == 2 else on_back)
+
+
 def a_stop_that_ends_itself(r: Record, target: Target, turns: Turns) -> Tree | None:
     """A graceful stop by term-master of itself: nobody is told to quit."""
     if not isinstance(target, Stop) or target.quick:
@@ -209,6 +224,8 @@ WRONG_PLANS: dict[str, WrongPlan] = {
     "a_reload_that_provokes": WrongPlan("quiet", a_reload_that_provokes),
     "an_upgrade_that_waits": WrongPlan("quiet", an_upgrade, planted("new_calls", calls_that_wait_for_nobody)),
     "an_upgrade_whose_heir_quits": WrongPlan("proper", a_plain_upgrade, planted("relieve", relieved_by_the_heir)),
+    "an_upgrade_that_goes_on": WrongPlan("obeyed", an_attended_upgrade, planted("asks", asks_in_vain)),
+    "an_upgrade_that_goes_on_at_last": WrongPlan("obeyed", an_attended_upgrade, planted("asks", asks_in_vain_at_last)),
     "a_stop_that_ends_itself": WrongPlan("proper", a_stop_that_ends_itself),
     "a_stop_by_a_stranger": WrongPlan("proper", a_stop_by_a_stranger),
     "a_reopening_by_a_stranger": WrongPlan("proper", a_reopening_by_a_stranger),

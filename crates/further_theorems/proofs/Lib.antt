@@ -3,3 +3,4 @@ pub mod Runs
 pub mod Nodes
 pub mod Proper
 pub mod Entries
+pub mod Bound

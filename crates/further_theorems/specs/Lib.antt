@@ -1,3 +1,4 @@
 pub mod Proper
 pub mod Left
 pub mod Merges
+pub mod Bound

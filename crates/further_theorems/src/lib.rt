@@ -3,6 +3,7 @@
 //! an empty body: its contract is the theorem.
 #![tactic(auto)]
 
+ghost use Rattle.further_theorems.specs.Bound.{OperatorsAreObeyed};
 ghost use Rattle.further_theorems.specs.Left.{RecordsAreLeft};
 ghost use Rattle.further_theorems.specs.Merges.{WalksAreRuns};
 ghost use Rattle.further_theorems.specs.Proper.{CallsAreProper, FilesOfOthersStay};
@@ -22,4 +23,10 @@ pub fn records_are_left()
 /// A walk of a plan whose answers the kernel gives is the run of the plan.
 pub fn merges_are_runs()
     ensures { WalksAreRuns }
+{}
+
+/// Once the operator of an attended upgrade went back nobody is told to quit any more, and the upgrade
+/// ends on the old side.
+pub fn operators_are_obeyed()
+    ensures { OperatorsAreObeyed }
 {}

@@ -8,4 +8,5 @@ pub mod Merging
 pub mod Enacting
 pub mod Exact
 pub mod Truth
+pub mod Beside
 pub mod WordLives

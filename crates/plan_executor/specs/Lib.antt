@@ -11,3 +11,4 @@ pub mod Words
 pub mod Range
 pub mod WordLives
 pub mod Survived
+pub mod Beside

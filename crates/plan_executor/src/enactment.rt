@@ -11,6 +11,7 @@ ghost use Rattle.kernel_model.specs.Pattern.{moment_at};
 ghost use Rattle.kernel_model.specs.Room.{LacksNumbers};
 ghost use Rattle.rollback_plan.specs.Plans.{tree_under, length_of, note_of, sides_told, text_of};
 ghost use Rattle.reload_planner.specs.declared.refusal.PlanRefusal.{PlanRefusal as Unplannable};
+ghost use Rattle.plan_executor.specs.Beside.{AreProper, IsDoneInQuiet, LeavesFilesOfOthers, LeavesRecord, ObeysOperator};
 ghost use Rattle.plan_executor.specs.Enacted.{IsEnacted};
 ghost use Rattle.plan_executor.specs.Prepared.{IsReady};
 ghost use Rattle.plan_executor.specs.Survived.{IsSurvived};
@@ -93,6 +94,11 @@ pub fn enact(
         → IsErrOf result EnactRefusal.Memory ⊎ (IsErrOf result why ↔ IsRefused kernel.old.table state.now target.now section.now.turns (moment_at section.now.pattern) why) }
     ensures memory { IsErrOf result EnactRefusal.Memory → IsPlannable kernel.old.table state.now target.now }
     ensures survived { (moment : ℕ) → IsErrOf result (EnactRefusal.MasterNamed moment) → IsSurvived kernel.old.table state.now target.now section.now.turns (moment_at section.now.pattern) }
+    ensures quiet { IfOk result (IsDoneInQuiet kernel.old.table kernel.new.table state.now target.now section.now.pattern) }
+    ensures proper { IfOk result (AreProper state.now target.now) }
+    ensures files { OnOk result (LeavesFilesOfOthers state.now kernel.old.table kernel.new.table) }
+    ensures left { IfOk result (LeavesRecord state.now target.now) }
+    ensures obeyed { IfOk result (ObeysOperator target.now) }
     ensures err { OnErr result (kernel.new ≡ kernel.old) }
 {
     let prepared = prepare(alloc, kernel, state, target, section)?;

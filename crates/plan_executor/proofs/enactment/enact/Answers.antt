@@ -5,6 +5,9 @@ use Rattle.plan_executor.specs.declared.enactment.EnactRefusal.{EnactRefusal}
 use Rattle.plan_executor.proofs.Enacting.{enacted-from}
 use Rattle.plan_executor.proofs.Exact.{IsExact, refused-exact, only-enacted}
 use Rattle.lives.proofs.Restart.{deaths-survived}
+use Rattle.plan_executor.proofs.Beside.{done-in-quiet, are-proper, leaves-files, leaves-record, obeys-operator}
+use Rattle.definitions.specs.Table.{Table}
+use Rattle.definitions.specs.Claims.{IsStart}
 use Rattle.plan_executor.proofs.enactment.enact.Goals as goal
 
 pub returns-in_err-prepared-clause-exact : goal.returns-in_err-prepared-clause-exact
@@ -35,3 +38,24 @@ returns-in_err-prepared-clause-survived c moment is =
 pub returns-clause-survived : goal.returns-clause-survived
 returns-clause-survived c moment is =
     deaths-survived c.args.kernel.now.table c.args.state.now c.args.target.now c.args.section.now.turns (moment_at c.args.section.now.pattern)
+
+pub returns-clause-quiet : goal.returns-clause-quiet
+returns-clause-quiet c =
+    done-in-quiet c.args.kernel.now c.carry_out.new.kernel c.args.state.now c.args.target.now c.args.section.now.turns c.args.section.now.pattern c.carry_out.result
+    (subst (λ (t : Table). IsStart t c.args.state.now) c.in_ok-prepared.ensures.table c.in_ok-prepared.ensures.ready.start) (returns-clause-ok c)
+
+pub returns-clause-proper : goal.returns-clause-proper
+returns-clause-proper c =
+    are-proper c.args.kernel.now c.carry_out.new.kernel c.args.state.now c.args.target.now c.args.section.now.turns (moment_at c.args.section.now.pattern) c.carry_out.result (returns-clause-ok c)
+
+pub returns-clause-files : goal.returns-clause-files
+returns-clause-files c =
+    leaves-files c.args.kernel.now c.carry_out.new.kernel c.args.state.now c.args.target.now c.args.section.now.turns (moment_at c.args.section.now.pattern) c.carry_out.result (returns-clause-ok c)
+
+pub returns-clause-left : goal.returns-clause-left
+returns-clause-left c =
+    leaves-record c.args.kernel.now c.carry_out.new.kernel c.args.state.now c.args.target.now c.args.section.now.turns (moment_at c.args.section.now.pattern) c.carry_out.result (returns-clause-ok c)
+
+pub returns-clause-obeyed : goal.returns-clause-obeyed
+returns-clause-obeyed c =
+    obeys-operator c.args.kernel.now c.carry_out.new.kernel c.args.state.now c.args.target.now c.args.section.now.turns (moment_at c.args.section.now.pattern) c.carry_out.result (returns-clause-ok c)
