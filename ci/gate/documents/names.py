@@ -30,6 +30,8 @@ ELSEWHERE: dict[str, str] = {
     **dict.fromkeys(("gunicorn", "uvicorn", "puma", "unicorn", "node", "nginx", "server.py", "conf.py", "pidfile",
                      "_temp_path", "cluster", "process_control_timeout", "fpm.toml", "syslog", "daemonize", "mysite",
                      "venv/bin/python", "Shutdown"), "other servers, their files and settings"),
+    **dict.fromkeys(("urls.py", "settings.py", "app.py", "manage.py", "collectstatic", "max_connections", "db", "close_all"),
+                    "Django and PostgreSQL"),
     **dict.fromkeys(("graphviz", "ansible-core", "pip", "journalctl", "dumb-init", "valgrind", "callgrind",
                      "PREFIX/lib/systemd/system"),
                     "packages and programs of the system"),
