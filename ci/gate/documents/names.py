@@ -11,7 +11,7 @@ from gate.documents.pages import SERVICE, Tree, line_of, without_blocks
 # Where names come from. Pages themselves are no source of names, and nor is this check.
 SOURCES = ("crates.txt", "try", "prefork", "install", "package", "crates/*/src/**/*", "crates/*/specs/**/*",
            "crates/*/proofs/**/*", "ci/*", "ci/gate/*.py", "ci/web/*", "ci/shipping/*", "bench/*", "examples/*",
-           "completions/*", "tools/*", "service/bin/*", "service/native/*", "service/prefork_service/*.py",
+           "completions/*", "service/bin/*", "service/native/*", "service/prefork_service/*.py",
            "service/double/*", "service/examples/*", "service/units/*", "fleet/**/*", "service/tests/**/*.py",
            "service/build", "service/install", "service/man/*", "service/containers/*", "tests/cases/*/args",
            "tests/cases/*/stdin", "tests/cases/*/stdout", "tests/cases/*/stderr", "tests/faults/*",
