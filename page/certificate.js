@@ -21,7 +21,7 @@ const Certificate = (() => {
   const itemOf = (page, { blocks, patterns, fault }, block, i) => {
     const lines = patterns ? patterns[i] || [] : [], isWrong = fault && fault.block === i + 1;
     const summary = make('summary', {}, make('strong', {}, block.word === null ? block.report : block.word), ` ${block.word === null ? '' : block.report || 'without a report'}`);
-    if (lines.length) summary.append(make('span', { class: 'because' }, ` since ${lines.join(', ')}`));
+    if (lines.length) summary.append(make('span', { class: lines.every(line => line.startsWith('turns ')) ? 'soft' : 'because' }, ` since ${lines.join(', ')}`));
     const inside = [make('ol', { class: 'made' }, ...block.calls.map(call => callRow(call, isWrong && call.number === fault.entry)))];
     if (patterns && block.word !== null) {
       const count = Blocks.explained(blocks.slice(0, i + 1), patterns).length;

@@ -92,6 +92,8 @@ const Page = (() => {
   const showWords = blocks => {
     const { state } = page;
     byId('row').replaceChildren(...state.words.map((it, i) => make('li', {}, button(`${it.word}${blocks[i] ? `: ${Run.ended(blocks[i])}` : ''}`, () => { state.at = i; state.open = 0; fill(); page.refresh(); byId('row').querySelectorAll('button')[i].focus(); }, { 'class': blocks[i] ? blocks[i].outcome : 'refused', 'aria-pressed': String(i === state.at) }))));
+    const row = byId('row'), now = row.querySelector('[aria-pressed=true]');
+    if (now) row.scrollTop = Math.max(0, now.offsetTop - row.offsetTop - row.clientHeight / 2);
     byId('removeWord').disabled = state.words.length < 2;
     for (const id of ['explore', 'pairs']) byId(id).disabled = state.at > 0;
     byId('notFirst').hidden = state.at === 0;
