@@ -4,29 +4,42 @@ use Rattle.std.specs.Prelude.{unwrap_or}
 use Rattle.std.specs.List.{list_any}
 use Rattle.definitions.specs.Calls.{Handed, step_with, Stepped}
 use Rattle.definitions.specs.Master.{PidNote}
-use Rattle.definitions.specs.Run.{Tree, Branches, Ends, Does, Nothing, Branch, Reply, lacked_by, lacked_after, reply_of, call_of, Pattern, Progress, Ran, run_with, goes_with, after_moment, after_call, same_reply}
+use Rattle.definitions.specs.Run.{Tree, Branches, Ends, Does, Nothing, Branch, Reply, lacked_by, lacked_after, reply_of}
+use Rattle.definitions.specs.Run.{call_of, Pattern, Progress, Ran, run_with, goes_with, after_moment, after_call}
+use Rattle.definitions.specs.Run.{same_reply}
 use Rattle.call_laws.specs.Pieces.{branch}
 use Rattle.further_theorems.specs.Merges.{IsAnswered, WalksAreRuns}
 use Rattle.theorems.specs.Apart.{WalksAll}
 
 -- the first edge that has the reply
-follows : (handed : Handed) (branches : Branches) (r : Reply) (pattern : Pattern) (p : Progress) (edge : Option PidNote × Tree) →
-    branch branches r ≡ Some edge → goes_with handed branches r pattern p ≡ run_with handed edge.1 pattern (record p { note = unwrap_or edge.0 p.note })
+follows : (handed : Handed) (branches : Branches) (r : Reply) (pattern : Pattern) (p : Progress)
+    (edge : Option PidNote × Tree) →
+    branch branches r ≡ Some edge → goes_with handed branches r pattern p ≡ run_with handed edge.1 pattern
+    (record p { note = unwrap_or edge.0 p.note })
 follows handed Nothing r pattern p edge e = absurd (cc (e))
 follows handed (Branch replies said rest more) r pattern p edge e =
     elim (list_any (λ x. same_reply x r) replies) as (λ b.
     elim b as (λ c. Option (Option PidNote × Tree)) [ true ↦ Some (said, rest) | false ↦ branch more r ] ≡ Some edge →
-    elim b as (λ c. Ran) [ true ↦ run_with handed rest pattern (record p { note = unwrap_or said p.note }) | false ↦ goes_with handed more r pattern p ]
+    elim b as (λ c. Ran) [
+      | true ↦ run_with handed rest pattern
+          (record p { note = unwrap_or said p.note })
+      | false ↦ goes_with handed more r pattern p
+    ]
     ≡ run_with handed edge.1 pattern (record p { note = unwrap_or edge.0 p.note })) [
       | true ↦ λ e.
           let same : (said, rest) ≡ edge = cc (e) in
-          ap (λ (x : Option PidNote × Tree). run_with handed x.1 pattern (record p { note = unwrap_or x.0 p.note })) same
+          ap (λ (x : Option PidNote × Tree). run_with handed x.1 pattern
+          (record p { note = unwrap_or x.0 p.note })) same
       | false ↦ λ e. follows handed more r pattern p edge e
     ] e
 
 pub walks-are-runs : WalksAreRuns
-walks-are-runs handed tree pattern p [] last end walk replays =
-    (ap (λ t. (run_with handed t pattern p).entries) walk, ap (λ t. (run_with handed t pattern p).last.table) walk ∙ replays, ap (λ t. (run_with handed t pattern p).ending) walk)
+walks-are-runs handed tree pattern p [] last end walk replays = (
+  ap (λ t. (run_with handed t pattern p).entries) walk,
+  ap (λ t. (run_with handed t pattern p).last.table) walk ∙
+      replays,
+  ap (λ t. (run_with handed t pattern p).ending) walk,
+)
 walks-are-runs handed (Ends end') pattern p (e ∷ entries) last end walk replays = absurd walk
 walks-are-runs handed (Does by order set branches) pattern p (e ∷ entries) last end walk replays =
     let moment = pattern (p.calls + 1) in
@@ -40,12 +53,17 @@ walks-are-runs handed (Does by order set branches) pattern p (e ∷ entries) las
     let next = after_call by order set s middle in
     let after : Progress = record next { note = unwrap_or edge.0 next.note } in
     let follow : goes_with handed branches (reply_of set s.answer) pattern next ≡ run_with handed edge.1 pattern after =
-    follows handed branches (reply_of set s.answer) pattern next edge (ap (λ a. branch branches (reply_of set a)) answer ∙ walk.3) in
+    follows handed branches (reply_of set s.answer) pattern next edge (ap (λ a. branch branches
+    (reply_of set a)) answer ∙ walk.3) in
     let more =
     walks-are-runs handed edge.1 pattern after entries last end
     (subst (λ a. WalksAll edge.1 (lacked_after by set a p.lacked) entries (Ends end)) (sym answer) walk.4)
     (subst (λ (x : Stepped). IsAnswered handed pattern (p.calls + 1) x.table entries last) (sym same) replays.1) in
-    let first : record { by = by; call = call; answer = s.answer } ≡ e = λ i. record { by = sym walk.0 i; call = sym walk.1 i; answer = answer i } in (
+    let first : record { by = by; call = call; answer = s.answer } ≡ e = λ i. record {
+      by = sym walk.0 i;
+      call = sym walk.1 i;
+      answer = answer i;
+    } in (
       (λ i. first i ∷ (ap (λ (x : Ran). x.entries) follow ∙ more.0) i),
       ap (λ (x : Ran). x.last.table) follow ∙ more.1,
       ap (λ (x : Ran). x.ending) follow ∙ more.2,

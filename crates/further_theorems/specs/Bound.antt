@@ -27,7 +27,8 @@ abbrev pub QuitsNobodyAfter : Ran → Type 0
 QuitsNobodyAfter ran = one_then is_back (λ e. is_quit (λ g k. true) e.call) ran.entries ≡ false
 
 -- And an accepted run in which the operator went back ends on the old side.
-pub record IsObeyed (t : Table) (r : Record) (s : Settings) (turns : List Turn) (pattern : Pattern) (ran : Ran) : Type 0 where
+pub record IsObeyed (t : Table) (r : Record) (s : Settings) (turns : List Turn) (pattern : Pattern)
+    (ran : Ran) : Type 0 where
   pub quits : QuitsNobodyAfter ran
   pub ends :
       IsAccepted t r (Attended s) turns pattern → list_any is_back ran.entries ≡ true →

@@ -6,7 +6,8 @@ use vocabulary.declared.plans.Side.TheVariants as side
 use vocabulary.declared.reports.Outcome.TheVariants as outcome
 use vocabulary.declared.reports.Outcome.{Outcome}
 use vocabulary.declared.reports.Report.{Report}
-use Rattle.definitions.specs.Master.{Record, Target, Workers, Mend, Reopen, Reload, Upgrade, Attended, Stop, generation_wanted}
+use Rattle.definitions.specs.Master.{Record, Target, Workers, Mend, Reopen, Reload, Upgrade, Attended, Stop}
+use Rattle.definitions.specs.Master.{generation_wanted}
 use Rattle.definitions.specs.After.{record_after}
 
 -- how many workers a target has the master want, how often it retries, and how long it waits for a beat

@@ -21,7 +21,8 @@ IsAnswered handed pattern n t (e ∷ entries) last =
 
 abbrev pub WalksAreRuns : Type 0
 WalksAreRuns =
-    (handed : Handed) (tree : Tree) (pattern : Pattern) (p : Progress) (entries : List Entry) (last : Table) (end : End) →
+    (handed : Handed) (tree : Tree) (pattern : Pattern) (p : Progress) (entries : List Entry) (last : Table)
+    (end : End) →
     WalksAll tree p.lacked entries (Ends end) → IsAnswered handed pattern p.calls p.table entries last →
     ((run_with handed tree pattern p).entries ≡ entries) × ((run_with handed tree pattern p).last.table ≡ last)
     × ((run_with handed tree pattern p).ending ≡ At end)

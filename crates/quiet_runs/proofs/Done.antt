@@ -7,7 +7,8 @@ use Rattle.vocabulary.specs.declared.reports.Entry.{Entry}
 use Rattle.vocabulary.specs.declared.reports.Outcome.{Outcome}
 use Rattle.vocabulary.specs.declared.reports.Outcome.TheVariants as outcome
 use Rattle.definitions.specs.Table.{Table}
-use Rattle.definitions.specs.Master.{Record, Target, Workers, Mend, Reopen, Reload, Upgrade, Attended, Stop, sides_of, handover_for}
+use Rattle.definitions.specs.Master.{Record, Target, Workers, Mend, Reopen, Reload, Upgrade, Attended, Stop, sides_of}
+use Rattle.definitions.specs.Master.{handover_for}
 use Rattle.definitions.specs.After.{crew_wanted}
 use Rattle.definitions.specs.Plans.{plan_tree}
 use Rattle.definitions.specs.Run.{report_of, start_at}
@@ -18,19 +19,23 @@ use Rattle.quiet_runs.proofs.Ways.{Clean, Goes, run-clean}
 use Rattle.quiet_runs.proofs.Alone.{go-workers, go-mend, go-reopen, go-reload, go-stop}
 use Rattle.quiet_runs.proofs.Upgrades.{go-upgrade}
 
-goes : (t : Table) (r : Record) (target : Target) (turns : List Turn) → IsStart t r → HasResources t r target → Goes (handover_for r target) (plan_tree r target turns) t
+goes : (t : Table) (r : Record) (target : Target) (turns : List Turn) → IsStart t r → HasResources t r target → Goes
+    (handover_for r target) (plan_tree r target turns) t
 goes t r (Workers n) turns start res = go-workers t r start None n turns res
 goes t r (Mend overdue) turns start res = go-mend t r start None overdue turns res
 goes t r Reopen turns start res = go-reopen t r start None turns res
 goes t r (Reload s) turns start res = go-reload t r start None s turns res
 goes t r (Upgrade s) turns start res =
-    go-upgrade t r start s false (handover_for r (Upgrade s)) refl res.processes res.unheld res.apart res.descriptors turns (crew_wanted r (Upgrade s)) refl
+    go-upgrade t r start s false (handover_for r
+    (Upgrade s)) refl res.processes res.unheld res.apart res.descriptors turns (crew_wanted r (Upgrade s)) refl
 goes t r (Attended s) turns start res =
-    go-upgrade t r start s true (handover_for r (Attended s)) refl res.processes res.unheld res.apart res.descriptors turns (crew_wanted r (Attended s)) refl
+    go-upgrade t r start s true (handover_for r
+    (Attended s)) refl res.processes res.unheld res.apart res.descriptors turns (crew_wanted r (Attended s)) refl
 goes t r (Stop quick) turns start res = go-stop t r start None quick turns res
 
 -- no pattern without exits is refused
-spared : (executing heirs : List ℕ) (n : ℕ) (entries : List Entry) → refused_among executing heirs no_event n entries ≡ None
+spared : (executing heirs : List ℕ) (n : ℕ) (entries : List Entry) →
+    refused_among executing heirs no_event n entries ≡ None
 spared executing heirs n [] = refl
 spared executing heirs n (e ∷ entries) =
     go (is_leave_call e.call) (spared heirs heirs (n + 1) entries) (spared executing heirs (n + 1) entries)
@@ -46,7 +51,8 @@ done-by : (o : Outcome) (cause : Option ℕ) → HasCause o cause → cause ≡ 
 done-by outcome.Done cause h e = refl
 done-by outcome.RolledBack cause h e = absurd (let f = subst (λ (o : Option ℕ). is_some o ≡ true) e h in cc)
 done-by (outcome.Degraded side.Old n) cause h e = absurd (let f = subst (λ (o : Option ℕ). is_some o ≡ true) e h in cc)
-done-by (outcome.Degraded side.Target n) cause h e = absurd (let f = subst (λ (o : Option ℕ). is_some o ≡ true) e h in cc)
+done-by (outcome.Degraded side.Target n) cause h e = absurd (let f = subst (λ
+    (o : Option ℕ). is_some o ≡ true) e h in cc)
 done-by outcome.Lost cause h e = absurd h
 
 -- A run that keeps the promise under no event is done.
@@ -57,7 +63,8 @@ done-of-kept t r target turns start res kept =
     let ran = run_of r target turns no_event t in
     let clean : Clean (start_at t r.note) = record { faults = refl; losses = refl; returns = refl; cause = refl } in
     let none =
-    run-clean (handover_for r target) (plan_tree r target turns) (start_at t r.note) (goes t r target turns start res) clean
+    run-clean (handover_for r target) (plan_tree r target turns) (start_at t r.note)
+    (goes t r target turns start res) clean
     kept.blamed in
     let done = done-by (report_of (sides_of r target) ran).outcome ran.last.cause kept.cause none in
     record {

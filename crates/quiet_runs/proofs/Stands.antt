@@ -12,9 +12,11 @@ use Rattle.vocabulary.specs.declared.table.Stance.TheVariants.{Starting, Ready, 
 use Rattle.vocabulary.specs.declared.calls.Answer.TheVariants as answer
 use Rattle.definitions.specs.Table.{Hold, Process, Master, Worker, Foreign, Table, Caller, Address, FilePath, is_own}
 use Rattle.definitions.specs.Table.{is_worker, is_active, live_master, has_address, is_held, bears, same_generation}
-use Rattle.definitions.specs.Calls.{Call, OpenAt, CloseAt, Fork, AwaitReady, Quit, Kill, Census, AwaitGone, Adopt, WritePid}
+use Rattle.definitions.specs.Calls.{Call, OpenAt, CloseAt, Fork, AwaitReady, Quit, Kill, Census, AwaitGone, Adopt}
+use Rattle.definitions.specs.Calls.{WritePid}
 use Rattle.definitions.specs.Calls.{RemovePid, Alive, Usr1, Ask, Handed, Stepped, gives, own_step, step_by, step_with}
-use Rattle.definitions.specs.Calls.{change, drop_where, with_stance, with_holds, shared, put_hold, has_process_room, is_of}
+use Rattle.definitions.specs.Calls.{change, drop_where, with_stance, with_holds, shared, put_hold, has_process_room}
+use Rattle.definitions.specs.Calls.{is_of}
 use Rattle.definitions.specs.Calls.{with_new_row, each_row, lowest_free, is_exited_of, suits}
 use Rattle.call_laws.specs.Pieces.{is_starting, is_any, made_ready, made_draining, is_row, lacks_address}
 use Rattle.call_laws.specs.Pieces.{with_new_socket}
@@ -46,7 +48,8 @@ pub record State : Type 0 where
   pub unheld : List Address
   pub fresh : Bool
 
-pub record Stands (handed : Handed) (sp : Spot) (g : Generation) (x : State) (rows : List Process) (limits : Limits) : Type 0 where
+pub record Stands (handed : Handed) (sp : Spot) (g : Generation) (x : State) (rows : List Process)
+    (limits : Limits) : Type 0 where
   pub holds : List Hold
   pub lives : live_master sp.image rows ≡ Some (record { number = sp.number; holds = holds })
   pub told : x.fresh ≡ true → suits handed sp.image holds ≡ true
@@ -79,7 +82,8 @@ module _ (handed : Handed) (sp : Spot) (g : Generation) where
 
   -- Rows among which no master and no hold is another.
   moved :
-      (x : State) (busy idle : List ℕ) (rows rows' : List Process) (limits : Limits) → Stands handed sp g x rows limits →
+      (x : State) (busy idle : List ℕ) (rows rows' : List Process) (limits : Limits) →
+      Stands handed sp g x rows limits →
       ((i : ℕ) → live_master i rows' ≡ live_master i rows) → count_by is_own rows' ≤ count_by is_own rows →
       ((a : Address) → is_held a rows ≡ false → is_held a rows' ≡ false) →
       ((k : ℕ) → is_in busy k ≡ true → list_any (is_worker is_active sp.number g k) rows' ≡ true) →
@@ -100,9 +104,16 @@ module _ (handed : Handed) (sp : Spot) (g : Generation) where
 
   -- Fewer numbers, and no address.
   pub forget :
-      (busy idle busy' idle' room : List ℕ) (unheld : List Address) (fresh : Bool) (rows : List Process) (limits : Limits) →
+      (busy idle busy' idle' room : List ℕ) (unheld : List Address) (fresh : Bool) (rows : List Process)
+      (limits : Limits) →
       ((k : ℕ) → is_in busy' k ≡ true → is_in busy k ≡ true) → ((k : ℕ) → is_in idle' k ≡ true → is_in idle k ≡ true) →
-      Stands handed sp g (record { busy = busy; idle = idle; room = room; unheld = unheld; fresh = fresh }) rows limits →
+      Stands handed sp g (record {
+        busy = busy;
+        idle = idle;
+        room = room;
+        unheld = unheld;
+        fresh = fresh;
+      }) rows limits →
       Stands handed sp g (record { busy = busy'; idle = idle'; room = []; unheld = []; fresh = false }) rows limits
   forget busy idle busy' idle' room unheld fresh rows limits on off s = record {
     holds = s.holds;
@@ -130,7 +141,8 @@ module _ (handed : Handed) (sp : Spot) (g : Generation) where
       (if has_process_room t then done else gives answer.Again t)
       (λ on. absurd (let off = s.idle k (in-here k k idle refl) in cc))
       (λ off. pick P (has_process_room t) done (gives answer.Again t) (λ yes. (refl, stands))
-      (λ no. absurd (let some : nat_lt (count_by is_own t.rows) t.limits.processes ≡ true = few (count_by is_own t.rows) (length (j ∷ room)) t.limits.processes (omega arith) s.room in cc))))
+      (λ no. absurd (let some : nat_lt (count_by is_own t.rows) t.limits.processes ≡ true = few
+      (count_by is_own t.rows) (length (j ∷ room)) t.limits.processes (omega arith) s.room in cc))))
     where
       c : Caller
       c = record { number = sp.number; holds = s.holds }
@@ -175,7 +187,8 @@ module _ (handed : Handed) (sp : Spot) (g : Generation) where
         idle =
             λ i e. rows.any-app (is_worker is_active sp.number g i) t.rows row ∙
             rows.both-off _ _ (s.idle i (in-there k i idle e))
-            (not-row i (λ same. let f : is_in idle i ≡ false = subst (λ z. is_in idle z ≡ false) same new in absurd (cc)));
+            (not-row i (λ same. let f : is_in idle i ≡ false = subst (λ z. is_in idle z ≡ false) same new in absurd
+            (cc)));
         room = let one = rows.own-app t.rows row refl in omega (arith, one, s.room);
         unheld =
             every-more (λ a. is_held a t.rows ≡ false) (λ a. is_held a (t.rows ++ row ∷ []) ≡ false)
@@ -202,21 +215,28 @@ module _ (handed : Handed) (sp : Spot) (g : Generation) where
       T : Process → Bool
       T = is_worker is_starting sp.number g k
 
-      same : (i : ℕ) → list_any (is_worker is_active sp.number g i) (filter_map (change T made_ready) t.rows) ≡ list_any (is_worker is_active sp.number g i) t.rows
-      same i = rows.same-change T made_ready (is_worker is_active sp.number g i) (rows.active-ready sp.number g i k) t.rows
+      same : (i : ℕ) → list_any (is_worker is_active sp.number g i) (filter_map
+          (change T made_ready) t.rows) ≡ list_any (is_worker is_active sp.number g i) t.rows
+      same i = rows.same-change T made_ready (is_worker is_active sp.number g i)
+          (rows.active-ready sp.number g i k) t.rows
 
   pub step-quit : (k : ℕ) (x : State) → Step x (Quit g k) (record x { busy = []; idle = k ∷ x.idle })
   step-quit k x t s =
-      by-own t (Quit g k) (record { number = sp.number; holds = s.holds }) (Then (Quit g k) (record x { busy = []; idle = k ∷ x.idle })) s.lives (
+      by-own t (Quit g k) (record { number = sp.number; holds = s.holds }) (Then (Quit g k) (record x {
+        busy = [];
+        idle = k ∷ x.idle;
+      })) s.lives (
         refl,
         moved x [] (k ∷ x.idle) t.rows _ t.limits s (λ i. rows.live-stance T Draining i t.rows)
             (let own = rows.own-change T made_draining (rows.own-stance Draining) t.rows in omega (arith, own))
             (λ a off. rows.off-change T made_draining (rows.holds_it a) (rows.stance-off a Draining) t.rows off)
             (λ i b. absurd (none-in i b))
             (λ i b. ⊎_elim
-            (λ same. subst (λ z. list_any (is_worker is_active sp.number g z) (filter_map (change T made_draining) t.rows) ≡ false) same
+            (λ same. subst (λ z. list_any (is_worker is_active sp.number g z) (filter_map
+            (change T made_draining) t.rows) ≡ false) same
             (rows.gone-change T made_draining T (rows.drained sp.number g k) (λ p e. e) t.rows))
-            (λ more. rows.off-change T made_draining (is_worker is_active sp.number g i) (rows.drained-off sp.number g i) t.rows (s.idle i more))
+            (λ more. rows.off-change T made_draining (is_worker is_active sp.number g i)
+            (rows.drained-off sp.number g i) t.rows (s.idle i more))
             (in-cases k i x.idle b)),
       )
     where
@@ -225,14 +245,21 @@ module _ (handed : Handed) (sp : Spot) (g : Generation) where
 
   pub step-kill : (k : ℕ) (x : State) → Step x (Kill g k) (record x { busy = []; idle = k ∷ x.idle })
   step-kill k x t s =
-      by-own t (Kill g k) (record { number = sp.number; holds = s.holds }) (Then (Kill g k) (record x { busy = []; idle = k ∷ x.idle })) s.lives (
+      by-own t (Kill g k) (record { number = sp.number; holds = s.holds }) (Then (Kill g k) (record x {
+        busy = [];
+        idle = k ∷ x.idle;
+      })) s.lives (
         refl,
-        moved x [] (k ∷ x.idle) t.rows _ t.limits s (λ i. rows.live-drop T (rows.no-master is_any sp.number g k) i t.rows)
-            (rows.own-drop T t.rows) (λ a off. rows.off-drop T (rows.holds_it a) t.rows off) (λ i b. absurd (none-in i b))
+        moved x [] (k ∷ x.idle) t.rows _ t.limits s (λ i. rows.live-drop T
+            (rows.no-master is_any sp.number g k) i t.rows)
+            (rows.own-drop T t.rows) (λ a off. rows.off-drop T (rows.holds_it a) t.rows off) (λ i b. absurd
+            (none-in i b))
             (λ i b. ⊎_elim
-            (λ same. subst (λ z. list_any (is_worker is_active sp.number g z) (filter_map (drop_where T) t.rows) ≡ false) same
+            (λ same. subst (λ z. list_any (is_worker is_active sp.number g z) (filter_map
+            (drop_where T) t.rows) ≡ false) same
             (rows.gone-drop T (is_worker is_active sp.number g k) (rows.no-name is_active sp.number g k) t.rows))
-            (λ more. rows.off-drop T (is_worker is_active sp.number g i) t.rows (s.idle i more)) (in-cases k i x.idle b)),
+            (λ more. rows.off-drop T (is_worker is_active sp.number g i) t.rows (s.idle i more))
+            (in-cases k i x.idle b)),
       )
     where
       T : Process → Bool
@@ -240,13 +267,16 @@ module _ (handed : Handed) (sp : Spot) (g : Generation) where
 
   pub step-gone : (k : ℕ) (x : State) → is_in x.idle k ≡ true → Step x (AwaitGone g k) (record x { busy = [] })
   step-gone k x off t s =
-      by-own t (AwaitGone g k) (record { number = sp.number; holds = s.holds }) (Then (AwaitGone g k) (record x { busy = [] })) s.lives
-      (pick (Then (AwaitGone g k) (record x { busy = [] })) (list_any (is_worker is_active sp.number g k) t.rows) (gives answer.Late t)
+      by-own t (AwaitGone g k) (record { number = sp.number; holds = s.holds }) (Then (AwaitGone g k)
+      (record x { busy = [] })) s.lives
+      (pick (Then (AwaitGone g k) (record x { busy = [] })) (list_any (is_worker is_active sp.number g k) t.rows)
+      (gives answer.Late t)
       (gives answer.Gone (each_row (drop_where T) t)) (λ on. absurd (let e = s.idle k off in cc))
       (λ e. (
         refl,
         moved x [] x.idle t.rows _ t.limits s (λ i. rows.live-drop T (rows.no-master is_any sp.number g k) i t.rows)
-            (rows.own-drop T t.rows) (λ a off. rows.off-drop T (rows.holds_it a) t.rows off) (λ i b. absurd (none-in i b))
+            (rows.own-drop T t.rows) (λ a off. rows.off-drop T (rows.holds_it a) t.rows off) (λ i b. absurd
+            (none-in i b))
             (λ i b. rows.off-drop T (is_worker is_active sp.number g i) t.rows (s.idle i b)),
       )))
     where
@@ -254,9 +284,11 @@ module _ (handed : Handed) (sp : Spot) (g : Generation) where
       T = is_worker is_any sp.number g k
 
   -- those that exited leave, of any master
-  heard : (m : ℕ) (x : State) (t : Table) → At x t → Stands handed sp g x (filter_map (drop_where (is_exited_of m)) t.rows) t.limits
+  heard : (m : ℕ) (x : State) (t : Table) → At x t → Stands handed sp g x (filter_map (drop_where
+      (is_exited_of m)) t.rows) t.limits
   heard m x t s =
-      moved x x.busy x.idle t.rows _ t.limits s (λ i. rows.live-drop (is_exited_of m) no i t.rows) (rows.own-drop (is_exited_of m) t.rows)
+      moved x x.busy x.idle t.rows _ t.limits s (λ i. rows.live-drop (is_exited_of m) no i t.rows) (rows.own-drop
+      (is_exited_of m) t.rows)
       (λ a off. rows.off-drop (is_exited_of m) (rows.holds_it a) t.rows off)
       (λ i b. rows.same-drop (is_exited_of m) (is_worker is_active sp.number g i) (dead i) t.rows ∙ s.busy i b)
       (λ i b. rows.off-drop (is_exited_of m) (is_worker is_active sp.number g i) t.rows (s.idle i b))
@@ -276,31 +308,40 @@ module _ (handed : Handed) (sp : Spot) (g : Generation) where
 
   pub step-census : (h : Generation) (x : State) → Step x (Census h) x
   step-census h x t s =
-      by-own t (Census h) (record { number = sp.number; holds = s.holds }) (Then (Census h) x) s.lives (refl, heard sp.number x t s)
+      by-own t (Census h) (record { number = sp.number; holds = s.holds }) (Then (Census h) x) s.lives
+      (refl, heard sp.number x t s)
 
   -- the other master's count
-  pub other-census : (h : Generation) (x : State) (t : Table) → At x t → Then (Census h) x (step_with handed sp.other (Census h) None t)
+  pub other-census : (h : Generation) (x : State) (t : Table) → At x t → Then (Census h) x (step_with handed sp.other
+      (Census h) None t)
   other-census h x t s =
-      subst (λ o. Then (Census h) x (step_by handed sp.other o (Census h) None t)) (sym s.beside.1) (refl, heard sp.other_number x t s)
+      subst (λ o. Then (Census h) x (step_by handed sp.other o (Census h) None t)) (sym s.beside.1)
+      (refl, heard sp.other_number x t s)
 
   ---- Calls that change no row
 
   pub step-usr1 : (h : Generation) (k : ℕ) (x : State) → Step x (Usr1 h k) x
-  step-usr1 h k x t s = by-own t (Usr1 h k) (record { number = sp.number; holds = s.holds }) (Then (Usr1 h k) x) s.lives (refl, s)
+  step-usr1 h k x t s = by-own t (Usr1 h k) (record { number = sp.number; holds = s.holds }) (Then
+      (Usr1 h k) x) s.lives (refl, s)
 
   pub step-ask : (n : ℕ) (x : State) → Step x (Ask n) x
-  step-ask n x t s = by-own t (Ask n) (record { number = sp.number; holds = s.holds }) (Then (Ask n) x) s.lives (refl, s)
+  step-ask n x t s = by-own t (Ask n) (record { number = sp.number; holds = s.holds }) (Then (Ask n) x) s.lives
+      (refl, s)
 
   pub step-write : (path : FilePath) (x : State) → Step x (WritePid path) x
-  step-write path x t s = by-own t (WritePid path) (record { number = sp.number; holds = s.holds }) (Then (WritePid path) x) s.lives (refl, s)
+  step-write path x t s = by-own t (WritePid path) (record { number = sp.number; holds = s.holds }) (Then
+      (WritePid path) x) s.lives (refl, s)
 
   pub step-remove : (path : FilePath) (x : State) → Step x (RemovePid path) x
-  step-remove path x t s = by-own t (RemovePid path) (record { number = sp.number; holds = s.holds }) (Then (RemovePid path) x) s.lives (refl, s)
+  step-remove path x t s = by-own t (RemovePid path) (record { number = sp.number; holds = s.holds }) (Then
+      (RemovePid path) x) s.lives (refl, s)
 
   pub step-alive : (x : State) → Step x (Alive sp.other) x
   step-alive x t s =
       by-own t (Alive sp.other) c (Then (Alive sp.other) x) s.lives
-      (subst (λ (o : Option Caller). Then (Alive sp.other) x (if is_some o then gives answer.IsAlive t else gives answer.Gone (each_row (drop_where (Rattle.definitions.specs.Calls.is_image sp.other)) t)))
+      (subst (λ (o : Option Caller). Then (Alive sp.other) x
+      (if is_some o then gives answer.IsAlive t else gives answer.Gone (each_row (drop_where
+      (Rattle.definitions.specs.Calls.is_image sp.other)) t)))
       (sym s.beside.1) (refl, s))
     where
       c : Caller
@@ -335,20 +376,33 @@ module _ (handed : Handed) (sp : Spot) (g : Generation) where
 
   -- Rows of which the holds of the master and its workers change.
   rehold :
-      (T : Process → Bool) (f : List Hold → List Hold) (busy idle room : List ℕ) (unheld unheld' : List Address) (fresh : Bool)
-      (ps : List Process) (limits : Limits) (s : Stands handed sp g (record { busy = busy; idle = idle; room = room; unheld = unheld; fresh = fresh }) ps limits) →
+      (T : Process → Bool) (f : List Hold → List Hold) (busy idle room : List ℕ) (unheld unheld' : List Address)
+      (fresh : Bool)
+      (ps : List Process) (limits : Limits) (s : Stands handed sp g (record {
+        busy = busy;
+        idle = idle;
+        room = room;
+        unheld = unheld;
+        fresh = fresh;
+      }) ps limits) →
       ((n q j : ℕ) (live : Bool) (hs : List Hold) → T (Master n q j live hs) ≡ (n == sp.number)) →
       AllByRecursion (λ a. is_held a (filter_map (change T (with_holds f)) ps) ≡ false) unheld' → HasNoneTwice unheld' →
       (1 ≤ length unheld' → length (f s.holds) + length unheld' ≤ limits.descriptors) →
-      Stands handed sp g (record { busy = busy; idle = idle; room = room; unheld = unheld'; fresh = false }) (filter_map (change T (with_holds f)) ps) limits
+      Stands handed sp g (record { busy = busy; idle = idle; room = room; unheld = unheld'; fresh = false })
+      (filter_map (change T (with_holds f)) ps) limits
   rehold T f busy idle room unheld unheld' fresh ps limits s own held apart limit = record {
     holds = f s.holds;
     lives =
-        rows.live-holds T f sp.number own sp.image ps ∙ ap (λ (o : Option Caller). option_map (rows.with_f sp.number f) o) s.lives ∙
-        ap (λ b. Some (record { number = sp.number; holds = if b then f s.holds else s.holds })) (eqb-refl sp.number sp.number refl);
+        rows.live-holds T f sp.number own sp.image ps ∙ ap (λ (o : Option Caller). option_map
+        (rows.with_f sp.number f) o) s.lives ∙
+        ap (λ b. Some (record { number = sp.number; holds = if b then f s.holds else s.holds }))
+        (eqb-refl sp.number sp.number refl);
     told = λ e. absurd (cc);
-    beside =
-        (_, rows.live-holds T f sp.number own sp.other ps ∙ ap (λ (o : Option Caller). option_map (rows.with_f sp.number f) o) s.beside.1);
+    beside = (
+      _,
+      rows.live-holds T f sp.number own sp.other ps ∙ ap (λ (o : Option Caller). option_map
+          (rows.with_f sp.number f) o) s.beside.1,
+    );
     busy = λ i b. same i ∙ s.busy i b;
     idle = λ i b. same i ∙ s.idle i b;
     room = let n = rows.own-change T (with_holds f) (rows.own-holds f) ps in omega (arith, n, s.room);
@@ -357,21 +411,27 @@ module _ (handed : Handed) (sp : Spot) (g : Generation) where
     limit = limit;
   }
     where
-      same : (i : ℕ) → list_any (is_worker is_active sp.number g i) (filter_map (change T (with_holds f)) ps) ≡ list_any (is_worker is_active sp.number g i) ps
-      same i = rows.same-change T (with_holds f) (is_worker is_active sp.number g i) (λ p e. rows.holds-active f sp.number g i p) ps
+      same : (i : ℕ) → list_any (is_worker is_active sp.number g i) (filter_map (change T
+          (with_holds f)) ps) ≡ list_any (is_worker is_active sp.number g i) ps
+      same i = rows.same-change T (with_holds f) (is_worker is_active sp.number g i)
+          (λ p e. rows.holds-active f sp.number g i p) ps
 
   pub step-close :
       (a : Address) (busy idle room : List ℕ) (unheld : List Address) →
-      let x : State = record { busy = busy; idle = idle; room = room; unheld = unheld; fresh = false } in Step x (CloseAt a) x
+      let x : State = record { busy = busy; idle = idle; room = room; unheld = unheld; fresh = false } in Step x
+      (CloseAt a) x
   step-close a busy idle room unheld t s =
       by-own t (CloseAt a) (record { number = sp.number; holds = s.holds })
       (Then (CloseAt a) (record { busy = busy; idle = idle; room = room; unheld = unheld; fresh = false })) s.lives (
         refl,
-        rehold (is_of sp.number) (lacks_address a) busy idle room unheld unheld false t.rows t.limits s (λ n q j live hs. refl)
-            (every-more (λ b. is_held b t.rows ≡ false) (λ b. is_held b (filter_map (change (is_of sp.number) (with_holds (lacks_address a))) t.rows) ≡ false)
+        rehold (is_of sp.number) (lacks_address a) busy idle room unheld unheld false t.rows t.limits s
+            (λ n q j live hs. refl)
+            (every-more (λ b. is_held b t.rows ≡ false) (λ b. is_held b (filter_map (change (is_of sp.number)
+            (with_holds (lacks_address a))) t.rows) ≡ false)
             (λ b off. rows.off-change (is_of sp.number) (with_holds (lacks_address a)) (rows.holds_it b)
             (rows.holds-off b (lacks_address a) (λ hs e. rows.filter-off b _ hs e)) t.rows off) unheld s.unheld)
-            s.apart (λ e. let some = s.limit e in let less = rows.filter-le (λ h. not (bytes_eq h.address a)) s.holds in omega (arith, some, less)),
+            s.apart (λ e. let some = s.limit e in let less = rows.filter-le (λ h. not
+            (bytes_eq h.address a)) s.holds in omega (arith, some, less)),
       )
 
   pub step-open :
@@ -380,10 +440,13 @@ module _ (handed : Handed) (sp : Spot) (g : Generation) where
       (record { busy = busy; idle = idle; room = room; unheld = unheld; fresh = false })
   step-open a busy idle room unheld t s =
       by-own t (OpenAt a) c P s.lives
-      (pick P (is_held a t.rows) (gives answer.InUse t) (if nat_lt (length s.holds) t.limits.descriptors then done else gives answer.TooMany t)
+      (pick P (is_held a t.rows) (gives answer.InUse t) (if nat_lt
+      (length s.holds) t.limits.descriptors then done else gives answer.TooMany t)
       (λ on. absurd (let off = s.unheld.0 in cc))
-      (λ off. pick P (nat_lt (length s.holds) t.limits.descriptors) done (gives answer.TooMany t) (λ yes. (refl, stands))
-      (λ no. absurd (let some : nat_lt (length s.holds) t.limits.descriptors ≡ true = few (length s.holds) (length (a ∷ unheld)) t.limits.descriptors (omega arith) (s.limit (omega arith)) in cc))))
+      (λ off. pick P (nat_lt (length s.holds) t.limits.descriptors) done (gives answer.TooMany t) (λ yes.
+      (refl, stands))
+      (λ no. absurd (let some : nat_lt (length s.holds) t.limits.descriptors ≡ true = few (length s.holds) (length
+      (a ∷ unheld)) t.limits.descriptors (omega arith) (s.limit (omega arith)) in cc))))
     where
       c : Caller
       c = record { number = sp.number; holds = s.holds }
@@ -403,13 +466,18 @@ module _ (handed : Handed) (sp : Spot) (g : Generation) where
       f : Process → Option Process
       f = change (is_row sp.number) (with_holds (put_hold hold))
 
-      stands : Stands handed sp g (record { busy = busy; idle = idle; room = room; unheld = unheld; fresh = false }) (filter_map f t.rows) t.limits
+      stands : Stands handed sp g (record { busy = busy; idle = idle; room = room; unheld = unheld; fresh = false })
+          (filter_map f t.rows) t.limits
       stands =
-          rehold (is_row sp.number) (put_hold hold) busy idle room (a ∷ unheld) unheld false t.rows t.limits s (λ n q j live hs. refl)
-          (every-more (λ b. (bytes_eq b a ≡ false) × (is_held b t.rows ≡ false)) (λ b. is_held b (filter_map f t.rows) ≡ false)
+          rehold (is_row sp.number) (put_hold hold) busy idle room (a ∷ unheld) unheld false t.rows t.limits s
+          (λ n q j live hs. refl)
+          (every-more (λ b. (bytes_eq b a ≡ false) × (is_held b t.rows ≡ false)) (λ b. is_held b
+          (filter_map f t.rows) ≡ false)
           (λ b off. rows.off-change (is_row sp.number) (with_holds (put_hold hold)) (rows.holds_it b)
-          (rows.holds-off b (put_hold hold) (λ hs e. rows.put-off b hold hs (address-sym a b ∙ off.0) e)) t.rows off.1) unheld
+          (rows.holds-off b (put_hold hold) (λ hs e. rows.put-off b hold hs (address-sym a b ∙
+          off.0) e)) t.rows off.1) unheld
           (every-both (λ b. bytes_eq b a ≡ false) (λ b. is_held b t.rows ≡ false) unheld
           (any-every (λ b. bytes_eq b a) unheld s.apart.0) s.unheld.1))
           s.apart.1
-          (λ e. let some = s.limit (omega arith) in let more = rows.put-length hold s.holds in omega (arith, some, more))
+          (λ e. let some = s.limit (omega arith) in let more = rows.put-length hold s.holds in omega
+          (arith, some, more))

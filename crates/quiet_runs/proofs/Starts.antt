@@ -53,8 +53,10 @@ idle-row r holds k (Worker n q g j Exited hs) h e = refl
 idle-row r holds k (Foreign n hs) h e = refl
 
 idle-rows :
-    (r : Record) (holds : List Hold) (k : ℕ) (rows : List Process) → AllByRecursion (IsRunning r.pid (crew_of r) holds) rows →
-    list_any (is_worker is_ready r.pid r.generation k) rows ≡ false → list_any (is_worker is_active r.pid r.generation k) rows ≡ false
+    (r : Record) (holds : List Hold) (k : ℕ) (rows : List Process) → AllByRecursion (IsRunning r.pid
+    (crew_of r) holds) rows →
+    list_any (is_worker is_ready r.pid r.generation k) rows ≡ false → list_any
+    (is_worker is_active r.pid r.generation k) rows ≡ false
 idle-rows r holds k [] all e = refl
 idle-rows r holds k (p ∷ ps) all e =
     let off = or-off (is_worker is_ready r.pid r.generation k p) _ e in
@@ -80,10 +82,12 @@ other-row r holds h k ne (Worker n q g j Exited hs) run = refl
 other-row r holds h k ne (Foreign n hs) run = refl
 
 other-rows :
-    (r : Record) (holds : List Hold) (h : Generation) (k : ℕ) → same_generation r.generation h ≡ false → (rows : List Process) →
+    (r : Record) (holds : List Hold) (h : Generation) (k : ℕ) → same_generation r.generation h ≡ false →
+    (rows : List Process) →
     AllByRecursion (IsRunning r.pid (crew_of r) holds) rows → list_any (is_worker is_active r.pid h k) rows ≡ false
 other-rows r holds h k ne [] all = refl
-other-rows r holds h k ne (p ∷ ps) all = both-off _ _ (other-row r holds h k ne p all.0) (other-rows r holds h k ne ps all.1)
+other-rows r holds h k ne (p ∷ ps) all = both-off _ _ (other-row r holds h k ne p all.0)
+    (other-rows r holds h k ne ps all.1)
 
 off-and : (a b : Bool) → b ≡ false → (a && b) ≡ false
 off-and true b e = e
@@ -102,11 +106,18 @@ idle-reload t r start k =
 ---- Where one master begins
 
 pub begins :
-    (handed : Handed) (t : Table) (r : Record) (start : IsStart t r) (g : Generation) (idle room : List ℕ) (unheld : List Address) →
+    (handed : Handed) (t : Table) (r : Record) (start : IsStart t r) (g : Generation) (idle room : List ℕ)
+    (unheld : List Address) →
     ((k : ℕ) → is_in idle k ≡ true → list_any (is_worker is_active r.pid g k) t.rows ≡ false) →
     count_by is_own t.rows + length room ≤ t.limits.processes → AllByRecursion (λ a. is_held a t.rows ≡ false) unheld →
     HasNoneTwice unheld → length r.listeners + length unheld ≤ t.limits.descriptors →
-    Stands handed (lone r) g (record { busy = []; idle = idle; room = room; unheld = unheld; fresh = false }) t.rows t.limits
+    Stands handed (lone r) g (record {
+      busy = [];
+      idle = idle;
+      room = room;
+      unheld = unheld;
+      fresh = false;
+    }) t.rows t.limits
 begins handed t r start g idle room unheld off fits held apart limit = record {
   holds = start.agrees.holds;
   lives = start.agrees.lives;
@@ -119,7 +130,8 @@ begins handed t r start g idle room unheld off fits held apart limit = record {
   apart = apart;
   limit =
       λ e. let a = length-map listener_of start.agrees.holds in
-      let b : length (map listener_of start.agrees.holds) ≡ length r.listeners = ap (λ (l : List Listener). length l) start.agrees.listeners in
+      let b : length (map listener_of start.agrees.holds) ≡ length r.listeners = ap (λ
+      (l : List Listener). length l) start.agrees.listeners in
       omega (arith, a, b, limit);
 }
 
@@ -145,7 +157,8 @@ no-image a b c (Master n q j live hs ∷ ps) ne one e =
     let few : weigh masters ps ≡ 0 = omega (arith, one) in
     both-off (j == b) (list_any (is_image b) ps) (go live (j == a) refl e (not-live a ps few)) (none-of b ps few)
   where
-    go : (x y : Bool) → (j == a) ≡ y → caller_if (x && y) n hs (live_master a ps) ≡ Some c → live_master a ps ≡ None → (j == b) ≡ false
+    go : (x y : Bool) → (j == a) ≡ y → caller_if (x && y) n hs (live_master a ps) ≡ Some c → live_master a ps ≡ None →
+        (j == b) ≡ false
     go true true is e none = eqb-off j b (λ f. ne (sym f ∙ eqb-is j a is))
     go true false is e none = absurd (cc)
     go false y is e none = absurd (cc)
@@ -156,11 +169,13 @@ below-next : (least : ℕ) (rows : List Process) (next : ℕ) → IsAscending le
 below-next least [] next h = h
 below-next least (p ∷ ps) next h = let a = below-next (number_of p + 1) ps next h.1 in omega (arith, a, h.0)
 
-pub live-below : (least i : ℕ) (c : Caller) (rows : List Process) (next : ℕ) → IsAscending least rows next → live_master i rows ≡ Some c → c.number < next
+pub live-below : (least i : ℕ) (c : Caller) (rows : List Process) (next : ℕ) → IsAscending least rows next →
+    live_master i rows ≡ Some c → c.number < next
 live-below least i c [] next h e = absurd (cc)
 live-below least i c (Master n q j live hs ∷ ps) next h e = go (live && (j == i)) e (live-below (n + 1) i c ps next h.1)
   where
-    go : (b : Bool) → caller_if b n hs (live_master i ps) ≡ Some c → (live_master i ps ≡ Some c → c.number < next) → c.number < next
+    go : (b : Bool) → caller_if b n hs (live_master i ps) ≡ Some c → (live_master i ps ≡ Some c → c.number < next) →
+        c.number < next
     go true e ih =
         let same : record { number = n; holds = hs } ≡ c = cc in
         let num : n ≡ c.number = ap (λ (x : Caller). x.number) same in
@@ -169,25 +184,31 @@ live-below least i c (Master n q j live hs ∷ ps) next h e = go (live && (j == 
 live-below least i c (Worker n q g k s hs ∷ ps) next h e = live-below (n + 1) i c ps next h.1 e
 live-below least i c (Foreign n hs ∷ ps) next h e = live-below (n + 1) i c ps next h.1 e
 
-parent-below : (least q : ℕ) (rows : List Process) (next : ℕ) → IsAscending least rows next → list_any (is_live_master q) rows ≡ true → q < next
+parent-below : (least q : ℕ) (rows : List Process) (next : ℕ) → IsAscending least rows next → list_any
+    (is_live_master q) rows ≡ true → q < next
 parent-below least q [] next h e = absurd (cc)
-parent-below least q (Master n p j live hs ∷ ps) next h e = go (live && (n == q)) refl e (parent-below (n + 1) q ps next h.1)
+parent-below least q (Master n p j live hs ∷ ps) next h e = go (live && (n == q)) refl e (parent-below
+    (n + 1) q ps next h.1)
   where
-    go : (b : Bool) → (live && (n == q)) ≡ b → (b || list_any (is_live_master q) ps) ≡ true → (list_any (is_live_master q) ps ≡ true → q < next) → q < next
-    go true is e ih = let a = below-next (n + 1) ps next h.1 in let num : n ≡ q = eqb-is n q (and-right live _ is) in omega (arith, a, num)
+    go : (b : Bool) → (live && (n == q)) ≡ b → (b || list_any (is_live_master q) ps) ≡ true → (list_any
+        (is_live_master q) ps ≡ true → q < next) → q < next
+    go true is e ih = let a = below-next (n + 1) ps next h.1 in let num : n ≡ q = eqb-is n q
+        (and-right live _ is) in omega (arith, a, num)
     go false is e ih = ih e
 parent-below least q (Worker n p g k s hs ∷ ps) next h e = parent-below (n + 1) q ps next h.1 e
 parent-below least q (Foreign n hs ∷ ps) next h e = parent-below (n + 1) q ps next h.1 e
 
 -- No worker's parent has the next number.
 pub none-of-next :
-    (all rows : List Process) (next : ℕ) (g : Generation) (k : ℕ) → IsAscending 0 all next → AllByRecursion (HasParent all) rows →
+    (all rows : List Process) (next : ℕ) (g : Generation) (k : ℕ) → IsAscending 0 all next → AllByRecursion
+    (HasParent all) rows →
     list_any (is_worker is_active next g k) rows ≡ false
 none-of-next all [] next g k asc par = refl
 none-of-next all (Master n q i live hs ∷ ps) next g k asc par = none-of-next all ps next g k asc par.1
 none-of-next all (Worker n q h j s hs ∷ ps) next g k asc par =
     let lt = parent-below 0 q all next asc par.0 in
-    both-off _ _ (is-off (is_active s) (q == next) _ (λ on. let same = eqb-is q next on in absurd (omega (arith, lt, same))))
+    both-off _ _ (is-off (is_active s) (q == next) _ (λ on. let same = eqb-is q next on in absurd (omega
+    (arith, lt, same))))
     (none-of-next all ps next g k asc par.1)
 none-of-next all (Foreign n hs ∷ ps) next g k asc par = none-of-next all ps next g k asc par.1
 
@@ -199,20 +220,41 @@ weight b = cond b 1 0
 own-cons : (p : Process) (ps : List Process) → count_by is_own (p ∷ ps) ≡ weight (is_own p) + count_by is_own ps
 own-cons p ps = sum_by-cons (λ (p : Process). weight (is_own p)) p ps
 
-pub own-leave : (m : ℕ) (rows : List Process) → count_by is_own (filter_map (without_master m) rows) ≤ count_by is_own rows
+pub own-leave : (m : ℕ) (rows : List Process) → count_by is_own (filter_map
+    (without_master m) rows) ≤ count_by is_own rows
 own-leave m [] = omega arith
 own-leave m (Master n q i live hs ∷ ps) = go (n == m) (own-leave m ps)
   where
     go :
         (b : Bool) → count_by is_own (filter_map (without_master m) ps) ≤ count_by is_own ps →
-        count_by is_own (cons_option (if b then None else Some (Master n (if q == m then 1 else q) i live hs)) (filter_map (without_master m) ps)) ≤ count_by is_own (Master n q i live hs ∷ ps)
+        count_by is_own (cons_option (if b then None else Some (Master n (if q == m then 1 else q) i live hs))
+        (filter_map (without_master m) ps)) ≤ count_by is_own (Master n q i live hs ∷ ps)
     go true ih = omega (arith, ih, own-cons (Master n q i live hs) ps)
-    go false ih = omega (arith, ih, own-cons (Master n q i live hs) ps, own-cons (Master n (if q == m then 1 else q) i live hs) (filter_map (without_master m) ps))
+    go false ih = omega (
+      arith,
+      ih,
+      own-cons (Master n q i live hs) ps,
+      own-cons (Master n
+          (if q == m then 1 else q) i live hs) (filter_map (without_master m) ps),
+    )
 own-leave m (Worker n q g k s hs ∷ ps) = go (q == m) (own-leave m ps)
   where
     go :
         (b : Bool) → count_by is_own (filter_map (without_master m) ps) ≤ count_by is_own ps →
-        count_by is_own (cons_option (if b then None else Some (Worker n q g k s hs)) (filter_map (without_master m) ps)) ≤ count_by is_own (Worker n q g k s hs ∷ ps)
+        count_by is_own (cons_option (if b then None else Some (Worker n q g k s hs)) (filter_map
+        (without_master m) ps)) ≤ count_by is_own (Worker n q g k s hs ∷ ps)
     go true ih = omega (arith, ih, own-cons (Worker n q g k s hs) ps)
-    go false ih = omega (arith, ih, own-cons (Worker n q g k s hs) ps, own-cons (Worker n q g k s hs) (filter_map (without_master m) ps))
-own-leave m (Foreign n hs ∷ ps) = omega (arith, own-leave m ps, own-cons (Foreign n hs) ps, own-cons (Foreign n hs) (filter_map (without_master m) ps))
+    go false ih = omega (
+      arith,
+      ih,
+      own-cons (Worker n q g k s hs) ps,
+      own-cons (Worker n q g k s hs) (filter_map
+          (without_master m) ps),
+    )
+own-leave m (Foreign n hs ∷ ps) = omega (
+  arith,
+  own-leave m ps,
+  own-cons (Foreign n hs) ps,
+  own-cons (Foreign n hs)
+      (filter_map (without_master m) ps),
+)

@@ -61,16 +61,20 @@ plain-no-fault call (answer.Counted ns) h = refl
 plain-no-fault (Ask n) answer.Back h = refl
 plain-no-fault call a h = is-not _ (same-refl (reply_of [] a) (plain_reply call) h)
 
-plain-no-return : (call : Call) (a : Answer) (faults : ℕ) (returns : List Return) → IsPlain call a → returns_after call a faults returns ≡ returns
+plain-no-return : (call : Call) (a : Answer) (faults : ℕ) (returns : List Return) → IsPlain call a →
+    returns_after call a faults returns ≡ returns
 plain-no-return (Ask n) answer.Back faults returns h = absurd (cc)
 plain-no-return call a faults returns h = refl
 
 -- an answer that is plain, to a step whose cause shows no wrong
-as-replied : (call : Call) (set : List ℕ) (a : Answer) → IsPlain call a → went_wrong call (reply_of set a) ≡ false → reply_of set a ≡ plain_reply call
+as-replied : (call : Call) (set : List ℕ) (a : Answer) → IsPlain call a → went_wrong call (reply_of set a) ≡ false →
+    reply_of set a ≡ plain_reply call
 as-replied call set (answer.Counted ns) h w = go (list_any (λ k. true) (lacks set ns)) w
   where
-    go : (b : Bool) → went_wrong call (if b then reply.Short else reply.Full) ≡ false → (if b then reply.Short else reply.Full) ≡ plain_reply call
-    go true w = absurd (let e : same_reply reply.Short reply.Full ≡ true = subst (λ x. same_reply reply.Short x ≡ true) (sym h) (not-is _ w) in cc)
+    go : (b : Bool) → went_wrong call (if b then reply.Short else reply.Full) ≡ false →
+        (if b then reply.Short else reply.Full) ≡ plain_reply call
+    go true w = absurd (let e : same_reply reply.Short reply.Full ≡ true = subst (λ x. same_reply reply.Short x ≡ true)
+        (sym h) (not-is _ w) in cc)
     go false w = h
 as-replied call set a h w = h
 
@@ -95,20 +99,27 @@ not-blamed : (p : Progress) → IsBlamed p → p.faults ≡ 0 → p.losses ≡ 0
 not-blamed p blamed f l r = none-is p.cause (go (is_some p.cause) blamed.1)
   where
     go : (b : Bool) → (b ≡ true → 1 ≤ p.faults + p.losses + length p.returns) → b ≡ false
-    go true h = let few : length p.returns ≡ 0 = ap (λ (x : List Return). length x) r in absurd (omega (arith, h refl, f, l, few))
+    go true h = let few : length p.returns ≡ 0 = ap (λ (x : List Return). length x) r in absurd (omega
+        (arith, h refl, f, l, few))
     go false h = refl
 
 -- the accounts where a run begins
 mutual
-  first-of : (handed : Handed) (tree : Tree) (p : Progress) → AllByRecursion IsBlamed (run_with handed tree no_event p).passed → IsBlamed p
+  first-of : (handed : Handed) (tree : Tree) (p : Progress) → AllByRecursion IsBlamed
+      (run_with handed tree no_event p).passed → IsBlamed p
   first-of handed (Ends end) p b = b.0
   first-of handed (Does by order set branches) p b = b.0
 
-  first-behind : (handed : Handed) (bs : Branches) (r : Reply) (p : Progress) → AllByRecursion IsBlamed (goes_with handed bs r no_event p).passed → IsBlamed p
+  first-behind : (handed : Handed) (bs : Branches) (r : Reply) (p : Progress) → AllByRecursion IsBlamed
+      (goes_with handed bs r no_event p).passed → IsBlamed p
   first-behind handed Nothing r p b = b.0
   first-behind handed (Branch replies said rest more) r p b =
       elim (among replies r) as
-      (λ b. AllByRecursion IsBlamed (elim b as (λ c. Ran) [ true ↦ run_with handed rest no_event (noted said p) | false ↦ goes_with handed more r no_event p ]).passed → IsBlamed p) [
+      (λ b. AllByRecursion IsBlamed (elim b as (λ c. Ran) [
+        | true ↦ run_with handed rest no_event
+            (noted said p)
+        | false ↦ goes_with handed more r no_event p
+      ]).passed → IsBlamed p) [
         | true ↦ λ b. first-of handed rest (noted said p) b
         | false ↦ λ b. first-behind handed more r p b
       ] b
@@ -116,13 +127,15 @@ mutual
 mutual
   pub run-clean :
       (handed : Handed) (tree : Tree) (p : Progress) → Goes handed tree p.table → Clean p →
-      AllByRecursion IsBlamed (run_with handed tree no_event p).passed → (run_with handed tree no_event p).last.cause ≡ None
+      AllByRecursion IsBlamed (run_with handed tree no_event p).passed →
+      (run_with handed tree no_event p).last.cause ≡ None
   run-clean handed (Ends end) p g c b = c.cause
   run-clean handed (Does by (Make call) set bs) p g c b =
       let middle = after_moment [] p in
       let s = step_with handed by call None middle.table in
       let next = after_call by (Make call) set s middle in
-      let faults : next.faults ≡ 0 = unless (is_fault call s.answer) (p.faults + 1) p.faults (plain-no-fault call s.answer g.0) ∙ c.faults in
+      let faults : next.faults ≡ 0 = unless (is_fault call s.answer) (p.faults + 1) p.faults
+      (plain-no-fault call s.answer g.0) ∙ c.faults in
       let losses : next.losses ≡ 0 = no-losses p.losses _ c.losses in
       let returns : next.returns ≡ [] = plain-no-return call s.answer p.faults p.returns g.0 ∙ c.returns in
       let cause = not-blamed next (first-behind handed bs (reply_of set s.answer) next b.1.1) faults losses returns in
@@ -134,13 +147,27 @@ mutual
 
   behind-clean :
       (handed : Handed) (bs : Branches) (r : Reply) (p : Progress) → Follows handed bs r p.table → Clean p →
-      AllByRecursion IsBlamed (goes_with handed bs r no_event p).passed → (goes_with handed bs r no_event p).last.cause ≡ None
+      AllByRecursion IsBlamed (goes_with handed bs r no_event p).passed →
+      (goes_with handed bs r no_event p).last.cause ≡ None
   behind-clean handed Nothing r p g c b = c.cause
   behind-clean handed (Branch replies said rest more) r p g c b =
       elim (among replies r) as
       (λ b. elim b as (λ c. Type 0) [ true ↦ Goes handed rest p.table | false ↦ Follows handed more r p.table ] →
-      AllByRecursion IsBlamed (elim b as (λ c. Ran) [ true ↦ run_with handed rest no_event (noted said p) | false ↦ goes_with handed more r no_event p ]).passed →
-      (elim b as (λ c. Ran) [ true ↦ run_with handed rest no_event (noted said p) | false ↦ goes_with handed more r no_event p ]).last.cause ≡ None) [
-        | true ↦ λ g b. run-clean handed rest (noted said p) g (record { faults = c.faults; losses = c.losses; returns = c.returns; cause = c.cause }) b
+      AllByRecursion IsBlamed (elim b as (λ c. Ran) [
+        | true ↦ run_with handed rest no_event
+            (noted said p)
+        | false ↦ goes_with handed more r no_event p
+      ]).passed →
+      (elim b as (λ c. Ran) [
+        | true ↦ run_with handed rest no_event
+            (noted said p)
+        | false ↦ goes_with handed more r no_event p
+      ]).last.cause ≡ None) [
+        | true ↦ λ g b. run-clean handed rest (noted said p) g (record {
+          faults = c.faults;
+          losses = c.losses;
+          returns = c.returns;
+          cause = c.cause;
+        }) b
         | false ↦ λ g b. behind-clean handed more r p g c b
       ] g b

@@ -9,7 +9,8 @@ use vocabulary.Words.{refl, ℕ, not, List, [], length, None, filter, count_by, 
 use vocabulary.Words.{is_in, has, ⊤, false}
 use vocabulary.declared.reports.Outcome.TheVariants as outcome
 use above.Table.{Address, Table, is_own, is_held, service, IsSame}
-use above.Master.{Record, Target, Workers, Mend, Reopen, Reload, Upgrade, Attended, Stop, addresses_of, addresses_wanted}
+use above.Master.{Record, Target, Workers, Mend, Reopen, Reload, Upgrade, Attended, Stop, addresses_of}
+use above.Master.{addresses_wanted}
 use above.Master.{want, sides_of}
 use above.Plans.{Turn, only_in}
 use above.Run.{Pattern, Ran, report_of}
