@@ -7,17 +7,13 @@ use code_explanations::{
 /// What is known of a code, an answer, an outcome, a word or a call, by the first word of a text: as it is written, or
 /// else in other letters.
 pub fn find(text: &str) -> Option<Explanation> {
-    let name = first_word(text);
+    let name = match text.split_once(' ') {
+        Some((word, _)) => word,
+        None => text,
+    };
     match find_exactly(name) {
         Some(found) => Some(found),
         None => find_alike(name),
-    }
-}
-
-fn first_word(text: &str) -> &str {
-    match text.split_once(' ') {
-        Some((word, _)) => word,
-        None => text,
     }
 }
 
@@ -30,33 +26,17 @@ fn find_exactly(name: &str) -> Option<Explanation> {
 
 /// What is known of a code, if it is one.
 pub fn meaning_of(code: &str) -> Option<Explanation> {
-    match meaning_of_fault(code) {
+    match explanation_of(fault_pages(), code) {
         Some(found) => Some(found),
-        None => meaning_of_word(code),
+        None => explanation_of(word_pages(), code),
     }
 }
 
 fn answer_or_name(name: &str) -> Option<Explanation> {
-    match meaning_of_answer(name) {
+    match explanation_of(answer_pages(), name) {
         Some(found) => Some(found),
-        None => meaning_of_name(name),
+        None => explanation_of(name_pages(), name),
     }
-}
-
-fn meaning_of_fault(code: &str) -> Option<Explanation> {
-    explanation_of(fault_pages(), code)
-}
-
-fn meaning_of_word(code: &str) -> Option<Explanation> {
-    explanation_of(word_pages(), code)
-}
-
-fn meaning_of_answer(answer: &str) -> Option<Explanation> {
-    explanation_of(answer_pages(), answer)
-}
-
-fn meaning_of_name(name: &str) -> Option<Explanation> {
-    explanation_of(name_pages(), name)
 }
 
 fn find_alike(name: &str) -> Option<Explanation> {
