@@ -50,7 +50,7 @@ _prefork_service() {
                 compopt -o default
                 return
             fi
-            options='--folder --prefork --records --records-size --metrics --page --answer-within --defer-accept --socket-mode --socket-group --public --on-done --on-rolled-back --on-degraded --on-short --on-healed --keep-trying --plain-log --wsgi --preload --python --threads --timeout --keep --trusted-proxy --chdir --warm --after-load --after-fork --ready --ready-within --probe --probe-within --probe-limit --stop --finish --usr1 --env --no-listen-fds --blocking --version --help'
+            options='--folder --prefork --records --records-size --metrics --page --answer-within --defer-accept --socket-mode --socket-group --public --on-done --on-rolled-back --on-degraded --on-short --on-healed --check --keep-trying --plain-log --wsgi --preload --python --threads --timeout --keep --trusted-proxy --chdir --warm --after-load --after-fork --ready --ready-within --probe --probe-within --probe-limit --stop --finish --usr1 --env --no-listen-fds --blocking --version --help'
             ;;
         prefork-ctl) options='--folder --json --wait --seconds --events --forbid --require --least --records --prefork --version --help' ;;
         prefork-checkworker) options='--path --slow --one --preload --patience --version --help' ;;
@@ -69,8 +69,9 @@ _prefork_service() {
             ((at++))
         done
         case ${COMP_WORDS[at]},$prev,$((COMP_CWORD - at)) in
-            *,*,0) words="status tick plan explore certify go back reload upgrade log-rotate stop $signals" ;;
+            *,*,0) words="status tick try plan explore certify go back reload upgrade log-rotate stop $signals" ;;
             plan,plan,1 | explore,explore,1) words=$signals ;;
+            try,try,1) words=HUP ;;
             *,USR2,* | *,upgrade,*) words=attended ;;
         esac
         mapfile -t COMPREPLY < <(compgen -W "$words" -- "$cur")

@@ -111,6 +111,8 @@ class Commands:
         self.late = self.place / "late"
         self.now, self.next = folder.path / "config.toml", folder.path / "next.toml"
         self.accepted = folder.path / "accepted.toml"
+        # How long a worker by the default may take to be ready.
+        self.ready_seconds = 30.0
         # What workers by the default are forked by, if they are.
         self.preloading: Preloading | None = None
         self.known: list[pathlib.Path] = []

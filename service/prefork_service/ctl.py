@@ -1,6 +1,7 @@
 """prefork-ctl [--folder F] [--json] [WORD]
 prefork-ctl [--folder F] [--json] [--wait STATE] [--seconds N] status
 prefork-ctl [--folder F] tick
+prefork-ctl [--folder F] [--json] try HUP
 prefork-ctl [--folder F] [--json] plan WORD
 prefork-ctl [--folder F] [--json] [--events K] [--forbid degraded] [--require done] [--least N] explore WORD
 prefork-ctl [--folder F] [--records FOLDER] [--prefork PROGRAM] [--json] certify
@@ -28,6 +29,9 @@ With --wait STATE it asks until the service is in that state (serves, changes, s
 
 `tick` has the master look for missing workers now, and tries those again that have failed to start.
 
+`try HUP` starts one worker of the next version, away from the sockets of the service, waits until it is ready, and ends it.
+The status is 0 if it was ready, and 3 if not. It says how long that took and how much memory the worker had, or why.
+
 `plan` and `explore` print what a word would do to the service as it runs now, with the configuration that its file has
 now; nothing is done. The status is that of `prefork plan` and `prefork explore`.
 
@@ -52,9 +56,9 @@ from .questions import STATE
 from .rehearsing import rehearsal
 from .state import MEANINGS, STOPPED
 from .status import shown
-from .words import NOTE, STATUS, WORDS
+from .words import NOTE, STATUS, TRY, WORDS
 
-ENDS = {"done": 0, "nothing": 0, "answered": 0, "rolled-back": 3, "degraded": 4, "unread": 2}
+ENDS = {"failed": 3, "done": 0, "nothing": 0, "answered": 0, "rolled-back": 3, "degraded": 4, "unread": 2}
 
 
 def asked(folder: str, word: str) -> tuple[str, str]:
@@ -100,6 +104,8 @@ def arguments() -> argparse.Namespace:
         parser.error(f"{options_of_explore(given)[0]} is an option of explore")
     if given.word[:1] in (["plan"], ["explore"]) and " ".join(given.word[1:]) not in WORDS:
         parser.error(f"{given.word[0]} takes a word: {', '.join(WORDS)}")
+    if given.word[:1] == ["try"] and " ".join(given.word) != TRY:
+        parser.error("try takes the word HUP")
     return given
 
 
@@ -108,6 +114,8 @@ def words_of(words: list[str]) -> list[str]:
     if words[:1] in (["plan"], ["explore"]):
         return [words[0], *word_of(" ".join(words[1:])).split(" ")] if words[1:] else words
     text = " ".join(words)
+    if words[:1] == ["try"]:
+        return ["try", *word_of(" ".join(words[1:])).split(" ")]
     return [text.lower()] if text.lower() in COMMANDS else word_of(text).split(" ") if words else words
 
 

@@ -46,24 +46,28 @@ class Hooks:
             os.lseek(text, 0, os.SEEK_SET)
             streams: dict[str, Any] = {"stdin": text, "stdout": subprocess.DEVNULL, "env": environment}
             found = started([program, event], start_new_session=True, **streams)
-            self.running.append((found, event, time.monotonic() + SECONDS))
+            self.watch(found, f"--{event}", SECONDS)
         except OSError as fault:
             say(f"--{event}: {program}: {fault.strerror}")
         finally:
             os.close(text)
 
+    def watch(self, process: subprocess.Popen, title: str, seconds: float) -> None:
+        """A program that may run for some seconds."""
+        self.running.append((process, title, time.monotonic() + seconds))
+
     def tend(self) -> None:
         """Buries those that have ended, and kills those that take too long."""
         left = []
-        for process, event, until in self.running:
+        for process, title, until in self.running:
             status = process.poll()
             if status is None and time.monotonic() < until:
-                left.append((process, event, until))
+                left.append((process, title, until))
             elif status is None:
-                say(f"--{event}: {process.args[0]} has not ended after {SECONDS:g} seconds, and is killed")  # type: ignore[index]
+                say(f"{title}: {process.args[0]} has not ended in time, and is killed")  # type: ignore[index]
                 kill(process)
             elif status:
-                say(f"--{event}: {process.args[0]} has ended with status {status}")  # type: ignore[index]
+                say(f"{title}: {process.args[0]} has ended with status {status}")  # type: ignore[index]
         self.running = left
 
     def end(self) -> None:

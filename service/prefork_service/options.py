@@ -76,6 +76,8 @@ def parser() -> argparse.ArgumentParser:
     made.add_argument("--public", action="store_true", help=public)
     for event, moment in EVENTS.items():
         made.add_argument(f"--{event}", metavar="PROGRAM", help=f"start this program {moment}, with JSON on its input")
+    only = "say whether CONFIG, PROGRAM and the limits of the system fit, and start nothing"
+    made.add_argument("--check", action="store_true", help=only)
     again = "go on trying if no worker has started, in place of ending with status 1"
     made.add_argument("--keep-trying", action="store_true", help=again)
     plain = "pass on what workers say as it is, without the time and the name of the worker before each line"

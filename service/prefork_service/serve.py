@@ -32,6 +32,7 @@ import pathlib
 import selectors
 import socket
 import sys
+import tempfile
 
 from . import places
 from .barrier import Barrier, Broken
@@ -51,6 +52,7 @@ from .outcomes import fault_shown, refusal_shown
 from .preloading import Preloading
 from .records import MEGABYTE
 from .service import Service
+from .state import workers_in
 from .systemd import has_journal, inherited, notify
 from .titles import set_title
 
@@ -104,6 +106,7 @@ def serve(given: argparse.Namespace, folder: Folder, commands: Commands, stored:
             commands.preloading = Preloading(keeping.events, folder, commands.default, ready_seconds(given))
         service = Service(keeping, supervise, commands, chronicle, limits_of(given))
         service.telling.open(keeping.events, given.metrics, given.page)
+        commands.ready_seconds = ready_seconds(given)
         service.keeps_trying, service.telling.hooks = given.keep_trying, Hooks(hooks_of(given))
         status = service.run()
         if service.failure:
@@ -124,9 +127,22 @@ def serve(given: argparse.Namespace, folder: Folder, commands: Commands, stored:
             Barrier(say).duty(end)
 
 
+def check(given: argparse.Namespace) -> int:
+    """Says whether the service could be started, and starts nothing; the status."""
+    with tempfile.TemporaryDirectory(prefix="prefork-check-") as room:
+        commands = commands_of(given, Folder(f"{room}/run"))
+        if commands:
+            commands.clear()
+            print(f"{given.config}: fits: {len(addresses_of(commands.proposed_text))} addresses, {workers_in(commands.proposed_text)} workers")
+        return 0 if commands else 1
+
+
 def main() -> int:
     take_standard()
     given = arguments(sys.argv[1:])
+    if given.check:
+        places.check()
+        return check(given)
     set_title("prefork-serve")
     places.check()
     stored = inherited()

@@ -11,6 +11,8 @@ WORDS = (*SIGNALS, ATTENDED)
 STATUS = "status"
 # Said by an operator: a tick now, which tries again what has failed.
 TICK = "tick"
+# Said by an operator: one worker of the next version is started away from the sockets, and ended.
+TRY = "try HUP"
 # What a master that starts carries out.
 START = "tick 0"
 # Words at which the configuration is read again.

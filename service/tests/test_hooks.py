@@ -49,7 +49,7 @@ class HooksTest(unittest.TestCase):
             said.assert_not_called()
             with mock.patch.object(hooks, "time", clock_ahead(31)):
                 found.tend()
-            self.assertIn("has not ended after 30 seconds, and is killed", said.call_args[0][0])
+            self.assertIn("has not ended in time, and is killed", said.call_args[0][0])
         child = pathlib.Path("/proc") / (self.room / "child").read_text().strip() / "cmdline"
         self.assertTrue(until(lambda: not child.exists() or not child.read_bytes()))
 
