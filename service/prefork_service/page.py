@@ -63,7 +63,8 @@ def said(errors: dict[str, list[str]]) -> str:
 def masters_list(status: Status) -> str:
     masters = status["masters"]
     reigning = f"process {masters[-1]}" if masters else "none runs"
-    old = "".join(f"<li>old master, process {process}: {text(LEFT_BEHIND)}</li>" for process in masters[:-1])
+    told = LEFT_BEHIND if not status["doing"] else "it leaves at the end of the upgrade"
+    old = "".join(f"<li>old master, process {process}: {text(told)}</li>" for process in masters[:-1])
     keeper = status["keeper"]
     return f"<ul><li>master: {reigning}, started again {status['master_restarts']} times</li>{old}" \
         f"<li>keeper: process {keeper['process'] or 'none'}, started again {keeper['restarts']} times</li></ul>"

@@ -48,6 +48,10 @@ class PageTest(unittest.TestCase):
             self.assertIn(wanted, found.said)
         self.assertIn("No worker runs.", workers_table({**STATUS, "workers": [], "failing": []}))
 
+    def test_an_old_master_has_not_left_while_the_upgrade_goes_on(self) -> None:
+        self.assertIn("old master, process 3: it leaves at the end", masters_list({**STATUS, "doing": "USR2"}))
+        self.assertIn("an upgrade has left it", masters_list(STATUS))
+
     def test_what_a_worker_said_last(self) -> None:
         found = read(said({"1.2.0": ["ZeroDivisionError: <x>"]}))
         self.assertIn("worker 1.2.0 said last:", found.said)
