@@ -74,7 +74,7 @@ def is_toml(text: bytes) -> bool:
 
 def refusal_of(prefork: str, config: pathlib.Path) -> str | None:
     """Why the master refuses a configuration, or can't be asked, if that is so."""
-    command = [prefork, "plan", "--why", "--from", config, "USR1"]
+    command = [prefork, "plan", "--why", "--from", str(config), "USR1"]
     streams: dict[str, Any] = {"stdin": subprocess.DEVNULL, "stdout": subprocess.DEVNULL, "stderr": subprocess.PIPE}
     try:
         found = subprocess.run(command, **streams, text=True, timeout=ASKING_SECONDS)

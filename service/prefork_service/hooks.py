@@ -64,10 +64,10 @@ class Hooks:
             if status is None and time.monotonic() < until:
                 left.append((process, title, until))
             elif status is None:
-                say(f"{title}: {process.args[0]} has not ended in time, and is killed")  # type: ignore[index]
+                say(f"{title}: {program_of(process)} has not ended in time, and is killed")
                 kill(process)
             elif status:
-                say(f"{title}: {process.args[0]} has ended with status {status}")  # type: ignore[index]
+                say(f"{title}: {program_of(process)} has ended with status {status}")
         self.running = left
 
     def end(self) -> None:
@@ -78,6 +78,12 @@ class Hooks:
                 process.wait(max(0.0, until - time.monotonic()))
             except subprocess.TimeoutExpired:
                 kill(process)
+
+
+def program_of(process: subprocess.Popen) -> str:
+    """The program that a process was started as."""
+    words = process.args
+    return words if isinstance(words, str) else os.fsdecode(words[0]) if isinstance(words, list) else "the program"
 
 
 def kill(process: subprocess.Popen) -> None:

@@ -67,7 +67,7 @@ DEFER = "--defer-accept"
 # Of Unix sockets.
 MODE, GROUP = "--socket-mode", "--socket-group"
 # What the packets to and from prefork-serve begin with.
-OPENED, CLOSED, REFUSED, SETTLED, ASKS, ANSWERS, ENDS, LOST, DROPS, RENEWS = "+-!=?.x~/%"
+OPENED, CLOSED, REFUSED, SETTLED, ASKS, ANSWERS, ENDS, LOST, DROPS, RENEWS = tuple("+-!=?.x~/%")
 
 
 def say(text: str) -> None:

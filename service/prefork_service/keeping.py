@@ -91,13 +91,14 @@ class Keeping:
     def hear(self, _: socket.socket) -> None:
         """What the keeper says of its sockets."""
         try:
-            said, given, _, _ = socket.recv_fds(self.channel, LONGEST_ADDRESS + 200, 1)
+            said, given = socket.recv_fds(self.channel, LONGEST_ADDRESS + 200, 1)[:2]
         except OSError:
             said, given = b"", []
         kind, text = said.decode()[:1], said.decode()[1:]
         if kind == OPENED and given:
             self.forget(text)
-            self.held[text], self.files[text] = socket.socket(fileno=given[0]), file_of(text)
+            self.held[text] = socket.socket(fileno=given[0])
+            self.files[text] = file_of(text)
             store(text, self.held[text])
         elif kind == CLOSED:
             self.forget(text)
