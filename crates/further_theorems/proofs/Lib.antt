@@ -4,3 +4,4 @@ pub mod Nodes
 pub mod Proper
 pub mod Entries
 pub mod Bound
+pub mod Named

@@ -2,3 +2,4 @@ pub mod Proper
 pub mod Left
 pub mod Merges
 pub mod Bound
+pub mod Named

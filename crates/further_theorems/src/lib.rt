@@ -6,6 +6,7 @@
 ghost use Rattle.further_theorems.specs.Bound.{OperatorsAreObeyed};
 ghost use Rattle.further_theorems.specs.Left.{RecordsAreLeft};
 ghost use Rattle.further_theorems.specs.Merges.{WalksAreRuns};
+ghost use Rattle.further_theorems.specs.Named.{WorkersEndByName};
 ghost use Rattle.further_theorems.specs.Proper.{CallsAreProper, FilesOfOthersStay};
 
 /// Each call is made by the master whose workers it names, and touches no file, address or master of
@@ -29,4 +30,10 @@ pub fn merges_are_runs()
 /// ends on the old side.
 pub fn operators_are_obeyed()
     ensures { OperatorsAreObeyed }
+{}
+
+/// A call takes a worker away only if it names it, or ends a master: process by process, whatever
+/// fails, and from any table.
+pub fn workers_end_by_name()
+    ensures { WorkersEndByName }
 {}

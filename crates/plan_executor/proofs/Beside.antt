@@ -1,23 +1,22 @@
 -- What is kept beside the headline, from what is enacted.
-use Rattle.std.proofs.Common.{◌≡◌, ℕ, Bool, true, false, List, [], ◌∷◌, Option, Some, None, refl, sym, ap, ◌∙◌, subst}
+use Rattle.std.proofs.Common.{◌≡◌, ℕ, true, false, List, Option, Some, None, sym, ap, ◌∙◌, subst}
 use Rattle.std.specs.Prelude.{option_and_then}
 use Rattle.std.specs.List.{AllByRecursion, list_any}
-use Rattle.listener_set.specs.AddressList.{has}
 use Rattle.vocabulary.specs.declared.targets.Target.{Target}
 use Rattle.vocabulary.specs.declared.targets.Target.TheVariants.{Workers, Mend, Reopen, Reload, Upgrade, Attended, Stop}
 use Rattle.vocabulary.specs.declared.reports.Report.{Report}
 use Rattle.vocabulary.specs.declared.reports.Entry.{Entry}
-use Rattle.definitions.specs.Table.{Table, FilePath, owner_at, service, IsSame}
-use Rattle.definitions.specs.Master.{Record, want, sides_of, handover_for}
+use Rattle.definitions.specs.Table.{Table, owner_at, service, IsSame}
+use Rattle.definitions.specs.Master.{Record, want, handover_for}
 use Rattle.definitions.specs.Plans.{Turn, plan_tree}
 use Rattle.definitions.specs.Run.{Moment, Pattern, Progress, start_at}
 use Rattle.definitions.specs.After.{record_after, master_of, named_record}
 use Rattle.definitions.specs.Claims.{IsStart, KeepsPromise, run_of, one_then, is_quit, is_old_side}
 use Rattle.kernel_model.specs.State.{State}
 use Rattle.kernel_model.specs.Pattern.{moment_at}
-use Rattle.quiet_runs.specs.Quiet.{HasResources, no_event}
+use Rattle.quiet_runs.specs.Quiet.{no_event}
 use Rattle.quiet_runs.proofs.Done.{done-of-kept}
-use Rattle.further_theorems.specs.Proper.{own_files, IsProper}
+use Rattle.further_theorems.specs.Proper.{IsProper}
 use Rattle.further_theorems.specs.Left.{IsLeft}
 use Rattle.further_theorems.specs.Bound.{is_back}
 use Rattle.further_theorems.proofs.Bound.{attended-bound, obeyed-of-kept}
@@ -38,10 +37,11 @@ done-in-quiet first last r target turns pattern e start is none res =
     subst (λ (es : List (ℕ × Moment)). KeepsPromise first.table r target (run_of r target turns (moment_at es) first.table)) none is.headline in
     let done = done-of-kept first.table r target turns start res kept in
     let whole : IsWholeRun r target turns no_event first.table e.log.entries last.table e.report =
-    subst (λ (es : List (ℕ × Moment)). IsWholeRun r target turns (moment_at es) first.table e.log.entries last.table e.report) none is.is_run in
-    (ap (λ (report : Report). report.outcome) whole.report_is ∙ done.outcome,
-    ap (λ (report : Report). report.cause) whole.report_is ∙ done.cause,
-    subst (λ (t : Table). IsSame (service t) (want r target)) whole.table done.service)
+    subst (λ (es : List (ℕ × Moment)). IsWholeRun r target turns (moment_at es) first.table e.log.entries last.table e.report) none is.is_run in (
+      ap (λ (report : Report). report.outcome) whole.report_is ∙ done.outcome,
+      ap (λ (report : Report). report.cause) whole.report_is ∙ done.cause,
+      subst (λ (t : Table). IsSame (service t) (want r target)) whole.table done.service,
+    )
 
 pub are-proper :
     (first last : State) (r : Record) (target : Target) (turns : List Turn) (pattern : Pattern) (e : Enacted) →
@@ -78,13 +78,14 @@ pub obeys-operator :
     IsEnacted first last r target turns pattern e → ObeysOperator target e
 obeys-operator first last r (Attended s) turns pattern e is =
     let ran = run_of r (Attended s) turns pattern first.table in
-    let bound = attended-bound first.table r s turns pattern in
-    (subst (λ (entries : List Entry). one_then is_back (λ x. is_quit (λ g k. true) x.call) entries ≡ false) is.is_run.entries_are bound.0,
-    λ went.
-        let back : list_any is_back ran.entries ≡ true =
-        subst (λ (entries : List Entry). list_any is_back entries ≡ true) (sym is.is_run.entries_are) went in
-        subst (λ (report : Report). is_old_side report.outcome ≡ true) (sym is.is_run.report_is)
-        (obeyed-of-kept first.table r s turns pattern is.headline back))
+    let bound = attended-bound first.table r s turns pattern in (
+      subst (λ (entries : List Entry). one_then is_back (λ x. is_quit (λ g k. true) x.call) entries ≡ false) is.is_run.entries_are bound.0,
+      λ went.
+          let back : list_any is_back ran.entries ≡ true =
+          subst (λ (entries : List Entry). list_any is_back entries ≡ true) (sym is.is_run.entries_are) went in
+          subst (λ (report : Report). is_old_side report.outcome ≡ true) (sym is.is_run.report_is)
+          (obeyed-of-kept first.table r s turns pattern is.headline back),
+    )
 obeys-operator first last r (Workers n) turns pattern e is = tt
 obeys-operator first last r (Mend overdue) turns pattern e is = tt
 obeys-operator first last r Reopen turns pattern e is = tt

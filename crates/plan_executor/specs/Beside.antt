@@ -8,11 +8,13 @@ use Rattle.vocabulary.specs.declared.reports.Entry.{Entry}
 use Rattle.vocabulary.specs.declared.reports.Outcome.TheVariants as outcome
 use Rattle.definitions.specs.Table.{Table, FilePath, owner_at, service, IsSame}
 use Rattle.definitions.specs.Master.{Record, want}
-use Rattle.definitions.specs.Run.{Moment}
-use Rattle.definitions.specs.Claims.{one_then, is_quit, is_old_side}
+use Rattle.definitions.specs.Plans.{Turn}
+use Rattle.definitions.specs.Run.{Moment, Pattern}
+use Rattle.definitions.specs.Claims.{one_then, is_quit, is_old_side, run_of}
 use Rattle.quiet_runs.specs.Quiet.{HasResources}
 use Rattle.further_theorems.specs.Proper.{own_files, IsProper}
 use Rattle.further_theorems.specs.Left.{IsLeft}
+use Rattle.further_theorems.specs.Named.{TakeByName}
 use Rattle.further_theorems.specs.Bound.{is_back}
 use Rattle.word_runner.specs.declared.enactor.Enacted.{Enacted}
 
@@ -47,3 +49,8 @@ ObeysOperator Reopen e = ⊤
 ObeysOperator (Reload s) e = ⊤
 ObeysOperator (Upgrade s) e = ⊤
 ObeysOperator (Stop quick) e = ⊤
+
+-- In the run, process by process, a call takes a worker away only if it names it, or ends a master.
+abbrev pub EndByName : Table → Record → Target → List Turn → Pattern → Type 0
+EndByName first r target turns pattern =
+    let ran = run_of r target turns pattern first in TakeByName ran.entries ran.passed

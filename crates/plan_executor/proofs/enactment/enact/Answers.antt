@@ -5,6 +5,7 @@ use Rattle.plan_executor.specs.declared.enactment.EnactRefusal.{EnactRefusal}
 use Rattle.plan_executor.proofs.Enacting.{enacted-from}
 use Rattle.plan_executor.proofs.Exact.{IsExact, refused-exact, only-enacted}
 use Rattle.lives.proofs.Restart.{deaths-survived}
+use Rattle.further_theorems.proofs.Named.{workers-end-by-name}
 use Rattle.plan_executor.proofs.Beside.{done-in-quiet, are-proper, leaves-files, leaves-record, obeys-operator}
 use Rattle.definitions.specs.Table.{Table}
 use Rattle.definitions.specs.Claims.{IsStart}
@@ -59,3 +60,7 @@ returns-clause-left c =
 pub returns-clause-obeyed : goal.returns-clause-obeyed
 returns-clause-obeyed c =
     obeys-operator c.args.kernel.now c.carry_out.new.kernel c.args.state.now c.args.target.now c.args.section.now.turns (moment_at c.args.section.now.pattern) c.carry_out.result (returns-clause-ok c)
+
+pub returns-clause-named : goal.returns-clause-named
+returns-clause-named c =
+    workers-end-by-name c.args.kernel.now.table c.args.state.now c.args.target.now c.args.section.now.turns (moment_at c.args.section.now.pattern)
