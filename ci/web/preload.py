@@ -1,6 +1,7 @@
 """An application that a preloader has loaded once, and whose workers it forks: words, and the end of each process.
 
-Each scenario is done with the preloader of prefork-wsgi, and with the one in Ruby where puma is installed.
+Each scenario is done with the preloader of prefork-wsgi, and with those in examples for gunicorn and for puma, where the
+machine has them.
 """
 import os
 import pathlib
@@ -13,8 +14,8 @@ from collections.abc import Callable, Collection
 from typing import Any
 
 from gate.addresses import is_answered
-from gate.waiting import SECONDS, until
-from web.site import CLIENTS, SERVICE, Scenario, Site, text_of
+from gate.waiting import SECONDS, comes, until
+from web.site import BIN, CLIENTS, SERVICE, Scenario, Site, text_of
 from web.starts import answer_to, asks, status
 
 WSGI = '''import os, time
@@ -75,6 +76,14 @@ def in_python(site: Site) -> Application | None:
     return Application(site, "app.py", WSGI, ("1 / 0", "ZeroDivisionError: division by zero")) if python else None
 
 
+def in_gunicorn(site: Site) -> Application | None:
+    site.options, python = ["--preload"], python_with("gunicorn")
+    site.environment["PATH"] = f"{BIN}:{site.environment['PATH']}"
+    words = ["-k", "gthread", "--threads", "4", "--log-level", "error", "--chdir", str(site.home), "app:app"]
+    site.program = [python or "", str(SERVICE / "examples" / "gunicorn_preloader.py"), *words]
+    return Application(site, "app.py", WSGI, ("1 / 0", "ZeroDivisionError: division by zero")) if python else None
+
+
 def in_ruby(site: Site) -> Application | None:
     # (puma closes connections that it has accepted and not heard from)
     site.options = ["--preload", "--defer-accept"]
@@ -83,13 +92,14 @@ def in_ruby(site: Site) -> Application | None:
 
 
 Language = Callable[[Site], Application | None]
+NEEDED = {"in_python": "waitress", "in_gunicorn": "gunicorn", "in_ruby": "puma"}
 
 
 def begun(site: Site, language: Language, more: str = "", **settings: Any) -> Application | None:
     """A service under load; nothing where the machine has not what it needs."""
     application = language(site)
     if application is None:
-        print(f"{site.name}: {'waitress' if language is in_python else 'puma'} is not installed; left out")
+        print(f"{site.name}: {NEEDED[language.__name__]} is not installed; left out")
         return None
     # A kept connection that ends before its answer is asked again, as HTTP allows.
     site.is_forked, site.load_options = True, ["--again"]
@@ -104,6 +114,19 @@ def preloader(site: Site) -> int:
         return [it["process"] for it in status(site)["preloaders"] if it["is_loaded"] and not it["is_leaving"]]
 
     return until("a preloader", found)[0]
+
+
+def zombies(site: Site) -> list[int]:
+    """The children of prefork-serve that have ended and that it has not buried."""
+    found = []
+    for file in pathlib.Path("/proc").glob("[0-9]*/stat"):
+        try:
+            state, parent = file.read_text().rpartition(")")[2].split()[:2]
+        except OSError:
+            continue
+        if state == "Z" and int(parent) == site.serve.pid:
+            found.append(int(file.parent.name))
+    return found
 
 
 def rolls_back(site: Site, word: str, reason: str) -> None:
@@ -204,6 +227,8 @@ def kills(site: Site, language: Language) -> None:
     until("its end", lambda: dead not in site.mark.processes())
     killed(site, "worker without a preloader", third, lambda: site.has_others({third}))
     site.check("it is not loaded again", application.count() == loaded + 2)
+    # The workers of a killed preloader are given to prefork-serve, which is what process 1 of a container is given.
+    site.check(f"zombies: {zombies(site)}", comes(lambda: not zombies(site)))
     site.begin_load()
     site.wants("HUP", 0, "done", 2)
     site.end("1")
@@ -240,6 +265,14 @@ def processes_of_a_preloaded_application_are_killed(site: Site) -> None:
 
 def processes_of_a_preloaded_application_in_ruby_are_killed(site: Site) -> None:
     kills(site, in_ruby)
+
+
+def an_application_is_preloaded_for_gunicorn(site: Site) -> None:
+    words(site, in_gunicorn)
+
+
+def processes_of_a_preloaded_gunicorn_are_killed(site: Site) -> None:
+    kills(site, in_gunicorn)
 
 
 def a_serve_that_preloads_is_killed(site: Site) -> None:
@@ -300,4 +333,5 @@ SCENARIOS: tuple[Scenario, ...] = (
     a_slow_load_on_a_busy_machine, many_workers_are_forked, an_application_is_preloaded,
     processes_of_a_preloaded_application_are_killed, a_serve_that_preloads_is_killed, an_application_is_preloaded_in_ruby,
     processes_of_a_preloaded_application_in_ruby_are_killed, a_serve_that_preloads_in_ruby_is_killed,
+    an_application_is_preloaded_for_gunicorn, processes_of_a_preloaded_gunicorn_are_killed,
 )
