@@ -20,6 +20,7 @@ from typing import Any
 from .folder import Folder, content_of, files_in, say
 from .needs import addresses_of
 from .preloading import Preloading
+from .quickly import GIVEN
 
 # How long the master's program may take to say whether it reads a configuration.
 ASKING_SECONDS = 10.0
@@ -286,7 +287,7 @@ class Commands:
             self.preloading.settle(has_changed)
 
     def clear(self) -> None:
-        own = [self.place / name for name in ("next", "new", "accepted")]
+        own = [self.place / name for name in ("next", "new", "accepted", GIVEN)]
         for file in [*self.generations(), *own, self.now, self.next, self.accepted]:
             file.unlink(missing_ok=True)
         with contextlib.suppress(OSError):

@@ -12,12 +12,14 @@ from . import VERSION, places
 from .hooks import EVENTS
 from .keeper import add_socket_options
 from .limits import seconds_of, seconds_said
+from .quickly import fault_of_file
 from .sites import fault_of_site, is_site
 
 USAGE = """prefork-serve [OPTIONS] CONFIG -- PROGRAM ARGUMENT..
        prefork-serve [OPTIONS] --wsgi MODULE:APP CONFIG
        prefork-serve [OPTIONS] --preload CONFIG -- PRELOADER ARGUMENT..
-       prefork-serve [OPTIONS] CONFIG"""
+       prefork-serve [OPTIONS] CONFIG
+       prefork-serve [OPTIONS] --listen ADDRESS --workers N -- PROGRAM ARGUMENT.."""
 WSGI_THREADS = 4
 # What other servers call a number that is in the configuration here.
 WORKERS = ("-w", "--worker", "--workers", "--processes")
@@ -82,6 +84,9 @@ def parser() -> argparse.ArgumentParser:
     made.add_argument("--keep-trying", action="store_true", help=again)
     plain = "pass on what workers say as it is, without the time and the name of the worker before each line"
     made.add_argument("--plain-log", action="store_true", help=plain)
+    listen = "an address to serve, in place of CONFIG (127.0.0.1:8080); it may be given again"
+    made.add_argument("--listen", action="append", default=[], metavar="ADDRESS", help=listen)
+    made.add_argument("--workers", type=number_of_workers, metavar="N", help="how many workers, in place of CONFIG (2)")
     made.add_argument("--wsgi", metavar="MODULE:APP", help="a WSGI application; it is served by waitress")
     preload = "load the application once in each generation, and fork workers; PROGRAM is a preloader then"
     made.add_argument("--preload", action="store_true", help=preload)
@@ -95,7 +100,7 @@ def parser() -> argparse.ArgumentParser:
             if name is None:
                 kind = {"action": "append_const", "const": None}
             group.add_argument(option, **kind, default=[], help=text)
-    made.add_argument("config", metavar="CONFIG", help="the configuration, as prefork(1) has it")
+    made.add_argument("config", nargs="?", metavar="CONFIG", help="the configuration, as prefork(1) has it")
     return made
 
 
@@ -104,6 +109,12 @@ def at_least_one(text: str) -> float:
     if float(text) < 1:
         raise argparse.ArgumentTypeError("it must be at least 1")
     return float(text)
+
+
+def number_of_workers(text: str) -> int:
+    if not text.isdecimal() or int(text) < 1:
+        raise argparse.ArgumentTypeError("it must be at least 1")
+    return int(text)
 
 
 def joined(words: list[str]) -> list[str]:
@@ -124,7 +135,7 @@ def arguments(words: list[str]) -> argparse.Namespace:
     given.program = words[cut + 1 :]
     if cut < len(words) and not given.program:
         made.error("no PROGRAM after --")
-    if fault := fault_of_told(given):
+    if fault := fault_of_told(given) or fault_of_file(given):
         made.error(fault)
     if given.wsgi and given.program:
         made.error("give --wsgi or a PROGRAM, not both")

@@ -1,6 +1,7 @@
 """prefork-serve [OPTIONS] CONFIG -- PROGRAM ARGUMENT..
 prefork-serve [OPTIONS] --wsgi MODULE:APP CONFIG
 prefork-serve [OPTIONS] CONFIG
+prefork-serve [OPTIONS] --listen ADDRESS --workers N -- PROGRAM ARGUMENT..
 
 Runs a service: the keeper of its sockets, and the master (`prefork supervise`) with its workers. Each worker is
 PROGRAM, which takes its sockets by LISTEN_FDS, by a number ({fd} in an argument), or by its environment, or it serves
@@ -50,6 +51,7 @@ from .needs import addresses_of, needs_of, shortages
 from .options import arguments, fault_of, hooks_of, place_of, processes_each, program_of, worker_command
 from .outcomes import fault_shown, refusal_shown
 from .preloading import Preloading
+from .quickly import configured
 from .records import MEGABYTE
 from .service import Service
 from .state import workers_in
@@ -158,6 +160,7 @@ def main() -> int:
         "PREFORK_LOG": "plain" if given.plain_log else "named" if has_journal() else "timed",
     }
     try:
+        given.config = given.config or configured(given, folder)
         commands = commands_of(given, folder)
     except OSError as fault:
         folder.clear()

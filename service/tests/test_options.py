@@ -124,7 +124,12 @@ class OptionsTest(unittest.TestCase):
             (["--env", "x", *program], "NAME=VALUE"),
             (["--ready", "probe", *program], "needs --probe"),
             (["--python", "/nonexistent", "--wsgi", "m", "a.toml"], "/nonexistent"),
-            ([], "CONFIG"),
+            ([], "give CONFIG, or a PROGRAM"),
+            (["--listen", "127.0.0.1:80"], "give CONFIG, or a PROGRAM"),
+            (["--listen", "127.0.0.1:80", *program], "not both"),
+            (["--workers", "2", "--wsgi", "m", "a.toml"], "not both"),
+            (["--workers", "0", "--", "p"], "argument --workers: it must be at least 1"),
+            (["--workers", "two", "--", "p"], "argument --workers: it must be at least 1"),
             (["a.toml", "b.toml"], "b.toml"),
         ):
             self.assertIn(text, self.refused(*words), words)

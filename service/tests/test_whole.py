@@ -8,6 +8,7 @@ import socket
 import subprocess
 import tempfile
 import threading
+import tomllib
 import unittest
 from typing import Any
 
@@ -74,6 +75,26 @@ class WholeTest(unittest.TestCase):
         with open(self.said, "a") as said:
             self.serve = subprocess.Popen(command, cwd=self.room, env=self.environment, stderr=said)
         self.assertTrue(until(lambda: self.status() and self.status()["generation"]), self.said.read_text())
+
+    def start_without_a_file(self, *words: str) -> None:
+        command = [BIN / "prefork-serve", "--prefork", PROGRAMS / "master.py", *words, "--", "true"]
+        with open(self.said, "a") as said:
+            self.serve = subprocess.Popen(command, cwd=self.room, env=self.environment, stderr=said)
+        self.assertTrue(until(lambda: self.status() and self.status()["generation"]), self.said.read_text())
+
+    def test_a_service_without_a_file(self) -> None:
+        other = free_address()
+        self.start_without_a_file("--listen", self.address, "--listen", other, "--workers", "3")
+        self.assertIn(f"prefork-serve: 3 workers at http://{self.address}/ http://{other}/\n", self.said.read_text())
+        self.assertEqual(sorted(self.status()["addresses"]), sorted([self.address, other]))
+        text = (self.folder / "config.toml").read_text()
+        wanted = {"listeners": [self.address, other], "workers": 3, "timeout": 60}
+        self.assertEqual(tomllib.loads(text), wanted)
+        self.assertEqual(self.ctl("HUP").returncode, 0)
+        self.serve.send_signal(signal.SIGQUIT)
+        self.assertEqual(self.serve.wait(SECONDS), 0)
+        left = {file.name for file in self.folder.iterdir()} - {"journal", "records", "blocks"}
+        self.assertEqual(left, set())
 
     def end(self) -> None:
         if self.serve:
