@@ -61,6 +61,7 @@ from .titles import set_title
 
 def commands_of(given: argparse.Namespace, folder: Folder) -> Commands | None:
     """What starts workers; nothing if the configuration can't be served, and why was said."""
+    given.config = given.config or configured(given, folder)
     commands = Commands(folder, given.config, worker_command(given))
     if is_fit(given, commands) or (commands.is_kept() and is_fit(given, commands)):
         return commands
@@ -160,7 +161,6 @@ def main() -> int:
         "PREFORK_LOG": "plain" if given.plain_log else "named" if has_journal() else "timed",
     }
     try:
-        given.config = given.config or configured(given, folder)
         commands = commands_of(given, folder)
     except OSError as fault:
         folder.clear()

@@ -82,6 +82,12 @@ class WholeTest(unittest.TestCase):
             self.serve = subprocess.Popen(command, cwd=self.room, env=self.environment, stderr=said)
         self.assertTrue(until(lambda: self.status() and self.status()["generation"]), self.said.read_text())
 
+    def test_a_check_without_a_file(self) -> None:
+        command = [BIN / "prefork-serve", "--prefork", PROGRAMS / "master.py", "--check", "--listen", self.address, "--", "true"]
+        found = subprocess.run(command, cwd=self.room, env=self.environment, capture_output=True, text=True, timeout=SECONDS)
+        self.assertEqual((found.returncode, found.stdout.partition(": ")[2]), (0, "fits: 1 addresses, 2 workers\n"), found.stderr)
+        self.assertFalse(self.folder.exists())
+
     def test_a_service_without_a_file(self) -> None:
         other = free_address()
         self.start_without_a_file("--listen", self.address, "--listen", other, "--workers", "3")
