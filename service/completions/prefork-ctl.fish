@@ -1,6 +1,6 @@
 # Fish completion for prefork-ctl. To use it: put this file into ~/.config/fish/completions.
 
-set -l words status tick try plan explore certify go back reload upgrade log-rotate stop HUP USR1 USR2 WINCH TTIN TTOU QUIT INT TERM
+set -l words status top tick try plan explore certify go back reload upgrade log-rotate stop HUP USR1 USR2 WINCH TTIN TTOU QUIT INT TERM
 complete -c prefork-ctl -f
 complete -c prefork-ctl -n "not __fish_seen_subcommand_from $words" -a "$words"
 complete -c prefork-ctl -n "__fish_seen_subcommand_from plan explore" -a "HUP USR1 USR2 WINCH TTIN TTOU QUIT INT TERM"

@@ -69,7 +69,7 @@ _prefork_service() {
             ((at++))
         done
         case ${COMP_WORDS[at]},$prev,$((COMP_CWORD - at)) in
-            *,*,0) words="status tick try plan explore certify go back reload upgrade log-rotate stop $signals" ;;
+            *,*,0) words="status top tick try plan explore certify go back reload upgrade log-rotate stop $signals" ;;
             plan,plan,1 | explore,explore,1) words=$signals ;;
             try,try,1) words=HUP ;;
             *,USR2,* | *,upgrade,*) words=attended ;;

@@ -1,6 +1,6 @@
 """prefork-ctl [--folder F] [--json] [WORD]
 prefork-ctl [--folder F] [--json] [--wait STATE] [--seconds N] status
-prefork-ctl [--folder F] tick
+prefork-ctl [--folder F] tick | top
 prefork-ctl [--folder F] [--json] try HUP
 prefork-ctl [--folder F] [--json] plan WORD
 prefork-ctl [--folder F] [--json] [--events K] [--forbid degraded] [--require done] [--least N] explore WORD
@@ -32,6 +32,9 @@ With --wait STATE it asks until the service is in that state (serves, changes, s
 `try HUP` starts one worker of the next version, away from the sockets of the service, waits until it is ready, and ends it.
 The status is 0 if it was ready, and 3 if not. It says how long that took and how much memory the worker had, or why.
 
+`top` shows the workers with their part of a processor and their memory (PSS), and the queues of the addresses, each second
+up to ^C; once where it is no terminal.
+
 `plan` and `explore` print what a word would do to the service as it runs now, with the configuration that its file has
 now; nothing is done. The status is that of `prefork plan` and `prefork explore`.
 
@@ -56,7 +59,8 @@ from .questions import STATE
 from .rehearsing import rehearsal
 from .state import MEANINGS, STOPPED
 from .status import shown
-from .words import NOTE, STATUS, TRY, WORDS
+from .top import show
+from .words import NOTE, STATUS, TOP, TRY, WORDS
 
 ENDS = {"failed": 3, "done": 0, "nothing": 0, "answered": 0, "rolled-back": 3, "degraded": 4, "unread": 2}
 
@@ -85,7 +89,7 @@ def arguments() -> argparse.Namespace:
     )
     parser.add_argument("--version", action="version", version=f"prefork-ctl {VERSION}")
     parser.add_argument("--folder", metavar="F", help="the folder of the service, or prefork@NAME (run)")
-    words = "status, tick, HUP, USR1, USR2, 'USR2 attended', WINCH, TTIN, TTOU, QUIT, INT or TERM; go or back while it asks; reload, upgrade, log-rotate, stop; " \
+    words = "status, top, tick, try HUP, HUP, USR1, USR2, 'USR2 attended', WINCH, TTIN, TTOU, QUIT, INT or TERM; go or back while it asks; reload, upgrade, log-rotate, stop; " \
         "plan WORD, explore WORD, certify; without a word it prints whether it asks"
     parser.add_argument("word", nargs="*", metavar="WORD", help=words)
     parser.add_argument("--json", action="store_true", help="print as JSON")
@@ -140,6 +144,8 @@ def main() -> int:
         given.folder = folder_of(given.folder)
         if given.wait:
             return wait_for(given)
+        if given.word == [TOP]:
+            return show(lambda: json.loads(asked(given.folder, STATUS)[0]))
         if given.word == ["certify"]:
             return certify_records(given)
         if given.word[:1] in (["plan"], ["explore"]):

@@ -2,13 +2,13 @@
 import difflib
 import pathlib
 
-from .words import ATTENDED, TICK, TRY, WORDS
+from .words import ATTENDED, TICK, TOP, TRY, WORDS
 
 # The folder of a service where none is named, and where the units have theirs.
 HERE, UNITS, UNIT = "run", pathlib.Path("/run/prefork"), "prefork@"
 # Names of words that are no names of signals.
 NAMES = {"reload": "HUP", "upgrade": "USR2", "upgrade attended": ATTENDED, "stop": "QUIT", "log-rotate": "USR1"}
-COMMANDS = ("status", "plan", "explore", "certify", "go", "back", TICK, TRY)
+COMMANDS = ("status", "plan", "explore", "certify", "go", "back", TICK, TOP, TRY)
 
 
 def word_of(text: str) -> str:

@@ -21,6 +21,11 @@ METRICS = {
     "prefork_workers_ended": ("gauge", "Workers that have ended since they were counted."),
     "prefork_worker_seconds": ("gauge", "For how long a worker has run."),
     "prefork_worker_last_beat_seconds": ("gauge", "How long ago a worker has beaten."),
+    "prefork_worker_memory_bytes": ("gauge", "Memory of a worker and what it has started (PSS)."),
+    "prefork_worker_processor_seconds_total": ("counter", "Processor time of a worker and what it has started."),
+    "prefork_queue_length": ("gauge", "Connections that wait at an address to be accepted."),
+    "prefork_queue_limit": ("gauge", "How many connections may wait at an address."),
+    "prefork_queue_dropped_total": ("counter", "Connections that were dropped at an address, as its queue was full."),
     "prefork_addresses": ("gauge", "Open addresses."),
     "prefork_masters": ("gauge", "Masters: the one that reigns, and those that upgrades have left."),
     "prefork_master_restarts_total": ("counter", "How often a master was started again."),
@@ -65,6 +70,17 @@ def values_of(status: Status) -> Iterator[tuple[str, float, dict[str, object]]]:
             yield "prefork_worker_seconds", worker["seconds"], labels
         if worker["last_beat_seconds"] is not None:
             yield "prefork_worker_last_beat_seconds", worker["last_beat_seconds"], labels
+    for worker in workers:
+        if worker.get("memory"):
+            labels = {"generation": worker["generation"], "number": worker["number"]}
+            yield "prefork_worker_memory_bytes", worker["memory"], labels
+            yield "prefork_worker_processor_seconds_total", worker["processor_seconds"], labels
+    for queue in status["queues"]:
+        labels = {"address": queue["address"]}
+        yield "prefork_queue_length", queue["waiting"], labels
+        yield "prefork_queue_limit", queue["most"], labels
+        if queue["dropped"] is not None:
+            yield "prefork_queue_dropped_total", queue["dropped"], labels
     yield "prefork_addresses", len(status["addresses"]), {}
     yield "prefork_masters", len(status["masters"]), {}
     yield "prefork_master_restarts_total", status["master_restarts"], {}

@@ -173,6 +173,7 @@ def shown(status: Status) -> str:
         f"generation  {status['generation'] or 'none'}, {workers(len(status['workers']))}",
         *map(shown_worker, status["workers"]),
         *map(shown_other, status["others"]),
+        *map(shown_queue, status.get("queues", [])),
         *shown_masters(status["masters"], status["master_restarts"]),
         f"keeper      process {keeper['process'] or 'none'}, started again {times(keeper['restarts'])}",
         *map(shown_preloader, status.get("preloaders", [])),
@@ -197,7 +198,13 @@ def shown_worker(worker: Status) -> str:
         return f"worker {worker['number']:<4} has ended"
     beat = worker["last_beat_seconds"]
     told = f"beat {beat} s ago" if beat is not None else "no beat yet"
-    return f"worker {worker['number']:<4} process {worker['process']}, for {worker['seconds']} s, {told}"
+    memory = f", {worker['memory'] / 1e6:.0f} MB" if worker.get("memory") else ""
+    return f"worker {worker['number']:<4} process {worker['process']}, for {worker['seconds']} s, {told}{memory}"
+
+
+def shown_queue(queue: Status) -> str:
+    dropped = f", {queue['dropped']} were dropped" if queue["dropped"] else ""
+    return f"queue       {queue['address']}: {queue['waiting']} of at most {queue['most']} connections wait{dropped}"
 
 
 def shown_other(worker: Status) -> str:

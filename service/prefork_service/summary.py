@@ -3,7 +3,9 @@ import os
 import time
 from typing import TYPE_CHECKING
 
+from .measures import Measures
 from .needs import addresses_of
+from .queues import queues_of
 from .state import SERVES, Whole
 from .status import Status, masters_of, others_of, started_workers, workers_of
 
@@ -15,7 +17,7 @@ class Summary:
     """The status of a service, whole and in parts."""
 
     def __init__(self, service: "Service"):
-        self.of = service
+        self.of, self.measures = service, Measures()
 
     def addresses(self) -> list[str]:
         """The open addresses: while a word changes the service all of them, and else those that are wanted. One that was
@@ -99,8 +101,14 @@ class Summary:
         of = self.of
         running, beats = started_workers(of.folder.workers), of.master.beats if of.master else {}
         lines = of.master.block if of.master else []
+        workers = workers_of(of.watching.record, running, beats)
+        measured = self.measures.of([worker["process"] for worker in workers if worker["process"]])
+        for worker in workers:
+            worker["memory"], worker["processor_seconds"] = measured.get(worker["process"], (None, None))
+        served = set(self.addresses())
         return {
-            **self.brief(), "workers": workers_of(of.watching.record, running, beats),
+            **self.brief(), "workers": workers, "measured": self.measures.moment,
+            "queues": [queue for queue in queues_of(of.keeping.held) if queue["address"] in served],
             "others": others_of(of.watching.record, running, lines),
             "masters": masters_of(of.master.process.pid) if of.master else [],
         }

@@ -13,6 +13,8 @@ STATUS = "status"
 TICK = "tick"
 # Said by an operator: one worker of the next version is started away from the sockets, and ended.
 TRY = "try HUP"
+# What prefork-ctl shows by asking for the status again and again.
+TOP = "top"
 # What a master that starts carries out.
 START = "tick 0"
 # Words at which the configuration is read again.

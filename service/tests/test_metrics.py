@@ -7,15 +7,16 @@ from unittest import mock
 
 from prefork_service.metrics import METRICS, MetricsFile, metrics_of
 
-WORKER = {"generation": "1.2", "number": 0, "process": 7, "seconds": 9, "last_beat_seconds": 1}
+WORKER = {"generation": "1.2", "number": 0, "process": 7, "seconds": 9, "last_beat_seconds": 1, "memory": 12000000, "processor_seconds": 1.5}
 STATUS = {
     "service": {"process": 1, "seconds": 60, "folder": "/run/site"}, "addresses": ["127.0.0.1:8080"], "generation": "1.2",
-    "workers": [WORKER, {**WORKER, "number": 1, "process": None, "seconds": None, "last_beat_seconds": None}],
+    "workers": [WORKER, {**WORKER, "number": 1, "process": None, "seconds": None, "last_beat_seconds": None, "memory": None}],
     "masters": [3, 4], "master_restarts": 1, "keeper": {"process": 5, "restarts": 2},
     "last": {"word": "HUP", "report": "rolled-back cause 2 pid no-file"}, "doing": None, "question": 0, "waiting": 3,
     "counts": [{"word": "USR2 attended", "outcome": "done", "count": 4}], "file_has_changed": True, "records_waiting": 0,
     "ticks": 59, "tick_outcomes": {"nothing": 50, "degraded": 8, "lost": 1}, "question_seconds": 0, "others": [],
     "state": "short", "wanted": 3, "running": 1, "failed_starts": 21, "line": "short: wanted 3, runs 1: worker 2 has failed",
+    "queues": [{"address": "127.0.0.1:8080", "waiting": 5, "most": 1024, "dropped": 7}],
     "failing": [{"worker": 2, "failed": 21, "reason": "it <ended>", "next_try_seconds": 9.0}],
 }
 
@@ -33,7 +34,10 @@ class MetricsTest(unittest.TestCase):
             "prefork_addresses 1", 'prefork_ticks_total{outcome="nothing"} 50', 'prefork_ticks_total{outcome="degraded"} 8',
             'prefork_ticks_total{outcome="done"} 0', 'prefork_ticks_total{outcome="lost"} 1', 'prefork_state{state="short"} 1',
             'prefork_state{state="serves"} 0', "prefork_workers_wanted 3", "prefork_workers_running 1",
-            "prefork_failed_starts_total 21",
+            "prefork_failed_starts_total 21", 'prefork_queue_length{address="127.0.0.1:8080"} 5',
+            'prefork_queue_limit{address="127.0.0.1:8080"} 1024', 'prefork_queue_dropped_total{address="127.0.0.1:8080"} 7',
+            'prefork_worker_memory_bytes{generation="1.2",number="0"} 12000000',
+            'prefork_worker_processor_seconds_total{generation="1.2",number="0"} 1.5',
         ):
             self.assertIn(line, lines)
         self.assertFalse([line for line in lines if "number=\"1\"" in line])

@@ -1,0 +1,52 @@
+"""What runs, drawn again and again at a terminal."""
+import sys
+import time
+from collections.abc import Callable
+from typing import Any
+
+Status = dict[str, Any]
+CLEAR, SECONDS = "\033[H\033[2J", 1.0
+
+
+def shares(status: Status, before: Status | None) -> dict[int, float]:
+    """Which part of a processor each worker took between two measures, by its process."""
+    passed = status["measured"] - before["measured"] if before else 0.0
+    if not before or passed <= 0:
+        return {}
+    old = {worker["process"]: worker["processor_seconds"] for worker in before["workers"] if worker["process"]}
+    return {
+        worker["process"]: max(0.0, worker["processor_seconds"] - old[worker["process"]]) / passed
+        for worker in status["workers"]
+        if worker["processor_seconds"] is not None and old.get(worker["process"]) is not None
+    }
+
+
+def drawn(status: Status, parts: dict[int, float]) -> str:
+    """A status as a table."""
+    lines = [status["line"], f"{'worker':<10}{'process':>9}{'age, s':>9}{'cpu, %':>9}{'MB':>9}"]
+    for worker in [*status["workers"], *status["others"]]:
+        name, process = f"{worker['generation']}.{worker['number']}", worker["process"]
+        part = f"{100 * parts[process]:.1f}" if process in parts else "-"
+        memory = f"{worker['memory'] / 1e6:.0f}" if worker.get("memory") else "-"
+        state = worker.get("state", "" if process else "has ended")
+        lines.append(f"{name:<10}{process or '-':>9}{worker['seconds'] or 0:>9}{part:>9}{memory:>9}  {state}".rstrip())
+    for queue in status["queues"]:
+        lines.append(f"{queue['address']}: {queue['waiting']} of {queue['most']} wait, {queue['dropped']} dropped")
+    return "".join(f"{line}\n" for line in lines)
+
+
+def show(ask: Callable[[], Status]) -> int:
+    """Draws up to ^C at a terminal, and once elsewhere."""
+    measured: Status | None = None
+    parts: dict[int, float] = {}
+    try:
+        while True:
+            status = ask()
+            if measured is None or status["measured"] != measured["measured"]:
+                parts, measured = shares(status, measured), status
+            print((CLEAR if sys.stdout.isatty() else "") + drawn(status, parts), end="", flush=True)
+            if not sys.stdout.isatty():
+                return 0
+            time.sleep(SECONDS)
+    except KeyboardInterrupt:
+        return 0

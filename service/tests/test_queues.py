@@ -1,0 +1,95 @@
+"""The queues of addresses, and what processes take."""
+import pathlib
+import socket
+import subprocess
+import tempfile
+import time
+import unittest
+from unittest import mock
+
+from kit import clock_ahead, until
+from prefork_service import measures
+from prefork_service.measures import Measures, processor_seconds_of
+from prefork_service.queues import queues_of
+from prefork_service.status import shown_queue
+from prefork_service.top import drawn, shares
+
+
+class QueueTest(unittest.TestCase):
+    def setUp(self) -> None:
+        self.clients: list[socket.socket] = []
+        self.addCleanup(lambda: [client.close() for client in self.clients])
+
+    def test_connections_that_wait_at_both_kinds_of_sockets(self) -> None:
+        with tempfile.TemporaryDirectory() as room, socket.socket() as tcp, socket.socket(socket.AF_UNIX) as unix:
+            tcp.bind(("127.0.0.1", 0))
+            tcp.listen(50)
+            path = str(pathlib.Path(room) / "s")
+            unix.bind(path)
+            unix.listen(40)
+            for _ in range(30):
+                self.clients.append(socket.create_connection(tcp.getsockname()))
+            for _ in range(20):
+                self.clients.append(socket.socket(socket.AF_UNIX))
+                self.clients[-1].connect(path)
+            wanted = [{"address": "t", "waiting": 30, "most": 50, "dropped": 0}, {"address": "u", "waiting": 20, "most": 40, "dropped": 0}]
+            self.assertTrue(until(lambda: queues_of({"u": unix, "t": tcp}) == wanted), queues_of({"u": unix, "t": tcp}))
+            self.assertEqual(shown_queue(wanted[0]), "queue       t: 30 of at most 50 connections wait")
+            tcp.accept()[0].close()
+            self.assertEqual(queues_of({"t": tcp})[0]["waiting"], 29)
+        self.assertEqual(queues_of({"t": tcp}), [])
+
+    def test_what_a_full_queue_has_dropped(self) -> None:
+        with socket.socket() as tcp:
+            tcp.bind(("127.0.0.1", 0))
+            tcp.listen(1)
+            for _ in range(8):
+                self.clients.append(socket.socket())
+                self.clients[-1].setblocking(False)
+                self.clients[-1].connect_ex(tcp.getsockname())
+            self.assertTrue(until(lambda: queues_of({"t": tcp})[0]["dropped"] > 0))
+
+
+class MeasuresTest(unittest.TestCase):
+    def test_the_time_that_a_process_and_its_children_have_computed(self) -> None:
+        with subprocess.Popen(["sh", "-c", "while :; do :; done & wait"]) as process:
+            self.addCleanup(subprocess.run, ["true"])
+            try:
+                self.assertTrue(until(lambda: processor_seconds_of(process.pid) > 0.2))
+            finally:
+                for number in measures.tree_of(process.pid):
+                    subprocess.run(["kill", "-9", str(number)], check=False)
+
+    def test_they_are_measured_again_when_that_is_worth_it(self) -> None:
+        found = Measures()
+        with mock.patch.object(measures, "memory_of", side_effect=lambda process: process) as measured:
+            self.assertEqual(found.of([1])[1][0], 1)
+            found.of([1])
+            found.of([1, 2])
+            self.assertEqual(measured.call_count, 1)
+            with mock.patch.object(measures, "time", clock_ahead(measures.LEAST_SECONDS + 0.5)):
+                self.assertEqual(sorted(found.of([1, 2])), [1, 2])
+
+    def test_a_measure_that_takes_long_is_seldom(self) -> None:
+        found = Measures()
+        with mock.patch.object(measures, "memory_of", side_effect=lambda process: time.sleep(0.05) or 1):
+            found.of([1])
+        self.assertGreaterEqual(found.next - found.moment, 0.05 / measures.SHARE)
+
+
+class TopTest(unittest.TestCase):
+    def test_parts_of_a_processor_between_two_measures(self) -> None:
+        worker = {"generation": "1.2", "number": 0, "process": 7, "seconds": 9, "memory": 12000000, "processor_seconds": 1.5}
+        queue = {"address": "127.0.0.1:8080", "waiting": 5, "most": 1024, "dropped": 7}
+        status = {"line": "serves: wanted 1, runs 1", "workers": [worker], "others": [], "queues": [queue], "measured": 4.0}
+        later = {**status, "workers": [{**worker, "processor_seconds": 2.0}], "measured": 6.0}
+        self.assertEqual((shares(status, None), shares(status, status), shares(later, status)), ({}, {}, {7: 0.25}))
+        text = drawn(later, {7: 0.25})
+        self.assertIn("1.2.0             7        9     25.0       12\n", text)
+        self.assertIn("127.0.0.1:8080: 5 of 1024 wait, 7 dropped\n", text)
+        ended = drawn({**status, "workers": [{**worker, "process": None, "seconds": None, "memory": None}]}, {})
+        self.assertIn("has ended", ended)
+
+
+if __name__ == "__main__":
+    unittest.main()
