@@ -5,7 +5,7 @@
 
 ghost use Rattle.further_theorems.specs.Bound.{OperatorsAreObeyed};
 ghost use Rattle.further_theorems.specs.Left.{RecordsAreLeft};
-ghost use Rattle.further_theorems.specs.Merges.{WalksAreRuns};
+ghost use Rattle.further_theorems.specs.Merges.{MergesAreRuns, WalksAreRuns};
 ghost use Rattle.further_theorems.specs.Named.{WorkersEndByName};
 ghost use Rattle.further_theorems.specs.Proper.{CallsAreProper, FilesOfOthersStay};
 
@@ -21,9 +21,11 @@ pub fn records_are_left()
     ensures { RecordsAreLeft }
 {}
 
-/// A walk of a plan whose answers the kernel gives is the run of the plan.
+/// A walk of a plan whose answers the kernel gives is the run of the plan; and so is any merge of two
+/// masters' calls, under the turns that it uses.
 pub fn merges_are_runs()
-    ensures { WalksAreRuns }
+    ensures walks { WalksAreRuns }
+    ensures merges { MergesAreRuns }
 {}
 
 /// Once the operator of an attended upgrade went back nobody is told to quit any more, and the upgrade
