@@ -1,15 +1,22 @@
 """Orphans: processes that are given to prefork-serve when the one that started them ends, and that it must bury.
 
-As process 1 of a container prefork-serve is given all of them. With --preload it asks for those of its own processes
-elsewhere, too: the workers of a killed preloader stay its descendants then.
+As process 1 of a container prefork-serve is given all of them. Elsewhere it asks for those of its own processes: the
+workers of a killed preloader stay its descendants then, and so do the processes that hold the programs of killed workers.
 """
 import ctypes
 import os
+import pathlib
 import subprocess
+import time
 import weakref
 from typing import Any
 
+from .status import fields_of
+
 PR_SET_CHILD_SUBREAPER = 36
+# The process between an adapter and its program, which ends all that the program has started. How long it may take at a
+# stop, and how often it is looked.
+HOLDER, END_SECONDS, LOOK_SECONDS = "prefork-hold", 10.0, 0.01
 # Those that it has started itself, and waits for where it has started them.
 OWN: "weakref.WeakSet[subprocess.Popen]" = weakref.WeakSet()
 
@@ -42,3 +49,32 @@ def ended_child() -> int | None:
     except ChildProcessError:
         return None
     return found.si_pid if found else None
+
+
+def await_holders(seconds: float = END_SECONDS) -> list[int]:
+    """Waits until those that hold the programs of killed workers have ended all of them: once the service says that it
+    has stopped, nobody serves. Those that have not ended in time."""
+    deadline = time.monotonic() + seconds
+    while (found := holders()) and time.monotonic() < deadline:
+        bury_orphans()
+        time.sleep(LOOK_SECONDS)
+    return found
+
+
+def holders() -> list[int]:
+    """The children that hold a program and have not ended."""
+    found = []
+    for file in pathlib.Path("/proc/self/task").glob("*/children"):
+        try:
+            children = [int(text) for text in file.read_text().split()]
+        except OSError:
+            continue
+        found += [child for child in children if name_of(child) == HOLDER and (fields_of(child) or ["Z"])[0] != "Z"]
+    return found
+
+
+def name_of(process: int) -> str:
+    try:
+        return pathlib.Path(f"/proc/{process}/comm").read_text().strip()
+    except OSError:
+        return ""

@@ -104,8 +104,8 @@ def serve(given: argparse.Namespace, folder: Folder, commands: Commands, stored:
     chronicle, service = Chronicle(folder, place, int(given.records_size * MEGABYTE)), None
     try:
         keeping.hold(addresses_of(commands.now.read_bytes()))
+        adopt_orphans()
         if given.preload and commands.default:
-            adopt_orphans()
             commands.preloading = Preloading(keeping.events, folder, commands.default, ready_seconds(given))
         service = Service(keeping, supervise, commands, chronicle, limits_of(given))
         service.telling.open(keeping.events, given.metrics, given.page)

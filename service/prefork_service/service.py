@@ -6,7 +6,7 @@ from typing import Any
 
 from .asking import Asking
 from .barrier import Barrier
-from .burying import bury_orphans
+from .burying import await_holders, bury_orphans
 from .chronicle import Chronicle
 from .commands import PID_OF_MASTER, Commands, mistake_of, refusal_of
 from .folder import say
@@ -306,6 +306,7 @@ class Service:
             self.barrier.duty(self.keeping.open_again)
         if self.is_stopped:
             self.barrier.duty(self.hanging.finish)
+            self.barrier.duty(await_holders)
         elif is_lost:
             self.end_master()
 

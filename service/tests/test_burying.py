@@ -32,7 +32,33 @@ print(sorted(buried) == orphans, before, own.wait(), shell.wait(), bury_orphans(
 """
 
 
+# A process whose child is killed, and whose grandchild holds a program: it ends by its own, or does not.
+HOLDING = """
+import os, subprocess, sys
+from prefork_service.burying import adopt_orphans, await_holders, holders, started
+adopt_orphans()
+text = "import ctypes, time; ctypes.CDLL(None).prctl(15, b'prefork-hold', 0, 0, 0); print('there', flush=True); time.sleep(%s)"
+shell = started(["sh", "-c", '"$0" -c "$1" & echo $!; wait', sys.executable, text % sys.argv[1]], stdout=subprocess.PIPE, text=True)
+there, number = sorted(shell.stdout.readline().strip() for _ in range(2))[::-1]
+print(there, holders())
+shell.kill(), shell.wait()
+while holders() != [int(number)]:
+    pass
+left = await_holders(float(sys.argv[2]))
+print(left == [int(number)] if left else left, holders() == left)
+for one in left:
+    os.kill(one, 9), os.waitpid(one, 0)
+"""
+
+
 class BuryingTest(unittest.TestCase):
+    def test_those_that_hold_programs_are_awaited(self) -> None:
+        environment = {**os.environ, "PYTHONPATH": str(BIN.parent)}
+        for sleeps, seconds, wanted in (("1", "60", "[] True"), ("1000", "0.1", "True True")):
+            command = [sys.executable, "-c", HOLDING, sleeps, seconds]
+            found = subprocess.run(command, env=environment, capture_output=True, text=True, timeout=60)
+            self.assertEqual((found.stdout, found.stderr), (f"there []\n{wanted}\n", ""))
+
     def test_orphans_are_buried_and_own_children_are_not(self) -> None:
         environment = {**os.environ, "PYTHONPATH": str(BIN.parent)}
         found = subprocess.run([sys.executable, "-c", PROGRAM], env=environment, capture_output=True, text=True, timeout=60)
