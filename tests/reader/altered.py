@@ -3,6 +3,7 @@ import random
 from collections.abc import Callable, Iterator
 from typing import NamedTuple
 
+from reader.beside import takes_ready
 from reader.claims import IsCommon, least_of
 from reader.master import Mend, Reopen, Stop, Workers, want
 from reader.run import Progress, faults_since
@@ -111,6 +112,19 @@ def early_kills(run: Run) -> Iterator[Altered]:
         yield Altered("a worker is killed first", "manner", run._replace(ran=killed))
 
 
+def vanished_workers(run: Run) -> Iterator[Altered]:
+    """A Ready worker is gone after a call that does not name it."""
+    passed = run.ran.passed
+    for place, e in enumerate(run.ran.entries):
+        after = passed[2 * place + 2]
+        for p in ready_rows(after.table):
+            if p in passed[2 * place + 1].table.rows and not takes_ready(p.generation, p.nr, e.call):
+                fewer = after._replace(table=with_row(after.table, p, ()))
+                ran = run.ran._replace(passed=(*passed[:2 * place + 2], fewer, *passed[2 * place + 3:]))
+                yield Altered("a worker vanished", "named", run._replace(ran=ran))
+                return
+
+
 def other_accounts(run: Run) -> Iterator[Altered]:
     """The cause is not told, or nothing failed or was lost."""
     last, outcome = run.ran.last, run.report.outcome
@@ -127,6 +141,7 @@ def other_accounts(run: Run) -> Iterator[Altered]:
 
 WAYS: tuple[Callable[[Run], Iterator[Altered]], ...] = (
     lost_workers, other_sockets, other_owners, low_floors, other_processes, early_kills, other_accounts,
+    vanished_workers,
 )
 
 

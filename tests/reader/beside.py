@@ -1,5 +1,5 @@
 """What a run keeps beside the headline (quiet_runs/specs/Quiet.antt, further_theorems/specs/Proper.antt,
-Left.antt and Bound.antt)."""
+Left.antt, Named.antt and Bound.antt)."""
 from collections.abc import Callable
 from typing import NamedTuple
 
@@ -14,10 +14,10 @@ from reader.numbers import is_in, numbers_below
 from reader.pieces import quiet
 from reader.plans import only_in
 from reader.run import Moment, Pattern, Ran, report_of
-from reader.table import IsSame, Table, is_held, is_own, owner_at, same_generation, service
+from reader.table import IsSame, Table, Worker, bears, is_held, is_own, owner_at, same_generation, service
 from reader.vocabulary import (
-    Adopt, Alive, Answer, Ask, AwaitGone, AwaitReady, Census, CloseAt, Degraded, Entry, Fork, Generation, Kill,
-    Leave, MovePid, OpenAt, Outcome, Quit, RemovePid, Report, Side, SpawnMaster, TermMaster, Usr1, WritePid,
+    Adopt, Alive, Answer, Ask, AwaitGone, AwaitReady, Call, Census, CloseAt, Degraded, Entry, Fork, Generation, Kill,
+    Leave, MovePid, OpenAt, Outcome, Quit, RemovePid, Report, Side, SpawnMaster, Stance, TermMaster, Usr1, WritePid,
 )
 
 # That plans work
@@ -169,6 +169,50 @@ def RecordIsLeft(r: Record, target: Target, ran: Ran) -> bool:
     return left is None or IsLeft(r, target, report, left)
 
 
+# Which calls take a worker away
+
+
+def takes_ready(g: Generation, k: int, call: Call) -> bool:
+    """The calls that may take a Ready worker of the name out of its stance."""
+    match call:
+        case Quit(h, j) | Kill(h, j):
+            return bears(g, k, h, j)
+        case Leave() | TermMaster(_):
+            return True
+        case _:
+            return False
+
+
+def takes_draining(g: Generation, k: int, call: Call) -> bool:
+    """And a Draining one out of the table."""
+    match call:
+        case AwaitGone(h, j) | Kill(h, j):
+            return bears(g, k, h, j)
+        case Leave() | TermMaster(_):
+            return True
+        case _:
+            return False
+
+
+def TakesByName(call: Call, t: Table, then: Table) -> bool:
+    """The call leaves each process in its stance, but for those that it may take."""
+    left = {(p.number, p.stance, p.generation, p.nr) for p in then.rows if isinstance(p, Worker)}
+    takes = {Stance.Ready: takes_ready, Stance.Draining: takes_draining}
+    return all(
+        (p.number, p.stance, p.generation, p.nr) in left or takes[p.stance](p.generation, p.nr, call)
+        for p in t.rows
+        if isinstance(p, Worker) and p.stance in takes
+    )
+
+
+def TakeByName(ran: Ran) -> bool:
+    """Each call of the run: it leads from the second table of its pair to the next one."""
+    return all(
+        TakesByName(e.call, ran.passed[2 * place + 1].table, ran.passed[2 * place + 2].table)
+        for place, e in enumerate(ran.entries)
+    )
+
+
 # That the operator is obeyed
 
 
@@ -194,5 +238,6 @@ def KeepsBeside(t: Table, r: Record, target: Target, ran: Ran, run: Callable[[Pa
         "proper": all(IsProper(r, target, e) for e in ran.entries),
         "files": FilesOfOthersStay(r, t, ran),
         "left": RecordIsLeft(r, target, ran),
+        "named": TakeByName(ran),
         "obeyed": ObeysOperator(r, target, ran),
     }
