@@ -11,7 +11,8 @@ const Page = (() => {
   const enacted = (count, more) => page.ask(...Asked.enacting(page.state, count, more));
   page.explained = code => {
     const told = code ? page.ask(['explain', code.split(' ')[0]]) : { status: 1 };
-    return told.status === 0 ? told.output.trim() : '';
+    // (its paragraphs are broken into lines for a terminal)
+    return told.status === 0 ? told.output.trim().split('\n\n').map(it => it.replace(/\n/g, ' ')).join('\n\n') : '';
   };
   // The block of the present word, if these were its events; null if the program refuses.
   page.blockUnder = events => {
