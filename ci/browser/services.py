@@ -29,8 +29,12 @@ TRACE = ["Traceback (most recent call last):", '  File "site.py", line 3, in <mo
 PLAN = "plan steps 3 longest 3\n1 m1 fork 1.3 0 | forked 2 | again no-memory 3\n"
 
 
+QUEUES = [{"address": "0.0.0.0:8080", "waiting": 3, "most": 128, "dropped": 0}]
+
+
 def worker(generation: str, number: int, **more: Any) -> Status:
-    return {"generation": generation, "number": number, "process": 4100 + number, "seconds": 7261, "last_beat_seconds": 1, **more}
+    return {"generation": generation, "number": number, "process": 4100 + number, "seconds": 7261, "last_beat_seconds": 1,
+            "memory": 41_000_000, "processor_seconds": 7.5, **more}
 
 
 def status(**more: Any) -> Status:
@@ -40,7 +44,7 @@ def status(**more: Any) -> Status:
         "generation": "1.2", "workers": [worker("1.2", number) for number in range(4)], "others": [], "failing": [],
         "masters": [4002], "master_restarts": 0, "keeper": {"process": 4003, "restarts": 0}, "last": None, "doing": None,
         "question": 0, "question_seconds": 0, "waiting": 0, "counts": [], "file_has_changed": False, "records_waiting": 0,
-        "state": "serves", "wanted": 4, "running": 4, "line": "serves: wanted 4, runs 4", **more,
+        "state": "serves", "wanted": 4, "running": 4, "line": "serves: wanted 4, runs 4", "queues": QUEUES, **more,
     }
 
 

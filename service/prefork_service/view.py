@@ -1,5 +1,5 @@
 """The page of a service, from top to bottom as an operator reads: how it is, in a colour, a word and a sentence; what to
-type, if it asks; the workers of each generation; where the present word is; the last words; and then the numbers."""
+type, if it asks; the workers of each generation; where the present word is; the last words; and then queues and numbers."""
 import pathlib
 from collections.abc import Sequence
 
@@ -148,6 +148,21 @@ def last_words(words: Sequence[Done]) -> str:
     return f'<section><h2>Last words</h2>{f"<ol class=words>{rows}</ol>" if rows else "<p>None yet.</p>"}</section>'
 
 
+def queues(status: Status) -> str:
+    """The connections that wait at each address, and the memory of all workers."""
+    rows = []
+    for queue in status.get("queues", []):
+        address, waiting, most = queue["address"], queue["waiting"], queue["most"]
+        dropped = f", {queue['dropped']} were dropped" if queue["dropped"] else ""
+        told = f"{waiting} of at most {most} connections wait{dropped}"
+        sign = f'<meter min="0" max="{text(most)}" value="{text(waiting)}" aria-label="{text(f"queue at {address}")}"></meter>'
+        rows.append(f"<li>{text(address)}: {sign} {text(told)}</li>")
+    memory = sum(worker.get("memory") or 0 for worker in status["workers"])
+    if memory:
+        rows.append(f"<li>memory of all workers: {memory / 1e6:.0f} MB</li>")
+    return f'<section><h2>Load</h2><ul>{"".join(rows)}</ul></section>' if rows else ""
+
+
 def numbers(status: Status, plan: str) -> str:
     """Who runs by number, and the plan of the next reload."""
     service = status["service"]
@@ -162,7 +177,8 @@ Now: {text(shown_doing(status))}.</p>
 
 def middle_of(status: Status, words: Sequence[Done], calls: Sequence[str], plan: str) -> str:
     """What changes of the page."""
-    parts = [band(status, words), question(status), bars(status), stations(status, calls), last_words(words), numbers(status, plan)]
+    parts = [band(status, words), question(status), bars(status), stations(status, calls), last_words(words)]
+    parts += [queues(status), numbers(status, plan)]
     return "".join(parts)
 
 

@@ -110,6 +110,14 @@ class ViewTest(unittest.TestCase):
         self.assertIn('<li class="now" aria-current="step">hear them ready</li>', page)
         self.assertIn("A reload is on its way.", page)
 
+    def test_queues_and_memory(self) -> None:
+        queue = {"address": "127.0.0.1:8080", "waiting": 3, "most": 128, "dropped": 5}
+        worker = {**STATUS["workers"][0], "memory": 41_000_000}
+        said = read(self.shown(queues=[queue], workers=[worker, {**worker, "memory": None}])).said
+        self.assertIn("3 of at most 128 connections wait, 5 were dropped", said)
+        self.assertIn("memory of all workers: 41 MB", said)
+        self.assertNotIn("Load", read(self.shown(queues=[], workers=[])).said)
+
     def test_a_question_says_what_to_type(self) -> None:
         said = read(self.shown(state="changes", line="changes: USR2 attended", doing="USR2 attended", question=1)).said
         self.assertIn("prefork-ctl go\nprefork-ctl back", said)
