@@ -14,6 +14,7 @@ from kit import clock_ahead, until
 from prefork_service import patience
 from prefork_service.master import Master
 from prefork_service.patience import MARGIN, MOST_TURN, Patience
+from prefork_service.records import blocks_of
 from test_faults import SECONDS, FaultyTest
 
 LIMITS = ["--answer-within", "3", "--ready-within", "60"]
@@ -109,6 +110,19 @@ class HangingTest(FaultyTest):
         self.assertIn("USR2: the new master has not answered within", self.said.read_text())
         self.assertEqual(self.children("supervise"), first)
         self.assertTrue(until(self.serves, SECONDS))
+
+    def test_a_new_master_that_has_ended_is_marked_in_the_record(self) -> None:
+        records = self.room / "run" / "records"
+        for number, master, wanted in (("1", "m2", 1), ("2", "m1", 0)):
+            self.assertTrue(until(self.serves, SECONDS))
+            (self.blocks / "TTIN").write_text(f"1 {master} census 1.1 : counted none\nlost cause 1 pid no-file\n")
+            self.assertIn("\nlost cause 1", self.asked("TTIN"))
+            self.assertTrue(until((records / str(int(number) + 1)).exists, SECONDS))
+            blocks = (records / number / "blocks.1").read_text()
+            marks = [file.name for file in (records / number).glob("lost.*")]
+            self.assertEqual(len(marks), wanted, self.said.read_text())
+            if marks:
+                self.assertEqual(marks, [f"lost.{len(blocks_of(blocks))}"])
 
     def test_a_stop(self) -> None:
         first = self.children("supervise")
