@@ -21,16 +21,16 @@
 #include <errno.h>
 #include <fcntl.h>
 #include <poll.h>
+#include <signal.h>
 #include <stdarg.h>
 #include <stdbool.h>
 #include <stdio.h>
 #include <stdlib.h>
 #include <string.h>
+#include <sys/stat.h>
 #include <unistd.h>
 
 #define LONGEST_LINE 4096
-#define LONGEST_COMMAND 65536
-#define MOST_WORDS 1024
 
 static void fail(const char *form, ...) __attribute__((format(printf, 1, 2), noreturn));
 
@@ -43,8 +43,10 @@ static void fail(const char *form, ...) {
     va_start(values, form);
     vsnprintf(text, sizeof text, form, values);
     va_end(values);
-    dprintf(2, "prefork-launch: %s\n", text);
     note_reason(known_as, text);
+    /* Nobody may read what it says. */
+    signal(SIGPIPE, SIG_IGN);
+    dprintf(2, "prefork-launch: %s\n", text);
     exit(1);
 }
 
@@ -108,20 +110,37 @@ static bool waits(unsigned number) {
     return unlink(path) < 0;
 }
 
-/* The words of a generation's command, in memory that lasts. */
+/* What a file has, in memory that lasts; nothing if it can't be read. The system bounds what a command may have. */
+static char *content_of(const char *path, size_t *length) {
+    struct stat found;
+    int file = open(path, O_RDONLY | O_CLOEXEC);
+    char *text = file >= 0 && !fstat(file, &found) ? malloc((size_t)found.st_size + 1) : 0;
+    ssize_t got = text ? read(file, text, (size_t)found.st_size + 1) : -1;
+    if (file >= 0)
+        close(file);
+    *length = got > 0 ? (size_t)got : 0;
+    return got > 0 ? text : 0;
+}
+
+/* The words of a generation's command. */
 static char **command_of(const char *generation) {
-    static char path[4096], next[4096], text[LONGEST_COMMAND + 1], *words[MOST_WORDS + 1];
+    static char path[4096], next[4096];
     const char *folder = setting("PREFORK_FOLDER");
     snprintf(path, sizeof path, "%s/commands/%s", folder, generation);
     snprintf(next, sizeof next, "%s/commands/next", folder);
     if (link(next, path) < 0 && errno != EEXIST)
         fail("%s: %s", next, strerror(errno));
-    int file = open(path, O_RDONLY | O_CLOEXEC), count = 0;
-    ssize_t length = file < 0 ? -1 : read(file, text, LONGEST_COMMAND + 1);
-    if (length <= 0 || length > LONGEST_COMMAND || text[length - 1])
+    size_t length, count = 0;
+    char *text = content_of(path, &length);
+    if (!text || text[length - 1])
         fail("%s: no command", path);
-    for (char *word = text; word < text + length && count < MOST_WORDS; word += strlen(word) + 1)
-        words[count++] = word;
+    for (size_t at = 0; at < length; at++)
+        count += !text[at];
+    char **words = calloc(count + 1, sizeof *words);
+    if (!words)
+        fail("out of memory");
+    for (size_t word = 0; word < count; text += strlen(text) + 1)
+        words[word++] = text;
     return words;
 }
 

@@ -13,9 +13,10 @@ from .burying import started
 from .commands import mistake_of, parted, refusal_of
 from .door import Door
 from .finding import nearest
-from .folder import say
+from .folder import plain, say
 from .hooks import OF_SYSTEMD
 from .questions import ANSWERS, NOT_ASKED, STATE, state
+from .sockets import file_of
 from .words import NOTE, SIGNALS, STATUS, TICK, TRY, WORDS, Word
 
 if TYPE_CHECKING:
@@ -57,7 +58,16 @@ class Asking:
         listener.bind(str(words))
         os.chmod(words, 0o600)
         listener.listen(QUEUE)
+        self.file = file_of(str(words))
         return listener
+
+    def tend(self) -> None:
+        """Opens the door again whose name somebody has removed."""
+        self.door.tend()
+        if file_of(str(self.service.folder.words)) != self.file:
+            self.service.folder.words.unlink(missing_ok=True)
+            self.door.replace(self.listener())
+            say(f"{self.service.folder.words} is made again")
 
     def hear_signals(self, signals: int) -> None:
         for number in os.read(signals, 4096):
@@ -96,7 +106,7 @@ class Asking:
             word.answer(state(service.question, current, len(service.waiting)))
         else:
             near = f". Do you mean {found}?" if (found := nearest(text)) else ""
-            word.answer(f"{NOTE}{text or 'nothing'} is not a word. Words are {', '.join(WORDS)} and {STATUS}{near}\nunread W1\n")
+            word.answer(f"{NOTE}{plain(text) or 'nothing'} is not a word. Words are {', '.join(WORDS)} and {STATUS}{near}\nunread W1\n")
 
     def try_next(self, word: Word) -> None:
         """Has one worker of the next version tried by a process of its own, which answers the asker."""

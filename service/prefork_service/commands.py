@@ -17,7 +17,7 @@ import subprocess
 import tomllib
 from typing import Any
 
-from .folder import Folder, content_of, files_in, say
+from .folder import Folder, content_of, files_in, say, text_of
 from .needs import addresses_of
 from .preloading import Preloading
 from .quickly import GIVEN
@@ -102,11 +102,16 @@ PID_OF_MASTER = "the configuration has a pid, which would name the master, and t
     "serve.pid in the folder of the service is the file for kill"
 
 
+# An editor that empties a file before it writes it, or a full disk.
+EMPTY = "the configuration has no listeners and no groups. Is it empty, or written only in part?"
+HAS_PID, NO_LISTENERS = "refused pid", "refused no-listeners"
+
+
 class Commands:
     """What workers are started by, and the configurations that the master reads."""
 
     def __init__(self, folder: Folder, config: str, default: list[str] | None):
-        self.config, self.default = pathlib.Path(config), default
+        self.folder, self.config, self.default = folder, pathlib.Path(config), default
         self.place = folder.path / "commands"
         self.place.mkdir(mode=0o700, exist_ok=True)
         self.late = self.place / "late"
@@ -129,7 +134,7 @@ class Commands:
     def read(self, target: pathlib.Path) -> list[str] | None:
         """Reads the configuration and writes it for the master, without its command; the command for its workers."""
         try:
-            self.text = self.config.read_bytes()
+            self.text = text_of(self.config)
         except OSError as fault:
             # The master finds it missing, and says so.
             target.unlink(missing_ok=True)
@@ -149,7 +154,7 @@ class Commands:
     def source(self) -> pathlib.Path:
         """The file that has the text that was read last: the one that people edit, if it is that."""
         try:
-            return self.config if self.config.read_bytes() == self.text else self.now
+            return self.config if text_of(self.config) == self.text else self.now
         except OSError:
             return self.now
 
@@ -177,17 +182,22 @@ class Commands:
         """Whether workers are started by what the command line says, and not by a command of the configuration."""
         return self.current is not None and self.current == self.default
 
-    def names_master(self) -> bool:
-        """Whether the configuration that was read last has a pid file."""
+    def fault(self) -> tuple[str, str] | None:
+        """Why the service refuses the configuration that was read last, though its master would take it: a report, and
+        the reason."""
         try:
-            return "pid" in tomllib.loads(self.text.decode())
+            found = tomllib.loads(self.text.decode())
         except (ValueError, RecursionError):
-            return False
+            return None
+        if "pid" in found:
+            return HAS_PID, PID_OF_MASTER
+        is_empty = not {"listeners", "groups"} & set(found)
+        return (NO_LISTENERS, EMPTY) if is_empty else None
 
     def has_changed(self) -> bool:
         """Whether the file is another one than was accepted."""
         try:
-            return self.config.read_bytes() != self.current_text
+            return text_of(self.config) != self.current_text
         except OSError:
             return True
 
@@ -286,8 +296,16 @@ class Commands:
         if self.preloading:
             self.preloading.settle(has_changed)
 
+    def mend(self) -> None:
+        """Writes again what somebody has removed: the command of workers that start."""
+        if not self.folder.mend() and self.place.exists():
+            return
+        self.place.mkdir(mode=0o700, exist_ok=True)
+        self.write_next(self.started_by(self.current, False), self.now_text)
+        self.accept()
+
     def clear(self) -> None:
-        own = [self.place / name for name in ("next", "new", "accepted", GIVEN)]
+        own = [self.place / name for name in ("next", "new", "accepted", "late", GIVEN)]
         for file in [*self.generations(), *own, self.now, self.next, self.accepted]:
             file.unlink(missing_ok=True)
         with contextlib.suppress(OSError):

@@ -78,6 +78,15 @@ class Door:
             self.events.unregister(self.listener)
             self.closed_until = now + SHORT_SECONDS
 
+    def replace(self, listener: socket.socket) -> None:
+        """Another listener takes the place of the one whose name has gone."""
+        if not self.closed_until:
+            self.events.unregister(self.listener)
+        self.listener.close()
+        self.listener, self.closed_until = listener, 0.0
+        listener.setblocking(False)
+        self.events.register(listener, selectors.EVENT_READ, self.admit)
+
     def forsake(self, source: socket.socket) -> None:
         """A client that has failed again and again is dropped; the listener is heard again in a moment."""
         self.events.unregister(source)

@@ -15,7 +15,7 @@ from typing import Any
 from . import places
 from .burying import started
 from .convention import Hold
-from .folder import Folder, say
+from .folder import Folder, plain, say
 from .keeper import ANSWERS, ASKS, CLOSED, DROPS, ENDS, LONGEST_ADDRESS, LOST, OPENED, REFUSED, RENEWS, SETTLED
 from .sockets import QUEUE, file_of, seal
 from .systemd import store, unstore
@@ -60,6 +60,15 @@ class Keeping:
         new.chmod(0o600)
         self.door.listen(QUEUE)
         new.rename(self.folder.keeper)
+        self.file = file_of(str(self.folder.keeper))
+
+    def mend(self) -> None:
+        """Opens the door again whose name somebody has removed. The next keeper has it."""
+        if self.process and file_of(str(self.folder.keeper)) != self.file:
+            say(f"{self.folder.keeper} is made again")
+            self.door.close()
+            self.open_door()
+            self.bury()
 
     def begin(self) -> None:
         self.begun, self.restarts = time.monotonic(), self.restarts + 1
@@ -103,8 +112,8 @@ class Keeping:
         elif kind == CLOSED:
             self.forget(text)
         elif kind == REFUSED:
-            self.refusals.append(text)
-            say(f"an address is not opened: {text}")
+            self.refusals.append(plain(text))
+            say(f"an address is not opened: {plain(text)}")
         elif kind == ANSWERS:
             self.owes = False
         elif kind == LOST:

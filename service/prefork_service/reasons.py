@@ -13,6 +13,7 @@ from collections.abc import Callable, Iterable
 from typing import Any
 
 from . import places
+from .folder import plain
 
 # A line of a block: its number, its master, the call with what it is about, and the answer.
 CALL = re.compile(r"(\d+) m\d+ ([a-z0-9-]+)(?: (\S+))?(?: (\d+))?.* : (\S+)")
@@ -53,7 +54,7 @@ class Reasons:
         except OSError:
             return {}
         lines = text.decode(errors="replace").splitlines()
-        return {name: why for name, _, why in (line.partition(" ") for line in lines) if why}
+        return {plain(name): plain(why) for name, _, why in (line.partition(" ") for line in lines) if why}
 
 
 def is_plain(line: str) -> bool:

@@ -31,6 +31,7 @@ import argparse
 import os
 import pathlib
 import selectors
+import signal
 import socket
 import sys
 import tempfile
@@ -39,7 +40,7 @@ from . import places
 from .barrier import Barrier, Broken
 from .burying import adopt_orphans
 from .chronicle import Chronicle
-from .commands import PID_OF_MASTER, Commands, refusal_of
+from .commands import Commands, refusal_of
 from .convention import Unfit
 from .errors import take_standard
 from .folder import Folder, say
@@ -57,6 +58,7 @@ from .service import Service
 from .state import workers_in
 from .systemd import has_journal, inherited, notify
 from .titles import set_title
+from .words import STOPS
 
 
 def commands_of(given: argparse.Namespace, folder: Folder) -> Commands | None:
@@ -83,7 +85,8 @@ def is_fit(given: argparse.Namespace, commands: Commands) -> bool:
     if refusal:
         say(refusal_shown(given.config, refusal))
     faults = [] if refusal else shortages(needs_of(text, processes_each(given), sites, is_adapted, is_forked))
-    faults += [PID_OF_MASTER] if commands.names_master() else []
+    own = commands.fault()
+    faults += [own[1]] if own else []
     for fault in faults:
         say(f"{given.config}: {fault}")
     program = program_of(given, None if is_adapted else commands.current)
@@ -140,6 +143,19 @@ def check(given: argparse.Namespace) -> int:
         return 0 if commands else 1
 
 
+def end_early(number: int, _: object) -> None:
+    """A signal that stops the service before it has begun to hear words."""
+    sys.exit(f"prefork-serve: {signal.Signals(number).name} has stopped the start")
+
+
+def take_signals() -> None:
+    """Those that were blocked or ignored by what has started this process come too."""
+    signal.pthread_sigmask(signal.SIG_SETMASK, ())
+    signal.signal(signal.SIGCHLD, signal.SIG_DFL)
+    for name in STOPS:
+        signal.signal(signal.Signals[f"SIG{name}"], end_early)
+
+
 def main() -> int:
     take_standard()
     given = arguments(sys.argv[1:])
@@ -148,6 +164,7 @@ def main() -> int:
         return check(given)
     set_title("prefork-serve")
     places.check()
+    take_signals()
     stored = inherited()
     try:
         folder = Folder(given.folder)
@@ -165,6 +182,9 @@ def main() -> int:
     except OSError as fault:
         folder.clear()
         sys.exit(f"prefork-serve: {fault}")
+    except SystemExit:
+        folder.clear()
+        raise
     if not commands:
         folder.clear()
         return 1

@@ -2,13 +2,14 @@
 import selectors
 import sys
 import time
+from collections.abc import Callable
 from typing import Any
 
 from .asking import Asking
 from .barrier import Barrier
 from .burying import await_holders, bury_orphans
 from .chronicle import Chronicle
-from .commands import PID_OF_MASTER, Commands, mistake_of, refusal_of
+from .commands import Commands, mistake_of, refusal_of
 from .folder import say
 from .keeping import Keeping
 from .leaving import Leaving
@@ -31,7 +32,7 @@ from .words import CHANGES, NOTE, START, STOPS, TICK, Queue, Word
 TOGETHER_SECONDS = 0.01
 # The longest pause of the loop, and that while no master runs.
 PAUSE, SHORT_PAUSE = 1.0, 0.1
-TOO_MANY, NOT_READ, HAS_PID = "refused too-many-wait", "refused not-read", "refused pid"
+TOO_MANY, NOT_READ = "refused too-many-wait", "refused not-read"
 
 
 class Service:
@@ -82,8 +83,9 @@ class Service:
             if self.is_stopped:
                 return
         preloading = [self.commands.preloading.tend] if self.commands.preloading else []
-        tends = [self.asking.door.tend, self.keeping.tend, *preloading, self.hurry, bury_orphans, self.hanging.tend]
-        for tend in [*tends, self.end_late, self.chronicle.tend, self.telling.tend, sys.stderr.flush]:
+        tends: list[Callable] = [self.commands.mend, self.keeping.mend, self.asking.tend, self.keeping.tend, *preloading, self.hurry]
+        tends += [bury_orphans, self.hanging.tend, self.end_late]
+        for tend in [*tends, self.chronicle.tend, self.telling.tend, sys.stderr.flush]:
             duty(tend)
 
     def hurry(self) -> None:
@@ -108,7 +110,7 @@ class Service:
 
     def pause(self) -> float:
         """How long the loop may wait for something to happen."""
-        moments = [self.until_tick(), self.asking.door.seconds(), PAUSE if self.master else SHORT_PAUSE, self.telling.seconds()]
+        moments = [None if self.current else self.ticks.seconds(), self.asking.door.seconds(), PAUSE if self.master else SHORT_PAUSE, self.telling.seconds()]
         return min(moment for moment in moments if moment is not None)
 
     def begin_master(self) -> None:
@@ -120,7 +122,7 @@ class Service:
             self.commands.begin()
             limits = known(self.command[0], self.limits)
             command = [*self.command, *limits]
-            master = Master(command, self.folder, self.keep_block)
+            master = Master(command, self.folder, lambda block: self.barrier.duty(self.chronicle.records.add, block))
             self.hanging.patience.take_limits(limits)
             try:
                 self.take_master(master)
@@ -134,9 +136,6 @@ class Service:
             if not self.has_heard:
                 sys.exit(f"prefork-serve: {fault}")
             say(f"the master is not started: {fault}")
-
-    def keep_block(self, block: str) -> None:
-        self.barrier.duty(self.chronicle.records.add, block)
 
     def take_master(self, master: Master) -> None:
         """Hears a master that was started, from its first block on."""
@@ -163,9 +162,6 @@ class Service:
             self.barrier.duty(self.keeping.seal)
         if word.text == "QUIT":
             self.barrier.duty(self.keeping.drain)
-
-    def until_tick(self) -> float | None:
-        return self.ticks.seconds() if self.current is None else None
 
     def tell_next(self) -> None:
         """Tells the word that is due, once the master has done the one before."""
@@ -202,8 +198,8 @@ class Service:
         except OSError as fault:
             self.refuse(NOT_READ, f"the configuration is not read: {fault}")
         else:
-            if self.commands.names_master():
-                self.refuse(HAS_PID, PID_OF_MASTER)
+            if refusal := self.commands.fault():
+                self.refuse(*refusal)
         return self.current is not None
 
     def refuse(self, report: str, reason: str) -> None:

@@ -6,6 +6,7 @@ from typing import TYPE_CHECKING
 from .measures import Measures
 from .needs import addresses_of
 from .queues import queues_of
+from .remembering import Remembered
 from .state import SERVES, Whole
 from .status import Status, masters_of, others_of, started_workers, workers_of
 
@@ -18,6 +19,7 @@ class Summary:
 
     def __init__(self, service: "Service"):
         self.of, self.measures = service, Measures()
+        self.remembered: Remembered[Status] = Remembered()
 
     def addresses(self) -> list[str]:
         """The open addresses: while a word changes the service all of them, and else those that are wanted. One that was
@@ -97,7 +99,13 @@ class Summary:
         return [*self.of.master.block] if self.of.master else []
 
     def status(self) -> Status:
-        """Who runs, what was done last, and what is being done now."""
+        """Who runs, what was done last, and what is being done now. Many that ask at a time are told the same."""
+        of, done = self.of, self.of.chronicle.last_word()
+        key = (of.doing(), of.question, len(of.waiting), of.starts, of.keeping.restarts, done and done.began)
+        return self.remembered.get(self.looked, (key, of.watching.record.generation, *of.watching.record.workers))
+
+    def looked(self) -> Status:
+        """The same, found out anew."""
         of = self.of
         running, beats = started_workers(of.folder.workers), of.master.beats if of.master else {}
         lines = of.master.block if of.master else []

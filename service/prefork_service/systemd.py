@@ -1,8 +1,11 @@
 """What systemd is told, if it has started the service, and the sockets that it has for it."""
+import errno
 import os
 import socket
 import time
 from collections.abc import Iterable
+
+from .folder import say
 
 # What the system may take to accept a message.
 SECONDS = 1.0
@@ -72,7 +75,13 @@ def inherited() -> dict[str, socket.socket]:
     if not is_ours or not count.isdigit():
         return found
     for number in range(FIRST, FIRST + int(count)):
-        one = socket.socket(fileno=number)
+        try:
+            one = socket.socket(fileno=number)
+        except OSError as fault:
+            say(f"descriptor {number} of systemd is not used: {fault.strerror}")
+            if fault.errno == errno.EBADF:
+                break
+            continue
         one.set_inheritable(False)
         place = one.getsockname()
         is_new = one.getsockopt(socket.SOL_SOCKET, socket.SO_ACCEPTCONN)

@@ -1,6 +1,7 @@
 """Pages for people and for programs: HTTP that only reads, beside the loop of the service.
 
 A visitor that asks too slowly, or reads too slowly, is dropped; it delays nobody."""
+import os
 import selectors
 import socket
 import time
@@ -8,7 +9,7 @@ from collections.abc import Callable
 
 from .door import Door
 from .folder import say
-from .sockets import remove_stale
+from .sockets import file_of, remove_stale
 
 # How long a visit may take, and how long a question may be. How many visits there may be, and how many that say nothing.
 SECONDS, LONGEST, MOST_VISITS, MOST_SILENT = 10.0, 8192, 16, 16
@@ -53,7 +54,9 @@ class Site:
     def __init__(self, events: selectors.BaseSelector, address: str, pages: Pages):
         self.events, self.pages = events, pages
         self.visits: dict[socket.socket, Visit] = {}
-        self.listener = opened(address)
+        self.address, self.listener = address, opened(address)
+        # What tells its Unix socket from others.
+        self.file = file_of(address)
         self.door = Door(events, self.listener, self.welcome, say, MOST_SILENT)
 
     def welcome(self, client: socket.socket) -> None:
@@ -139,3 +142,5 @@ class Site:
 
     def end(self) -> None:
         self.listener.close()
+        if self.file and file_of(self.address) == self.file:
+            os.unlink(self.address)

@@ -76,6 +76,9 @@ class Queue:
             same = [self.others[-1]]
         if sum(len(other.askers) for other in self.others) >= MOST_WAITING and word.text not in STOPS:
             return False
+        if word.askers and sum(len(other.askers) for other in self.stops) >= MOST_WAITING:
+            # The service stops anyway.
+            return False
         if same:
             same[0].join(word)
         elif word.text in STOPS:

@@ -10,7 +10,7 @@ import unittest
 from typing import Any
 
 from kit import BIN, OUT, built, until
-from prefork_service.commands import Commands, mistake_of, parted, refusal_of
+from prefork_service.commands import EMPTY, HAS_PID, NO_LISTENERS, PID_OF_MASTER, Commands, mistake_of, parted, refusal_of
 from prefork_service.places import SHIM
 from prefork_service.preloading import Preloading
 
@@ -239,13 +239,31 @@ class CommandsTest(unittest.TestCase):
         self.commands.accepted.rmdir()
 
     def test_a_pid_of_the_master_is_seen(self) -> None:
-        self.assertFalse(self.commands.names_master())
+        self.configure('command = ["one"]\nlisteners = []\n')
+        self.commands.change("1.1")
+        self.assertIsNone(self.commands.fault())
         self.configure('command = ["one"]\npid = "/tmp/x"\n')
         self.commands.change("1.1")
-        self.assertTrue(self.commands.names_master())
+        self.assertEqual(self.commands.fault(), (HAS_PID, PID_OF_MASTER))
         self.configure("pid = [")
         self.commands.change("1.1")
-        self.assertFalse(self.commands.names_master())
+        self.assertIsNone(self.commands.fault())
+
+    def test_an_empty_configuration_is_seen(self) -> None:
+        for text in ("", "# soon\n", "workers = 2\n", 'command = ["one"]\n'):
+            self.configure(text)
+            self.commands.change("1.1")
+            self.assertEqual(self.commands.fault(), (NO_LISTENERS, EMPTY), text)
+        self.configure('[[groups]]\nlisteners = ["127.0.0.1:1"]\nworkers = 1\n')
+        self.commands.change("1.1")
+        self.assertIsNone(self.commands.fault())
+
+    def test_a_pipe_is_no_configuration(self) -> None:
+        self.config.unlink()
+        os.mkfifo(self.config)
+        self.commands.change("1.1")
+        self.assertEqual((self.commands.proposed_text, self.commands.next.exists()), (b"", False))
+        self.assertTrue(self.commands.has_changed())
 
     def test_why_the_master_refuses_a_configuration(self) -> None:
         program = self.room / "master"
@@ -313,6 +331,13 @@ class LaunchTest(unittest.TestCase):
             place.mkdir()
             (place / "next").write_bytes(b"PREFORK_ADDRESSES=a b\0sh\0-c\0echo $PREFORK_ADDRESSES $1\0sh\0A=b\0")
             self.assertEqual(self.launched(room, "child", "worker 1.1 0 7\n").stdout, "a b A=b\n")
+
+    def test_no_argument_of_a_command_is_cut(self) -> None:
+        for words in ([str(number) for number in range(5000)], ["x" * 100_000, "y" * 100_000]):
+            with tempfile.TemporaryDirectory() as room:
+                (pathlib.Path(room) / "commands").mkdir()
+                (pathlib.Path(room) / "commands" / "next").write_bytes("".join(f"{word}\0" for word in ["echo", *words]).encode())
+                self.assertEqual(self.launched(room, "child", "worker 1.1 0 7\n").stdout.split(), words)
 
     def test_a_worker_starts_where_the_path_leads_at_that_moment(self) -> None:
         with tempfile.TemporaryDirectory() as folder:

@@ -12,7 +12,7 @@ import tomllib
 import unittest
 from typing import Any
 
-from kit import BIN, PROGRAMS, answer_of, built, free_address, until
+from kit import BIN, PROGRAMS, PYTHON, answer_of, built, free_address, until
 from prefork_service.hooks import EVENTS
 
 SECONDS = 60
@@ -300,6 +300,84 @@ class WholeTest(unittest.TestCase):
         self.assertIn('prefork_words_total{word="TTIN",outcome="done"} 1\n', file.read_text())
         self.end()
         self.assertFalse(file.exists())
+
+    def test_what_is_removed_of_the_folder_is_made_again(self) -> None:
+        self.start()
+        for removed in ("ctl.sock", "keeper.sock", "workers", "serve.pid", "commands", "config.toml", "."):
+            place = self.folder / removed
+            with self.subTest(removed):
+                before = self.status()["keeper"]["process"]
+                subprocess.run(["rm", "-rf", place if removed != "." else self.folder], check=True)
+                self.assertTrue(until(lambda: place.exists() or removed == "config.toml", SECONDS), self.said.read_text())
+                self.assertTrue(until(lambda: self.ctl("HUP").returncode == 0, SECONDS), self.said.read_text())
+                if removed == "keeper.sock":
+                    self.assertNotEqual(self.status()["keeper"]["process"], before)
+                with socket.socket(socket.AF_UNIX, socket.SOCK_SEQPACKET) as asker:
+                    self.assertTrue(until(lambda: asker.connect_ex(str(self.folder / "keeper.sock")) == 0, SECONDS))
+                self.kill_master()
+                self.assertTrue(until(lambda: self.ctl("HUP").returncode == 0, SECONDS), self.said.read_text())
+        self.assertEqual(self.folder.stat().st_mode & 0o777, 0o700)
+        self.assertEqual(self.ctl("QUIT").returncode, 0)
+        self.assertEqual(self.serve.wait(SECONDS), 0)
+
+    def kill_master(self) -> None:
+        starts = self.status()["master_restarts"]
+        os.kill(self.status()["masters"][0], signal.SIGKILL)
+        self.assertTrue(until(lambda: (self.status() or {"master_restarts": 0})["master_restarts"] > starts, SECONDS))
+
+    def test_an_empty_configuration_is_refused(self) -> None:
+        self.start()
+        (self.room / "site.toml").write_text("")
+        sent = self.ctl("HUP")
+        self.assertEqual((sent.returncode, sent.stdout), (1, "word HUP\nrefused no-listeners\n"))
+        self.assertIn("no listeners and no groups", sent.stderr)
+        self.assertEqual(self.status()["addresses"], [self.address])
+        self.end()
+        command = [BIN / "prefork-serve", "--prefork", PROGRAMS / "master.py", "--folder", "other", "site.toml"]
+        found = subprocess.run(command, cwd=self.room, env=self.environment, capture_output=True, text=True, timeout=SECONDS)
+        self.assertEqual(found.returncode, 1)
+        self.assertIn("no listeners and no groups", found.stderr)
+
+    def test_a_page_at_a_unix_socket_starts_again(self) -> None:
+        page = self.room / "page.sock"
+        self.start("--page", str(page))
+        self.end()
+        self.assertFalse(page.exists())
+        self.start("--page", str(page))
+        self.serve.kill()
+        self.serve.wait(SECONDS)
+        self.assertTrue(page.exists())
+        self.start("--page", str(page))
+        self.assertTrue(page.exists())
+
+    def test_signals_that_were_blocked_are_heard(self) -> None:
+        command = [PYTHON, "-c", "import os, signal, sys; signal.pthread_sigmask(signal.SIG_BLOCK, range(1, 32)); "
+                   "os.execv(sys.argv[1], sys.argv[1:])", BIN / "prefork-serve", "--prefork", PROGRAMS / "master.py", "site.toml"]
+        with open(self.said, "a") as said:
+            self.serve = subprocess.Popen(command, cwd=self.room, env=self.environment, stderr=said)
+        self.assertTrue(until(lambda: self.status(), SECONDS))
+        self.serve.send_signal(signal.SIGQUIT)
+        self.assertEqual(self.serve.wait(SECONDS), 0)
+
+    def test_a_start_that_is_stopped_leaves_nothing_and_shows_no_trace(self) -> None:
+        for moment in range(8):
+            command = [BIN / "prefork-serve", "--prefork", PROGRAMS / "master.py", "site.toml"]
+            serve = subprocess.Popen(command, cwd=self.room, env=self.environment, stderr=subprocess.PIPE, text=True)
+            self.assertTrue(until((self.folder / "serve.pid").exists, SECONDS))
+            until(lambda: False, moment / 20)
+            serve.send_signal(signal.SIGINT)
+            said = serve.communicate(timeout=SECONDS)[1]
+            self.assertNotIn("Traceback", said)
+            self.assertIn(serve.returncode, (0, 1), said)
+            self.assertEqual([name for name in os.listdir(self.folder) if name.endswith((".sock", ".pid", "workers"))], [], said)
+
+    def test_a_descriptor_of_systemd_that_is_no_socket(self) -> None:
+        script = 'LISTEN_FDS=2 LISTEN_PID=$$ exec "$@" 3<site.toml 4>&-'
+        command = ["sh", "-c", script, "sh", BIN / "prefork-serve", "--prefork", PROGRAMS / "master.py", "site.toml"]
+        with open(self.said, "a") as said:
+            self.serve = subprocess.Popen(command, cwd=self.room, env=self.environment, stderr=said)
+        self.assertTrue(until(lambda: self.status(), SECONDS))
+        self.assertIn("descriptor 3 of systemd is not used: Socket operation on non-socket", self.said.read_text())
 
 
 if __name__ == "__main__":
