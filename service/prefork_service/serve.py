@@ -102,15 +102,19 @@ def serve(given: argparse.Namespace, folder: Folder, commands: Commands, stored:
     configurations = ["--from", commands.now, "--to", commands.next]
     supervise = [given.prefork, "supervise", "--verbose", "--program", places.LAUNCH, *configurations]
     of_keeper = [*([DEFER] if given.defer_accept else []), *socket_options(given)]
-    keeping = Keeping(selectors.DefaultSelector(), folder, of_keeper, stored)
-    place = pathlib.Path(given.records or folder.path).absolute()
-    chronicle, service = Chronicle(folder, place, int(given.records_size * MEGABYTE)), None
+    place, ends = pathlib.Path(given.records or folder.path).absolute(), [commands.clear, folder.clear]
     try:
+        keeping = Keeping(selectors.DefaultSelector(), folder, of_keeper, stored)
+        ends.insert(0, keeping.end)
+        chronicle = Chronicle(folder, place, int(given.records_size * MEGABYTE))
+        ends.insert(1, chronicle.end)
         keeping.hold(addresses_of(commands.now.read_bytes()))
         adopt_orphans()
         if given.preload and commands.default:
             commands.preloading = Preloading(keeping.events, folder, commands.default, ready_seconds(given))
+            ends.insert(0, commands.preloading.end)
         service = Service(keeping, supervise, commands, chronicle, limits_of(given))
+        ends.insert(0, service.telling.end)
         service.telling.open(keeping.events, given.metrics, given.page)
         commands.ready_seconds = ready_seconds(given)
         service.keeps_trying, service.telling.hooks = given.keep_trying, Hooks(hooks_of(given))
@@ -127,9 +131,7 @@ def serve(given: argparse.Namespace, folder: Folder, commands: Commands, stored:
         sys.exit(f"prefork-serve: {fault_shown(str(fault))}")
     finally:
         notify("STOPPING=1")
-        ends = [service.telling.end] if service else []
-        ends += [commands.preloading.end] if commands.preloading else []
-        for end in (*ends, keeping.end, chronicle.end, commands.clear, folder.clear):
+        for end in ends:
             Barrier(say).duty(end)
 
 

@@ -24,7 +24,7 @@ class AttendedTest(unittest.TestCase):
         room = tempfile.TemporaryDirectory(prefix="attended-")
         self.addCleanup(room.cleanup)
         self.room = pathlib.Path(room.name)
-        (self.room / "site.toml").write_text('command = ["false"]\nworkers = 1\n')
+        (self.room / "site.toml").write_text('command = ["false"]\nlisteners = []\nworkers = 1\n')
         self.said = open(self.room / "said", "w+")
         self.addCleanup(self.said.close)
         command = [BIN / "prefork-serve", "--prefork", PROGRAMS / "asking.py", "site.toml"]

@@ -16,7 +16,7 @@ SECONDS = 120
 # What raises, by what is done to have it called.
 CALLS = {
     "status": ["door.Door.admit", "door.Door.give", "asking.Asking.hear_asker", "asking.Asking.take_text",
-               "service.Service.status", "service.Service.brief"],
+               "summary.Summary.status", "summary.Summary.looked", "summary.Summary.brief"],
     "signal": ["asking.Asking.hear_signals", "asking.Asking.take_signal", "service.Service.take", "words.Queue.take",
                "words.Queue.next"],
     "word": ["service.Service.tell_next", "service.Service.has_read", "service.Service.hear_master",
@@ -29,7 +29,7 @@ CALLS = {
     "rest": ["service.Service.pause", "service.Service.hurry", "service.Service.end_late", "door.Door.tend", "door.Door.seconds",
              "keeping.Keeping.hear", "keeping.Keeping.tend", "keeping.Keeping.tell", "chronicle.Chronicle.tend",
              "records.Records.tend", "telling.Telling.tend", "ticks.Ticks.is_due", "ticks.Ticks.tell", "leaving.Leaving.tend",
-             "web.Site.tend", "service.Service.line", "patience.Hanging.tend"],
+             "web.Site.tend", "summary.Summary.line", "watching.Watching.look", "patience.Hanging.tend"],
     "page": ["web.Site.welcome", "web.Site.hear", "web.Site.answer", "web.Site.say_more", "web.Site.drop"],
     "master": ["service.Service.end_master", "service.Service.begin_master", "service.Service.take_master",
                "master.Master.close", "commands.Commands.begin", "chronicle.Chronicle.begin_master",

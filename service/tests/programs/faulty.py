@@ -17,15 +17,15 @@ sys.dont_write_bytecode = True
 sys.path.insert(0, str(pathlib.Path(__file__).resolve().parent.parent.parent))
 
 from prefork_service import (  # noqa: E402
-    asking, chronicle, commands, door, keeping, leaving, master, patience, preloading, records, serve, service, telling,
-    ticks, web, words,
+    asking, chronicle, commands, door, keeping, leaving, master, patience, preloading, records, serve, service,
+    summary, telling, ticks, watching, web, words,
 )
 
 PLACE = pathlib.Path(os.environ["FAULTS"])
 CLASSES = [
     asking.Asking, chronicle.Chronicle, commands.Commands, door.Door, keeping.Keeping, leaving.Leaving, master.Master,
-    patience.Hanging, preloading.KeptPreloader, preloading.Preloading, records.Records, service.Service, telling.Telling,
-    ticks.Ticks, web.Site, words.Queue,
+    patience.Hanging, preloading.KeptPreloader, preloading.Preloading, records.Records, service.Service, summary.Summary,
+    telling.Telling, ticks.Ticks, watching.Watching, web.Site, words.Queue,
 ]
 
 
