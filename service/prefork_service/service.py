@@ -85,7 +85,8 @@ class Service:
         preloading = [self.commands.preloading.tend] if self.commands.preloading else []
         tends: list[Callable] = [self.commands.mend, self.keeping.mend, self.asking.tend, self.keeping.tend, *preloading, self.hurry]
         tends += [bury_orphans, self.hanging.tend, self.end_late]
-        for tend in [*tends, self.chronicle.tend, self.telling.tend, sys.stderr.flush]:
+        tends += [self.chronicle.tend, self.telling.tend, sys.stderr.flush]
+        for tend in tends:
             duty(tend)
 
     def hurry(self) -> None:
