@@ -112,7 +112,7 @@ class FaultyTest(unittest.TestCase):
 class FaultsTest(FaultyTest):
     def ways(self) -> dict[str, Callable[[], Any]]:
         return {
-            "status": lambda: self.asked("status"), "word": lambda: self.asked("HUP"), "rest": lambda: None,
+            "status": self.ask_status, "word": lambda: self.asked("HUP"), "rest": lambda: None,
             "errors": lambda: ((self.blocks / "USR1").write_text("done\n"), self.asked("USR1")),
             "signal": lambda: self.serve.send_signal(signal.SIGTTIN), "page": self.visit,
             "master": lambda: self.killed("supervise"), "keeper": lambda: self.killed("prefork-keeper"),
@@ -130,6 +130,10 @@ class FaultsTest(FaultyTest):
 
         self.assertTrue(until(owes, SECONDS))
         self.killed("supervise")
+
+    def ask_status(self) -> None:
+        """Asks until the call has raised: what was found out a moment ago is told again."""
+        until(lambda: self.asked("status") == "?" or not (self.faults / "raise").exists(), SECONDS)
 
     def visit(self) -> None:
         try:
