@@ -301,6 +301,9 @@ class Commands:
         if not self.folder.mend() and self.place.exists():
             return
         self.place.mkdir(mode=0o700, exist_ok=True)
+        if self.config.parent == self.place and not self.config.exists():
+            # What the command line has said in place of a file.
+            self.config.write_bytes(self.current_text)
         self.write_next(self.started_by(self.current, False), self.now_text)
         self.accept()
 
