@@ -50,11 +50,11 @@ _prefork() {
     esac
     local before=("${COMP_WORDS[@]:2:COMP_CWORD-2}")
 
-    # Each option may be given once, and none after --.
+    # Each option may be given once, and none after --; certify takes --to several times.
     if [[ $cur == -* ]]; then
         [[ " ${before[*]} " == *' -- '* ]] && return
         for word in $options; do
-            [[ " ${before[*]} " == *" $word "* ]] && continue
+            [[ " ${before[*]} " == *" $word "* && "${COMP_WORDS[1]} $word" != 'certify --to' ]] && continue
             [[ $word == "$cur"* ]] && COMPREPLY+=("$word")
         done
         return

@@ -11,6 +11,8 @@ from .records import GAP, LOST, blocks_of, files_of, masters_in, part_number
 
 # Blocks of words that were refused before anything was asked of the kernel: certify would carry them out.
 REFUSED = re.compile(r"(?:word .*\nrefused (?:C\d|W4).*|unread .*)\n")
+# Blocks of words that were carried out and can go over to another configuration.
+GOES_OVER = re.compile(r"word (?:HUP|USR2|USR2 attended)\n(?!refused |nothing\n)")
 NOT_ACCEPTED, NOT_COMPARED = 5, 1
 BEGINNING = "its beginning is no longer there"
 
@@ -50,11 +52,18 @@ def life_of(folder: pathlib.Path) -> Life:
     return Life(folder, begin, blocks_of(text), dict(sorted(targets.items())), lacks, lost)
 
 
-def compared(life: Life) -> tuple[list[str], bytes]:
-    """The blocks that one `prefork certify` can compare, which knows one configuration to go over to; and that one."""
-    target = next(iter(life.targets.values()), b"")
-    other = next((number for number, text in life.targets.items() if text != target), len(life.blocks) + 1)
-    return life.blocks[: other - 1], target
+def goals_of(life: Life) -> list[bytes]:
+    """The configuration that each word went over to which was carried out, in their order: the newest that was read
+    up to its block. `prefork certify` lets all later words go over to the last one: it need not be told again."""
+    goals = [target_at(life, number) for number, block in enumerate(life.blocks, 1) if GOES_OVER.match(block)]
+    while len(goals) > 1 and goals[-1] == goals[-2]:
+        goals.pop()
+    return goals
+
+
+def target_at(life: Life, number: int) -> bytes:
+    read = [text for first, text in life.targets.items() if first <= number]
+    return read[-1] if read else life.begin.read_bytes()
 
 
 def certified(life: Life, prefork: str) -> tuple[str, int]:
@@ -62,8 +71,7 @@ def certified(life: Life, prefork: str) -> tuple[str, int]:
     head = f"{life.folder.name}, since {life.since}"
     if life.lacks.startswith(BEGINNING):
         return f"{head}: {life.lacks}; {len(life.blocks)} blocks are not compared", 0
-    blocks, target = compared(life)
-    found = answered(life, prefork, blocks, target)
+    found = answered(life, prefork)
     if isinstance(found, tuple) and found[0] in life.lost:
         # What the model has no master's death for. The next master has a record of its own.
         return f"{head}: {counted(found[0] - 1)}, from the first on{ended_before(life, found[0])}", 0
@@ -72,10 +80,7 @@ def certified(life: Life, prefork: str) -> tuple[str, int]:
         return f"{head}: block {found[0]}, {word}, is not accepted: {found[1]}", NOT_ACCEPTED
     if found:
         return f"{head}: nothing was compared: {found}", NOT_COMPARED
-    told, left = f"{head}: {counted(len(blocks))}, from the first on", len(life.blocks) - len(blocks)
-    if left:
-        word = life.blocks[len(blocks)].splitlines()[0]
-        told += f"; {left} more, from block {len(blocks) + 1} on, {word}, go over to another configuration again and are not compared"
+    told = f"{head}: {counted(len(life.blocks))}, from the first on"
     return f"{told}; {life.lacks}" if life.lacks else told, 0
 
 
@@ -89,19 +94,27 @@ def ended_before(life: Life, number: int) -> str:
     return f"; before block {number}, {word}, the new master had ended. The service saw that, and started the next master"
 
 
-def answered(life: Life, prefork: str, blocks: list[str], target: bytes) -> tuple[int, str] | str:
+def answered(life: Life, prefork: str) -> tuple[int, str] | str:
     """The number of the block that `prefork certify` does not accept, and why; or why it compares nothing; or nothing."""
-    chosen = [(number, block) for number, block in enumerate(blocks, 1) if not REFUSED.fullmatch(block)]
+    chosen = [(number, block) for number, block in enumerate(life.blocks, 1) if not REFUSED.fullmatch(block)]
     with tempfile.TemporaryDirectory(prefix="certify-") as room:
-        (pathlib.Path(room) / "to.toml").write_bytes(target)
-        goal = ["--to", f"{room}/to.toml"] if target else []
-        command: list[Any] = [prefork, "certify", "--bare", "--from", life.begin, *goal]
+        files = goal_files(pathlib.Path(room), goals_of(life))
+        goals = [argument for file in files for argument in ("--to", file)]
+        command: list[Any] = [prefork, "certify", "--bare", "--from", life.begin, *goals]
         text = "".join(block for _, block in chosen)
         found = subprocess.run(command, input=text, capture_output=True, text=True)
     said = re.match(r"prefork: certify (\d+) (.*)", found.stderr)
     if said:
         return chosen[int(said[1]) - 1][0], said[2]
     return found.stderr.strip() or f"status {found.returncode}" if found.returncode else ""
+
+
+def goal_files(room: pathlib.Path, goals: list[bytes]) -> list[pathlib.Path]:
+    """A file for each goal; those that are the same share one."""
+    files = {text: room / f"to.{number}.toml" for number, text in enumerate(dict.fromkeys(goals), 1)}
+    for text, file in files.items():
+        file.write_bytes(text)
+    return [files[text] for text in goals]
 
 
 def certify(place: pathlib.Path, prefork: str) -> tuple[list[str], int]:

@@ -7,12 +7,17 @@ from prefork_service.certifying import certify
 
 DONE = "done cause none pid no-file\n"
 START, HUP, TTIN = f"word tick 0\n{DONE}", f"word HUP\n{DONE}", f"word TTIN\n{DONE}"
-REFUSED = "word HUP\nrefused C1\n"
+USR2, ATTENDED = f"word USR2\n{DONE}", f"word USR2 attended\n{DONE}"
+REFUSED, NOTHING = "word HUP\nrefused C1\n", "word HUP\nnothing\n"
 # In place of `prefork certify`: keeps what it is given, and refuses the block that the file `wrong` names.
 PROGRAM = """#!/bin/sh
 here=$(dirname "$0")
 echo "$@" >"$here/arguments"
-cat "$4" "$6" >"$here/configurations" 2>/dev/null
+cat "$4" >"$here/configurations"
+for argument; do
+    [ "$before" = --to ] && cat "$argument" >>"$here/configurations"
+    before=$argument
+done
 cat >"$here/given"
 [ -f "$here/wrong" ] || exit 0
 cat "$here/wrong" >&2
@@ -69,11 +74,18 @@ class CertifyingTest(unittest.TestCase):
         (self.room / "wrong").unlink()
         self.assertIn(": 4 blocks are accepted", self.said(0)[0])
 
-    def test_a_master_is_compared_up_to_another_configuration(self) -> None:
-        files = {"to_2_toml": "b", "to_4_toml": "b", "to_5_toml": "c"}
-        self.keep("1", from_toml="a", blocks_1=START + HUP + TTIN + HUP + HUP + TTIN, **files)
-        self.assertIn("4 blocks are accepted, from the first on; 2 more, from block 5 on, word HUP, go over", self.said(0)[0])
-        self.assertEqual((self.given(), self.given("configurations")), (START + HUP + TTIN + HUP, "ab"))
+    def test_each_word_goes_over_to_its_own_configuration(self) -> None:
+        files = {"to_2_toml": "b", "to_6_toml": "c", "to_8_toml": "d"}
+        words = START + HUP + TTIN + HUP + REFUSED + USR2 + NOTHING + ATTENDED + HUP + TTIN
+        self.keep("1", from_toml="a", blocks_1=words, **files)
+        self.assertIn(": 10 blocks are accepted, from the first on", self.said(0)[0])
+        # The refused word takes none, nor does one that found nothing to do, and the last one stays for later words.
+        self.assertEqual((self.given(), self.given("configurations")), (words.replace(REFUSED, ""), "abbcd"))
+
+    def test_a_configuration_that_was_never_read_is_that_of_the_start(self) -> None:
+        self.keep("1", from_toml="a", blocks_1=START + HUP)
+        self.said(0)
+        self.assertEqual(self.given("configurations"), "aa")
 
     def test_a_beginning_that_is_gone(self) -> None:
         self.keep("1", from_toml="a", blocks_2=HUP)

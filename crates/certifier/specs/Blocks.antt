@@ -1,5 +1,5 @@
 -- Blocks, compared one after another with plans and kernel.
-use Rattle.std.specs.Prelude.{⊤, ℕ, ◌≡◌, ◌+◌, ◌-◌, ◌⊎◌, List, [], ◌∷◌, ◌++◌, length, take, Option, Some, None}
+use Rattle.std.specs.Prelude.{⊤, ℕ, ◌≡◌, ◌+◌, ◌-◌, ◌⊎◌, if◌then◌else◌, Bool, true, false, List, [], ◌∷◌, ◌++◌, length, slice_get, take, Option, Some, None}
 use Rattle.vocabulary.specs.Settings.{Settings}
 use Rattle.vocabulary.specs.declared.targets.Target.{Target}
 use Rattle.vocabulary.specs.declared.reports.Entry.{Entry}
@@ -9,6 +9,7 @@ use Rattle.kernel_model.specs.State.{State}
 use Rattle.worker_table.specs.Beats.{Workers}
 use Rattle.worker_table.specs.Calls.{beating}
 use Rattle.control_words.specs.declared.words.Word.{Word}
+use Rattle.control_words.specs.declared.words.Word.TheVariants.{Hup, Usr2, Usr2Attended}
 use Rattle.word_runner.specs.declared.asking.Asked.{Asked}
 use Rattle.word_runner.specs.declared.asking.Asked.TheVariants as asks
 use Rattle.word_runner.specs.declared.block.Block.{Block}
@@ -86,17 +87,45 @@ abbrev pub IsFault : Option Settings → Block → Standing State → Mismatch �
 IsFault settings (Heard word body) s why = IsBodyFault settings word body s why
 IsFault settings (Unread refusal) s why = ⊥
 
+---- The goals of words: the settings that they go over to, one after another
+
+-- a word that can go over to other settings, and that was carried out
+abbrev pub goes_over : Block → Bool
+goes_over (Heard Hup (Ran log report)) = true
+goes_over (Heard Usr2 (Ran log report)) = true
+goes_over (Heard Usr2Attended (Ran log report)) = true
+goes_over _ = false
+
+-- the goal of the next word: the first of those that are left
+abbrev pub goal_of : List Settings → Option Settings
+goal_of goals = slice_get goals 0
+
+-- without the first one, unless it is the last
+abbrev pub later_goals : List Settings → List Settings
+later_goals [] = []
+later_goals (g ∷ []) = g ∷ []
+later_goals (g ∷ h ∷ gs) = h ∷ gs
+
+-- Those that are left after a block, and after blocks: each word that goes over takes one, and the last one stays.
+abbrev pub goals_then : Block → List Settings → List Settings
+goals_then b goals = if goes_over b then later_goals goals else goals
+
+abbrev pub goals_after : List Block → List Settings → List Settings
+goals_after [] goals = goals
+goals_after (b ∷ bs) goals = goals_after bs (goals_then b goals)
+
 ---- Block after block
 
--- Sections explain blocks, one each, which lead from one standing to the other.
-abbrev pub AreTaken : Option Settings → List Block → Standing State → List Section → Standing State → Type 0
-AreTaken settings [] old [] new = new ≡ old
-AreTaken settings [] old (s ∷ ss) new = ⊥
-AreTaken settings (b ∷ bs) old [] new = ⊥
-AreTaken settings (b ∷ bs) old (s ∷ ss) new = (middle : Standing State) × IsTaken settings b old s middle × AreTaken settings bs middle ss new
+-- Sections explain blocks, one each, which lead from one standing to the other. Each word goes over to the goal that is its.
+abbrev pub AreTaken : List Settings → List Block → Standing State → List Section → Standing State → Type 0
+AreTaken goals [] old [] new = new ≡ old
+AreTaken goals [] old (s ∷ ss) new = ⊥
+AreTaken goals (b ∷ bs) old [] new = ⊥
+AreTaken goals (b ∷ bs) old (s ∷ ss) new =
+    (middle : Standing State) × IsTaken (goal_of goals) b old s middle × AreTaken (goals_then b goals) bs middle ss new
 
 -- The blocks before the n-th, counted from 1, are explained, and where they lead to it is wrong for this reason, or memory is wanted.
-pub record StopsAtBlock (settings : Option Settings) (blocks : List Block) (old : Standing State) (n : ℕ) (why : Mismatch) : Type 0 where
+pub record StopsAtBlock (goals : List Settings) (blocks : List Block) (old : Standing State) (n : ℕ) (why : Mismatch) : Type 0 where
   pub front : List Block
   pub block : Block
   pub behind : List Block
@@ -104,9 +133,9 @@ pub record StopsAtBlock (settings : Option Settings) (blocks : List Block) (old 
   pub number : n ≡ length front + 1
   pub sections : List Section
   pub there : Standing State
-  pub taken : AreTaken settings front old sections there
-  pub fault : (why ≡ mismatch.Memory) ⊎ IsFault settings block there why
+  pub taken : AreTaken goals front old sections there
+  pub fault : (why ≡ mismatch.Memory) ⊎ IsFault (goal_of (goals_after front goals)) block there why
 
 -- The blocks before the n-th, counted from 1, lead from the one standing to the other.
-abbrev pub LeadsUpTo : Option Settings → List Block → Standing State → ℕ → Standing State → Type 0
-LeadsUpTo settings blocks old n new = (sections : List Section) × AreTaken settings (take (n - 1) blocks) old sections new
+abbrev pub LeadsUpTo : List Settings → List Block → Standing State → ℕ → Standing State → Type 0
+LeadsUpTo goals blocks old n new = (sections : List Section) × AreTaken goals (take (n - 1) blocks) old sections new

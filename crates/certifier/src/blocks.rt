@@ -2,7 +2,7 @@
 ghost use Rattle.std.specs.Prelude.{⊤, ◌≡◌, ◌<◌, ◌⊎◌, ◌↔◌, [], vec_capacity, vec_len, IfOk, IfErr, OnOk, OnErr, IsErrOf};
 ghost use Rattle.std.specs.Option.{option_copied};
 ghost use Rattle.word_runner.specs.Asking.{IsPossible, IsActOn};
-ghost use Rattle.certifier.specs.Blocks.{asked_at, IsIdle, IsFollowed, IsTaken, IsRunFaultOf, IsFault, AreTaken, StopsAtBlock, LeadsUpTo};
+ghost use Rattle.certifier.specs.Blocks.{asked_at, goal_of, goals_after, goals_then, goes_over, later_goals, IsIdle, IsFollowed, IsTaken, IsRunFaultOf, IsFault, AreTaken, StopsAtBlock, LeadsUpTo};
 ghost use Rattle.plan_executor.specs.Words.{quiet_section};
 ghost use Rattle.mismatches.specs.declared.Mismatch.{Mismatch as Why};
 
@@ -28,26 +28,78 @@ pub struct BlockMismatch {
 /// Compares blocks one after another, each from where the ones before it left things, and gives the sections that
 /// explain them, one for each. Then things stand where the last block leaves them. The first that is none of the
 /// master's is the mismatch, and things stand where the blocks before it leave them.
+///
+/// Each HUP and USR2 that was carried out goes over to the next of the goals, and all after the last one to that.
 pub fn certify_blocks(
     alloc: Global,
     standing: &mut Standing<Kernel>,
-    settings: Option<&Settings>,
+    goals: &[Settings],
     blocks: &[Block],
 ) -> Result<Vec<Section>, BlockMismatch>
-    ensures ok { IfOk result (λ sections. AreTaken (option_copied settings.entry) blocks.now standing.old sections.items standing.new) }
-    ensures err { IfErr result (λ e. StopsAtBlock (option_copied settings.entry) blocks.now standing.old e.number e.why) }
-    ensures stands { IfErr result (λ e. LeadsUpTo (option_copied settings.entry) blocks.now standing.old e.number standing.new) }
+    ensures ok { IfOk result (λ sections. AreTaken goals.now blocks.now standing.old sections.items standing.new) }
+    ensures err { IfErr result (λ e. StopsAtBlock goals.now blocks.now standing.old e.number e.why) }
+    ensures stands { IfErr result (λ e. LeadsUpTo goals.now blocks.now standing.old e.number standing.new) }
 {
     let mut sections = Vec::new(alloc);
+    let mut left = goals;
     for (place, block) in blocks.iter().enumerate() {
         let number = place + 1;
         make_room(&mut sections, number)?;
-        match certify_block(alloc, standing, settings, block) {
+        match certify_block(alloc, standing, goal_of(left), block) {
             Ok(section) => sections.push_reserved(section),
             Err(why) => return Err(BlockMismatch { number, why }),
         }
+        left = goals_then(block, left);
     }
     Ok(sections)
+}
+
+/// The goal of the next word.
+fn goal_of(goals: &[Settings]) -> Option<&Settings>
+    ensures { option_copied result ≡ goal_of goals.now }
+{
+    goals.first()
+}
+
+/// The goals that are left after blocks.
+pub fn goals_after<'a>(goals: &'a [Settings], blocks: &[Block]) -> &'a [Settings]
+    ensures { result.now ≡ goals_after blocks.now goals.now }
+{
+    let mut left = goals;
+    for block in blocks {
+        left = goals_then(block, left);
+    }
+    left
+}
+
+/// The goals that are left after a block.
+fn goals_then<'a>(block: &Block, goals: &'a [Settings]) -> &'a [Settings]
+    ensures { result.now ≡ goals_then block.now goals.now }
+{
+    if goes_over(block) {
+        later_goals(goals)
+    } else {
+        goals
+    }
+}
+
+/// All goals but the first, unless that is the last one.
+fn later_goals(goals: &[Settings]) -> &[Settings]
+    ensures { result.now ≡ later_goals goals.now }
+{
+    if goals.len() > 1 { &goals[1..] } else { goals }
+}
+
+/// Whether a word can go over to other settings, and was carried out.
+fn goes_over(block: &Block) -> bool
+    ensures { result ≡ goes_over block.now }
+{
+    match block {
+        Block::Heard(word, Body::Ran(..)) => {
+            matches!(*word, Word::Hup | Word::Usr2 | Word::Usr2Attended)
+        }
+        _ => false,
+    }
 }
 
 /// Makes room for the section of the block with this number.

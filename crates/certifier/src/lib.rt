@@ -10,6 +10,6 @@ mod showing;
 mod turns_used;
 
 pub use beginning::certify_beginning;
-pub use blocks::{BlockMismatch, certify_block, certify_blocks};
+pub use blocks::{BlockMismatch, certify_block, certify_blocks, goals_after};
 pub use certification::certify;
 pub use mismatches::Mismatch;

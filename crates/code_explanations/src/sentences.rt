@@ -83,9 +83,8 @@ first block on.",
 The number of the block, counted from 1, and the difference follow: Y1 to
 Y4. First check that --from, --to, --workers, --bare and --held are those of
 the master that wrote the blocks (--bare for `supervise`), and that the
-input begins with that master's first block. Of a master that went over to
-two different configurations, the blocks from the second one on can't be
-compared.",
+input begins with that master's first block. If its words went over to
+several configurations, give a --to for each HUP and USR2, in their order.",
     },
     Explanation {
         code: "file",

@@ -1,6 +1,6 @@
 -- The command line in the terms of `clap`, and what arguments ask for.
 use Rattle.std.specs.Prelude.{◌≡◌, ◌≢◌, ◌⊎◌, ⊤, ℕ, Bool, List, [], ◌∷◌, Option, Some, None, false, true}
-use Rattle.std.specs.Prelude.{bytes_eq, codes, option_map}
+use Rattle.std.specs.Prelude.{bytes_eq, codes, option_map, unwrap_or}
 use Rattle.clap.specs.Lexer.{usize_max}
 use Rattle.clap.specs.Walk.{Row, Rule, Text, all_of, first_of, texts}
 use Rattle.clap.specs.Simple.{App, new_app, new_rule, on_top, subcommand_of, with_rule}
@@ -33,6 +33,12 @@ option_rule name = record (new_rule name) {
   long = Some name;
   action = Some Set;
   value_names = 1;
+}
+
+-- `--NAME VALUE`, as often as it is given
+abbrev pub repeated_rule : Text → Rule
+repeated_rule name = record (option_rule name) {
+  action = Some Append;
 }
 
 -- `--NAME`
@@ -77,9 +83,17 @@ code_rule = record (new_rule (codes "code")) {
 abbrev pub with_files : App → App
 with_files app = with_rule (with_rule app (option_rule (codes "from"))) (option_rule (codes "to"))
 
+-- `[--from FILE] [--to FILE]..`
+abbrev pub with_goals : App → App
+with_goals app = with_rule (with_rule app (option_rule (codes "from"))) (repeated_rule (codes "to"))
+
+-- `[--workers N] [--bare] [--why]`
+abbrev pub with_running : App → App
+with_running app = with_rule (with_rule (with_rule app (option_rule (codes "workers"))) (flag_rule (codes "bare"))) (flag_rule (codes "why"))
+
 -- `[--from FILE] [--to FILE] [--workers N] [--bare] [--why] [--json]`
 abbrev pub with_start : App → App
-with_start app = with_rule (with_rule (with_rule (with_files app) (option_rule (codes "workers"))) (flag_rule (codes "bare"))) (flag_rule (codes "why"))
+with_start app = with_running (with_files app)
 
 abbrev pub with_answer : App → App
 with_answer app = with_rule (with_start app) (flag_rule (codes "json"))
@@ -106,7 +120,7 @@ abbrev pub explore_app : App
 explore_app = with_rule (with_demands (with_runs (with_list (new_app (codes "explore"))))) word_rule
 
 abbrev pub certify_app : App
-certify_app = with_rule (with_answer (new_app (codes "certify"))) (option_rule (codes "held"))
+certify_app = with_rule (with_rule (with_running (with_goals (new_app (codes "certify")))) (flag_rule (codes "json"))) (option_rule (codes "held"))
 
 abbrev pub check_app : App
 check_app = with_rule (new_app (codes "check")) (several_rule (codes "files"))
@@ -194,10 +208,11 @@ pub record Exploration : Type 0 where
   pub progress : Bool
   pub word : Text
 
--- what `certify` is given
+-- what `certify` is given; the goals are all files of `--to`, of which the start names the first
 pub record Certification : Type 0 where
   pub start : Start
   pub held : Option Text
+  pub goals : List Text
 
 -- how long a child may keep its master waiting, in seconds
 pub record Limiting : Type 0 where
@@ -262,6 +277,7 @@ abbrev pub certification_of : CertifyOptions → Certification
 certification_of options = record {
   start = start_of options.start;
   held = option_map (λ text. text.now) options.held;
+  goals = texts options.goals.items;
 }
 
 abbrev pub limiting_of : LimitOptions → Limiting
@@ -334,6 +350,7 @@ pub record FindsExploration (rows : List Row) (values : Exploration) : Type 0 wh
 pub record FindsCertification (rows : List Row) (values : Certification) : Type 0 where
   pub start : FindsStart rows values.start
   pub held : values.held ≡ first_of (codes "held") rows
+  pub goals : values.goals ≡ unwrap_or (all_of (codes "to") rows) []
 
 abbrev pub FindsFiles : List Row → List Text → Type 0
 FindsFiles rows files = all_of (codes "files") rows ≡ Some files

@@ -2,13 +2,13 @@
 ghost use Rattle.std.specs.Prelude.{◌≡◌, IfOk, false};
 ghost use Rattle.clap.specs.Words.{App, app_of, new_app, new_rule, rule_of, with_rule, with_subcommand};
 ghost use Rattle.clap.specs.declared.builder.command.Command.TheViews.{out-Command};
-ghost use Rattle.command_line.specs.Arguments.{adopt_app, bare_app, certify_app, check_app, child_app, code_rule, enact_app, explain_app, explore_app, flag_rule, option_rule, plan_app, prefork_app, program_rule, required_rule, several_rule, supervise_app, with_answer, with_children, with_demands, with_family, with_files, with_limits, with_readers, with_list, with_runs, with_start, with_words, word_rule, words_rule};
+ghost use Rattle.command_line.specs.Arguments.{adopt_app, bare_app, certify_app, check_app, child_app, code_rule, enact_app, explain_app, explore_app, flag_rule, option_rule, plan_app, prefork_app, program_rule, repeated_rule, required_rule, several_rule, supervise_app, with_answer, with_children, with_demands, with_family, with_files, with_goals, with_limits, with_readers, with_list, with_running, with_runs, with_start, with_words, word_rule, words_rule};
 
 use crate::help::{
     ADOPT_HELP, ADOPT_NOTES, ANSWER_HELP, BARE_HELP, CERTIFY_NOTES, CHECK_NOTES, CHILD_NOTES,
     CODE_HELP, DOT_HELP, ENACT_NOTES, EVENTS_HELP, EXPLAIN_NOTES, EXPLORE_NOTES, FILES_HELP,
-    FORBID_HELP, FROM_HELP, HELD_HELP, JSON_HELP, LEAST_HELP, LIMIT_HELP, LIST_HELP, PLAN_NOTES,
-    PROGRAM_HELP, PROGRAM_NOTES, PROGRESS_HELP, READY_HELP, REQUIRE_HELP, STATE_HELP,
+    FORBID_HELP, FROM_HELP, GOALS_HELP, HELD_HELP, JSON_HELP, LEAST_HELP, LIMIT_HELP, LIST_HELP,
+    PLAN_NOTES, PROGRAM_HELP, PROGRAM_NOTES, PROGRESS_HELP, READY_HELP, REQUIRE_HELP, STATE_HELP,
     SUPERVISE_NOTES, TO_HELP, TURNS_HELP, VERBOSE_HELP, WHY_HELP, WORD_HELP, WORDS_HELP,
     WORKERS_HELP,
 };
@@ -217,7 +217,9 @@ fn certify<'a>(alloc: Global) -> Result<Command<'a>, AllocError>
         "Check blocks against plans and model",
         CERTIFY_NOTES,
     );
-    let command = with_answer(alloc, command)?;
+    let command = with_goals(alloc, command)?;
+    let command = with_running(alloc, command)?;
+    let command = with_flag(alloc, command, "json", JSON_HELP)?;
     with_option(alloc, command, "held", "ADDRESS", HELD_HELP)
 }
 
@@ -280,6 +282,15 @@ fn with_start<'a>(alloc: Global, command: Command<'a>) -> Result<Command<'a>, Al
     ensures own { IfOk result (λ more. (out-Command more).has_globals ≡ false) }
 {
     let command = with_files(alloc, command)?;
+    with_running(alloc, command)
+}
+
+/// The options that say how many workers a master has at its start, and `--why`.
+fn with_running<'a>(alloc: Global, command: Command<'a>) -> Result<Command<'a>, AllocError>
+    requires { (out-Command command).has_globals ≡ false }
+    ensures app { IfOk result (λ more. app_of more ≡ with_running (app_of command.entry)) }
+    ensures own { IfOk result (λ more. (out-Command more).has_globals ≡ false) }
+{
     let command = with_option(alloc, command, "workers", "N", WORKERS_HELP)?;
     let command = with_flag(alloc, command, "bare", BARE_HELP)?;
     with_flag(alloc, command, "why", WHY_HELP)
@@ -303,6 +314,16 @@ fn with_files<'a>(alloc: Global, command: Command<'a>) -> Result<Command<'a>, Al
 {
     let command = with_option(alloc, command, "from", "FILE", FROM_HELP)?;
     with_option(alloc, command, "to", "FILE", TO_HELP)
+}
+
+/// The options that name the configuration of a start, and those that words went over to.
+fn with_goals<'a>(alloc: Global, command: Command<'a>) -> Result<Command<'a>, AllocError>
+    requires { (out-Command command).has_globals ≡ false }
+    ensures app { IfOk result (λ more. app_of more ≡ with_goals (app_of command.entry)) }
+    ensures own { IfOk result (λ more. (out-Command more).has_globals ≡ false) }
+{
+    let command = with_option(alloc, command, "from", "FILE", FROM_HELP)?;
+    with_argument(command, repeated(alloc, "to", "FILE", GOALS_HELP))
 }
 
 /// A command with one argument more, which is its own and not its subcommands' too.
@@ -372,6 +393,14 @@ fn option<'a>(alloc: Global, name: &'a str, value: &'a str, help: &'a str) -> Ar
     valued(alloc, name, value, help)
         .long(name)
         .action(ArgAction::Set)
+}
+
+/// `--NAME VALUE`, as often as it is given
+fn repeated<'a>(alloc: Global, name: &'a str, value: &'a str, help: &'a str) -> Arg<'a>
+    ensures rule { rule_of result ≡ repeated_rule name.entry.now }
+    ensures own { result.global ≡ false }
+{
+    option(alloc, name, value, help).action(ArgAction::Append)
 }
 
 /// `--program PROGRAM`, which must be there.

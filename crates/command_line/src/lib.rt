@@ -107,7 +107,7 @@ fn request_of<'a>(alloc: Global, matches: &ArgMatches<'a>) -> Result<Request<'a>
         return Ok(Request::Explore(explore_options(found)?));
     }
     if let Some(found) = matches.subcommand_matches("certify") {
-        return Ok(Request::Certify(certify_options(found)?));
+        return Ok(Request::Certify(certify_options(alloc, found)?));
     }
     if let Some(found) = matches.subcommand_matches("check") {
         return Ok(Request::Check(check_options(alloc, found)?));

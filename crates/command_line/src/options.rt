@@ -1,5 +1,5 @@
 //! The options and words of the subcommands, as `clap` found them.
-ghost use Rattle.std.specs.Prelude.{◌≡◌, ◌≢◌, IfErr, IfOk, IsErrOf, List, Option, None, Some, ℕ, codes, option_map};
+ghost use Rattle.std.specs.Prelude.{◌≡◌, ◌≢◌, IfErr, IfOk, IsErrOf, List, Option, None, Some, ℕ, [], codes, option_map, unwrap_or};
 ghost use Rattle.clap.specs.Walk.{Text, all_of, texts};
 ghost use Rattle.clap.specs.Words.{first_of, found_of, rows_of};
 ghost use Rattle.command_line.specs.Arguments.{Adoption, Certification, Enactment, Exploration, FindsAdoption, FindsCertification, FindsEnactment, FindsExploration, FindsFiles, FindsLimiting, FindsPlanning, FindsStart, FindsSupervision, IsNumber, Limiting, Planning, Start, Supervision, adoption_of, certification_of, enactment_of, exploration_of, is_given, limiting_of, planning_of, start_of, supervision_of};
@@ -8,7 +8,7 @@ use crate::Refusal;
 use crate::refusal::UsageFault;
 use clap::ArgMatches;
 use plain_text::read_number;
-use std::alloc::Global;
+use std::alloc::{AllocError, Global};
 
 /// How a master starts, and which files it reads.
 #[derive(Clone, Copy)]
@@ -81,12 +81,14 @@ pub struct ExploreOptions<'a> {
 }
 
 /// The options of `certify`.
-#[derive(Clone, Copy)]
+#[derive(Drop)]
 pub struct CertifyOptions<'a> {
-    /// How the master of the transcript started.
+    /// How the master of the transcript started. The file of `--to` is the first.
     pub start: StartOptions<'a>,
     /// `--held`: an address that a foreign process holds.
     pub held: Option<&'a str>,
+    /// `--to`: all files, in their order.
+    pub goals: Vec<&'a str>,
 }
 
 /// What `check` is asked.
@@ -214,16 +216,20 @@ fn word_of<'a>(found: &ArgMatches<'a>) -> Result<&'a str, UsageFault>
     }
 }
 
-/// The options of `certify`, unless `--workers` has no number.
-pub(crate) fn certify_options<'a>(found: &ArgMatches<'a>) -> Result<CertifyOptions<'a>, UsageFault>
+/// The options of `certify`; `Usage` where `--workers` has no number.
+pub(crate) fn certify_options<'a>(
+    alloc: Global,
+    found: &ArgMatches<'a>,
+) -> Result<CertifyOptions<'a>, Refusal>
     ensures found { IfOk result (λ options.
         FindsCertification (rows_of (found_of found.now)) (certification_of options)) }
-    ensures usage { IfErr result (λ _. (values : Certification)
-        → ¬ FindsCertification (rows_of (found_of found.now)) values) }
+    ensures usage { IsErrOf result Refusal.Usage → (values : Certification)
+        → ¬ FindsCertification (rows_of (found_of found.now)) values }
 {
     let start = start_options(found)?;
+    let goals = any_texts_of(alloc, found, "to")?;
     let held = text_of(found, "held");
-    Ok(CertifyOptions { start, held })
+    Ok(CertifyOptions { start, held, goals })
 }
 
 /// What `check` is asked.
@@ -335,6 +341,20 @@ fn texts_of<'a>(alloc: Global, found: &ArgMatches<'a>, id: &str) -> Result<Vec<&
         return Err(Refusal::Usage);
     };
     Ok(given.iter().copied().collect(alloc)?)
+}
+
+/// The texts of an argument that may be given, or not; none where it is not.
+fn any_texts_of<'a>(
+    alloc: Global,
+    found: &ArgMatches<'a>,
+    id: &str,
+) -> Result<Vec<&'a str>, AllocError>
+    ensures { IfOk result (λ given. texts given.items ≡ unwrap_or (all_of id.now (rows_of (found_of found.now))) []) }
+{
+    match found.get_strs(id) {
+        Some(given) => Ok(given.iter().copied().collect(alloc)?),
+        None => Ok(Vec::new(alloc)),
+    }
 }
 
 /// Whether a flag is given, which `clap` keeps as the text of a `bool`.

@@ -184,7 +184,19 @@ fn tell_files<R: AllocGlobal + Files, E: Write>(rt: &R, request: &Request<'_>, e
     if let Request::Supervise(_) = request {
         tell_pid_file(rt, named.from, errors);
     }
+    if let Request::Certify(options) = request {
+        return tell_goals(rt, options.goals.as_slice(), errors);
+    }
     let _ = tell_file(rt, "--to", named.to, errors);
+}
+
+/// Says of the first of several files of `--to` that is refused what is wrong there.
+fn tell_goals<R: AllocGlobal + Files, E: Write>(rt: &R, goals: &[&str], errors: &mut E) {
+    for goal in goals {
+        if tell_file(rt, "--to", Some(goal), errors) {
+            return;
+        }
+    }
 }
 
 /// Says of a file whether the fault is its; whether it was.

@@ -1,1 +1,2 @@
+mod GoalsRead
 mod Runs

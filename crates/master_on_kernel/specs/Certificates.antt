@@ -1,5 +1,6 @@
 -- What the program says of blocks that it compares.
-use Rattle.std.specs.Prelude.{◌≡◌, ◌≢◌, ℕ, List, [], map, Some, Ok}
+use Rattle.std.specs.Prelude.{◌≡◌, ◌≢◌, ℕ, List, [], map, Ok}
+use Rattle.vocabulary.specs.Settings.{Settings}
 use Rattle.kernel_pattern.specs.declared.section.Section.{Section}
 use Rattle.word_runner.specs.declared.block.Block.{Block}
 use Rattle.pattern_text.specs.Courses.{course_of}
@@ -12,13 +13,13 @@ use Rattle.master_on_kernel.specs.declared.rehearsal.Rehearsal.{Rehearsal}
 
 -- The text is that of sections that explain the blocks, one each, from where a rehearsal stood to where it stands. What is written
 -- of one section or more is read again as these.
-pub record AreExplained (blocks : List Block) (old : Rehearsal) (text : List ℕ) (new : Rehearsal) : Type 0 where
+pub record AreExplained (goals : List Settings) (blocks : List Block) (old : Rehearsal) (text : List ℕ) (new : Rehearsal) : Type 0 where
   pub sections : List Section
-  pub taken : AreTaken (Some old.next) blocks old.standing sections new.standing
+  pub taken : AreTaken goals blocks old.standing sections new.standing
   pub written : text ≡ patterns_text sections
   pub again : sections ≢ [] → patterns_of text ≡ Ok (map course_of sections)
 
 -- A fault of a block names the first that is none of the master's, and why.
-abbrev pub IsOfBlock : List Block → Rehearsal → Fault → Type 0
-IsOfBlock blocks old (Certify n why) = StopsAtBlock (Some old.next) blocks old.standing n why
-IsOfBlock blocks old fault = fault ≡ Memory
+abbrev pub IsOfBlock : List Settings → List Block → Rehearsal → Fault → Type 0
+IsOfBlock goals blocks old (Certify n why) = StopsAtBlock goals blocks old.standing n why
+IsOfBlock goals blocks old fault = fault ≡ Memory

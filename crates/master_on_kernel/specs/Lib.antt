@@ -1,6 +1,7 @@
 pub mod Beginnings
 pub mod Certificates
 pub mod Explorations
+pub mod Goals
 pub mod Outlooks
 pub mod Output
 pub mod Rehearsals

@@ -1,11 +1,13 @@
 //! How a run would have gone on where a block is none of the master's.
-use crate::{StartSetup, begin};
+use crate::{Rehearsal, StartSetup, begin, read_goals};
+use certifier::goals_after;
 use faults::Fault;
 use mismatches::Mismatch;
 use plan_walk::Transcript;
 use std::alloc::{AllocError, Global};
 use std::rt::Files;
 use transcript::{read_transcripts, write_transcript};
+use vocabulary::Settings;
 use word_runner::{Block, Body};
 
 /// The line that a master would have had in the block with a number, from 1, of a text, where the first is that is not its
@@ -13,6 +15,7 @@ use word_runner::{Block, Body};
 pub fn line_instead<R: AllocGlobal + Files>(
     rt: &R,
     setup: &StartSetup<'_>,
+    goals: &[&str],
     held: Option<&str>,
     text: &[u8],
     (number, mismatch): (usize, &Mismatch),
@@ -23,15 +26,33 @@ pub fn line_instead<R: AllocGlobal + Files>(
         return Ok(None);
     };
     let mut rehearsal = begin(rt, setup, held)?;
-    match rehearsal.certify(alloc, &blocks[..number.wrapping_sub(1)]) {
-        Ok(_) => (),
-        Err(_) => return Ok(None),
+    let goals = read_goals(rt, rehearsal.next, goals)?;
+    if !goes_up_to(
+        alloc,
+        &mut rehearsal,
+        goals.as_slice(),
+        &blocks[..number.wrapping_sub(1)],
+    ) {
+        return Ok(None);
     }
     let begun = beginning(alloc, body, mismatch)?;
     let Some(block) = rehearsal.go_on(alloc, *word, &begun)? else {
         return Ok(None);
     };
     line_behind(alloc, &block, begun.len())
+}
+
+/// Carries blocks out, and lets the next word go over to the goal that is left then; whether they are the master's.
+fn goes_up_to(
+    alloc: Global,
+    rehearsal: &mut Rehearsal,
+    goals: &[Settings],
+    blocks: &[Block],
+) -> bool {
+    if let Some(next) = goals_after(goals, blocks).first() {
+        rehearsal.next = *next;
+    }
+    rehearsal.certify(alloc, goals, blocks).is_ok()
 }
 
 /// The calls of a block before the first that is not the master's.

@@ -100,18 +100,19 @@ impl Rehearsal {
     }
 
     /// Compares blocks one after another, each from where the ones before it left things, and gives the sections that
-    /// explain them, one for each. The first that is none of the master's is the mismatch.
+    /// explain them, one for each. The first that is none of the master's is the mismatch. The goals are the settings that
+    /// words go over to, one after another.
     pub fn certify(
         &mut self,
         alloc: Global,
+        goals: &[Settings],
         blocks: &[Block],
     ) -> Result<Vec<Section>, BlockMismatch>
-        ensures ok { IfOk result (λ sections. AreTaken (Some self.old.next) blocks.now self.old.standing sections.items self.new.standing) }
-        ensures err { IfErr result (λ e. StopsAtBlock (Some self.old.next) blocks.now self.old.standing e.number e.why) }
+        ensures ok { IfOk result (λ sections. AreTaken goals.now blocks.now self.old.standing sections.items self.new.standing) }
+        ensures err { IfErr result (λ e. StopsAtBlock goals.now blocks.now self.old.standing e.number e.why) }
         ensures next { self.new.next ≡ self.old.next }
     {
-        let settings = self.next;
-        certify_blocks(alloc, &mut self.standing, Some(&settings), blocks)
+        certify_blocks(alloc, &mut self.standing, goals, blocks)
     }
 
     /// What a word comes to where its first calls are those of a log, as far as they begin a run of the master: the

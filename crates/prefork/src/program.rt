@@ -21,7 +21,7 @@ use json_text::{blocks_json, exploration_json, patterns_json, plan_json};
 use kernel_model::{Section, Turns};
 use master_on_kernel::{
     Demands, Explored, Form, Outlook, Rehearsal, Start, Trials, begin, certify_all, line_instead,
-    look_ahead, rehearse, show_state, summary,
+    look_ahead, read_goals, rehearse, show_state, summary,
 };
 use master_programs::{Surroundings, adopt, child, supervise};
 use order_explorer::{ChosenOrders, Totals};
@@ -99,7 +99,8 @@ fn tell_more<R: AllocGlobal + Files, E: Write>(
     let found = match (request, fault) {
         (Request::Certify(options), Fault::Certify(number, mismatch)) => {
             let setup = setup_of(&options.start);
-            line_instead(rt, &setup, options.held, given, (*number, mismatch))
+            let goals = options.goals.as_slice();
+            line_instead(rt, &setup, goals, options.held, given, (*number, mismatch))
         }
         _ => Ok(None),
     };
@@ -264,9 +265,10 @@ fn certify<R: AllocGlobal + Files, I: Read, O: Write, E: Write>(
 ) -> Result<u8, Fault> {
     let alloc = rt.alloc();
     let mut rehearsal = begin(rt, &setup_of(&options.start), options.held)?;
+    let goals = read_goals(rt, rehearsal.next, options.goals.as_slice())?;
     ask_for(around, "blocks, as enact prints them", errors);
     let blocks = read_blocks(alloc, &mut *input.reader, &mut input.given)?;
-    let mut text = certify_all(alloc, &mut rehearsal, blocks.as_slice())?;
+    let mut text = certify_all(alloc, &mut rehearsal, goals.as_slice(), blocks.as_slice())?;
     if options.start.json {
         text = patterns_json(alloc, blocks.len(), text.as_slice())?;
     }

@@ -91,7 +91,7 @@ fn grown(alloc: Global) -> Result<Vec<Block>, Fail> {
 
 /// The sections that explain blocks, from the start on.
 fn explained(alloc: Global, blocks: &[Block]) -> Result<Result<Vec<Section>, BlockMismatch>, Fail> {
-    Ok(certify_blocks(alloc, &mut standing(alloc)?, None, blocks))
+    Ok(certify_blocks(alloc, &mut standing(alloc)?, &[], blocks))
 }
 
 #[test]

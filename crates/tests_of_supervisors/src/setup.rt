@@ -78,7 +78,7 @@ pub(crate) fn are_certified(
     blocks: &[Block],
 ) -> Result<bool, Fail> {
     let mut standing = beginning(alloc, settings)?;
-    Ok(certify_blocks(alloc, &mut standing, Some(settings), blocks).is_ok())
+    Ok(certify_blocks(alloc, &mut standing, &[*settings], blocks).is_ok())
 }
 
 /// Whether the master was lost in a block.

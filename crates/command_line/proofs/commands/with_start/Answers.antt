@@ -1,10 +1,7 @@
-use Rattle.std.proofs.Common.{codes}
-use Rattle.command_line.specs.Arguments.{flag_rule, option_rule}
-use Rattle.command_line.proofs.Apps.{ends, follows, more}
+use Rattle.command_line.specs.Arguments.{with_running}
+use Rattle.command_line.proofs.Apps.{ends}
 use Rattle.command_line.proofs.commands.with_start.Goals as goal
 
 pub returns-clause-app : goal.returns-clause-app
 returns-clause-app c =
-    let known1 = follows (more (option_rule (codes "workers"))) c.in_ok-command.command c.in_ok-command-2.command _ c.in_ok-command.ensures.app c.in_ok-command-2.ensures.app in
-    let known2 = follows (more (flag_rule (codes "bare"))) c.in_ok-command-2.command c.in_ok-command-3.command _ known1 c.in_ok-command-3.ensures.app in
-    ends (more (flag_rule (codes "why"))) c.in_ok-command-3.command c.with_flag-2.result _ known2 c.with_flag-2.ensures.app
+    ends with_running c.in_ok-command.command c.with_running.result _ c.in_ok-command.ensures.app c.with_running.ensures.app
