@@ -43,12 +43,12 @@ WITHOUT_PROGRAM = ("selftest",)
 FIRST = ("json",)
 # What mostly waits, for services under load and for real children: the longest first. It begins once the program is
 # proved, beside the proofs of tests, and goes before them, as far as the system lets it.
-WAITING = ("adapters", "service", "children", "mistakes", "package", "soak")
+WAITING = ("adapters", "service", "page", "children", "mistakes", "package", "soak")
 AHEAD = -5
 # What computes: first what tells most in a second, and then the longest, so that short ones fill the end. It begins once
 # the last proofs of tests leave it room, and gives way to the others, whose loads and time limits are those of an
 # operator.
-COMPUTING = ("cases", "hostile", "rehearsals", "roundtrips", "reader", "limits", "page", "explorations", "documents",
+COMPUTING = ("cases", "hostile", "rehearsals", "roundtrips", "reader", "limits", "explorations", "documents",
              "terminals", "deployments", "pictures")
 NICE = 10
 # From this number of processors on, two of those that wait run side by side. On four, two of them have starved each
