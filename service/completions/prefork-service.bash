@@ -6,7 +6,7 @@ _prefork_service() {
 
     COMPREPLY=()
     case $prev in
-        --folder | --prefork | --python | --chdir | --records | --metrics)
+        --folder | --reload-on-change | --prefork | --python | --chdir | --records | --metrics)
             compopt -o default
             return
             ;;
@@ -50,7 +50,7 @@ _prefork_service() {
                 compopt -o default
                 return
             fi
-            options='--folder --prefork --records --records-size --metrics --page --answer-within --defer-accept --socket-mode --socket-group --public --on-done --on-rolled-back --on-degraded --on-short --on-healed --check --keep-trying --plain-log --listen --workers --wsgi --preload --python --threads --timeout --keep --trusted-proxy --chdir --warm --after-load --after-fork --ready --ready-within --probe --probe-within --probe-limit --stop --finish --usr1 --env --no-listen-fds --blocking --version --help'
+            options='--folder --prefork --records --records-size --metrics --page --answer-within --defer-accept --socket-mode --socket-group --public --on-done --on-rolled-back --on-degraded --on-short --on-healed --check --keep-trying --plain-log --reload-on-change --listen --workers --wsgi --preload --python --threads --timeout --keep --trusted-proxy --chdir --warm --after-load --after-fork --ready --ready-within --probe --probe-within --probe-limit --stop --finish --usr1 --env --no-listen-fds --blocking --version --help'
             ;;
         prefork-ctl) options='--folder --json --wait --seconds --events --forbid --require --least --records --prefork --version --help' ;;
         prefork-checkworker) options='--path --slow --one --preload --patience --version --help' ;;

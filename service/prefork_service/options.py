@@ -80,6 +80,8 @@ def parser() -> argparse.ArgumentParser:
         made.add_argument(f"--{event}", metavar="PROGRAM", help=f"start this program {moment}, with JSON on its input")
     only = "say whether CONFIG, PROGRAM and the limits of the system fit, and start nothing"
     made.add_argument("--check", action="store_true", help=only)
+    changes = "HUP once this file, or one in this folder, has changed; it may be given again"
+    made.add_argument("--reload-on-change", action="append", type=existing, default=[], metavar="PATH", help=changes)
     again = "go on trying if no worker has started, in place of ending with status 1"
     made.add_argument("--keep-trying", action="store_true", help=again)
     plain = "pass on what workers say as it is, without the time and the name of the worker before each line"
@@ -109,6 +111,13 @@ def at_least_one(text: str) -> float:
     if float(text) < 1:
         raise argparse.ArgumentTypeError("it must be at least 1")
     return float(text)
+
+
+def existing(text: str) -> str:
+    """A path that there is."""
+    if not os.path.exists(text):
+        raise argparse.ArgumentTypeError(f"{text}: {os.strerror(errno.ENOENT)}")
+    return text
 
 
 def number_of_workers(text: str) -> int:

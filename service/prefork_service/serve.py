@@ -39,6 +39,7 @@ import tempfile
 from . import places
 from .barrier import Barrier, Broken
 from .burying import adopt_orphans
+from .changes import Changes
 from .chronicle import Chronicle
 from .commands import Commands, refusal_of
 from .convention import Unfit
@@ -117,6 +118,8 @@ def serve(given: argparse.Namespace, folder: Folder, commands: Commands, stored:
         ends.insert(0, service.telling.end)
         service.telling.open(keeping.events, given.metrics, given.page)
         commands.ready_seconds = ready_seconds(given)
+        if given.reload_on_change:
+            service.changes = Changes(keeping.events, given.reload_on_change, [folder.path, place])
         service.keeps_trying, service.telling.hooks = given.keep_trying, Hooks(hooks_of(given))
         status = service.run()
         if service.failure:

@@ -8,6 +8,7 @@ from typing import Any
 from .asking import Asking
 from .barrier import Barrier
 from .burying import await_holders, bury_orphans
+from .changes import Changes
 from .chronicle import Chronicle
 from .commands import Commands, mistake_of, refusal_of
 from .folder import say
@@ -54,6 +55,8 @@ class Service:
         self.record = self.watching.record
         # Why the service ends that could not start, and whether it goes on trying in place of that.
         self.failure, self.keeps_trying = "", False
+        # The files whose changes reload it, if there are some.
+        self.changes: Changes | None = None
         # What is to be done about files whose version has not started, while the one before runs.
         self.of_files: str | None = None
         self.leaving = Leaving(self.folder.path, end_seconds(limits))
@@ -83,6 +86,7 @@ class Service:
             if self.is_stopped:
                 return
         preloading = [self.commands.preloading.tend] if self.commands.preloading else []
+        preloading += [self.changes.tend] if self.changes else []
         tends: list[Callable] = [self.commands.mend, self.keeping.mend, self.asking.tend, self.keeping.tend, *preloading, self.hurry]
         tends += [bury_orphans, self.hanging.tend, self.end_late]
         tends += [self.chronicle.tend, self.telling.tend, sys.stderr.flush]
@@ -112,6 +116,7 @@ class Service:
     def pause(self) -> float:
         """How long the loop may wait for something to happen."""
         moments = [None if self.current else self.ticks.seconds(), self.asking.door.seconds(), PAUSE if self.master else SHORT_PAUSE, self.telling.seconds()]
+        moments += [self.changes.seconds()] if self.changes else []
         return min(moment for moment in moments if moment is not None)
 
     def begin_master(self) -> None:

@@ -128,6 +128,7 @@ class OptionsTest(unittest.TestCase):
             (["--listen", "127.0.0.1:80"], "give CONFIG, or a PROGRAM"),
             (["--listen", "127.0.0.1:80", *program], "not both"),
             (["--workers", "2", "--wsgi", "m", "a.toml"], "not both"),
+            (["--reload-on-change", "/no/such", *program], "argument --reload-on-change: /no/such: No such file or directory"),
             (["--workers", "0", "--", "p"], "argument --workers: it must be at least 1"),
             (["--workers", "two", "--", "p"], "argument --workers: it must be at least 1"),
             (["a.toml", "b.toml"], "b.toml"),

@@ -82,6 +82,15 @@ class WholeTest(unittest.TestCase):
             self.serve = subprocess.Popen(command, cwd=self.room, env=self.environment, stderr=said)
         self.assertTrue(until(lambda: self.status() and self.status()["generation"]), self.said.read_text())
 
+    def test_a_change_reloads(self) -> None:
+        (self.room / "app.py").write_text("1")
+        self.start("--reload-on-change", ".")
+        (self.room / "app.py").write_text("2")
+        journal = self.folder / "journal"
+        self.assertTrue(until(lambda: " HUP: done " in journal.read_text()), journal.read_text())
+        self.assertIn("prefork-serve: app.py changed: HUP\n", self.said.read_text())
+        self.assertEqual(journal.read_text().count(" HUP begins\n"), 1)
+
     def test_a_check_without_a_file(self) -> None:
         command = [BIN / "prefork-serve", "--prefork", PROGRAMS / "master.py", "--check", "--listen", self.address, "--", "true"]
         found = subprocess.run(command, cwd=self.room, env=self.environment, capture_output=True, text=True, timeout=SECONDS)
@@ -99,7 +108,7 @@ class WholeTest(unittest.TestCase):
         self.assertEqual(self.ctl("HUP").returncode, 0)
         self.serve.send_signal(signal.SIGQUIT)
         self.assertEqual(self.serve.wait(SECONDS), 0)
-        left = {file.name for file in self.folder.iterdir()} - {"journal", "records", "blocks"}
+        left = {file.name for file in self.folder.iterdir()} - {"journal", "records", "blocks", ".prefork"}
         self.assertEqual(left, set())
 
     def end(self) -> None:
