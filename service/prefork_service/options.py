@@ -22,7 +22,7 @@ USAGE = """prefork-serve [OPTIONS] CONFIG -- PROGRAM ARGUMENT..
        prefork-serve [OPTIONS] --listen ADDRESS --workers N -- PROGRAM ARGUMENT.."""
 WSGI_THREADS = 4
 # What other servers call a number that is in the configuration here.
-WORKERS = ("-w", "--worker", "--workers", "--processes")
+WORKERS = ("-w", "--worker", "--processes")
 Options = dict[str, tuple[str | None, str]]
 # Options that are handed on to the worker: what they take, and what they mean.
 SHARED: Options = {
@@ -177,7 +177,7 @@ def fault_of_strange(words: list[str], made: argparse.ArgumentParser, has_cut: b
     name = options[0].partition("=")[0]
     known = [option for action in made._actions for option in action.option_strings]
     near = difflib.get_close_matches(name, known, 1, 0.75)
-    hint = "the number of workers is in CONFIG: workers = 4" if name in WORKERS else f"the nearest is {near[0]}" if near else "see --help"
+    hint = "the number of workers is in CONFIG: workers = 4, or without one --workers 4" if name in WORKERS else f"the nearest is {near[0]}" if near else "see --help"
     return f"{name} is no option: {hint}"
 
 

@@ -78,10 +78,14 @@ class Trying:
     def begin_word(self, now: float) -> None:
         """A word is carried out: nothing waits, and what still fails is tried at the next tick."""
         self.allowed = {}
+        self.try_all(now)
+        self.unmark()
+
+    def try_all(self, now: float) -> None:
+        """All that fail are due."""
         for one in self.failing.values():
             one.due = now
         self.tries.clear()
-        self.unmark()
 
     def mark(self) -> None:
         """Tells prefork-launch. Where that can't be written the master starts what it wants to."""

@@ -2,6 +2,7 @@
 import time
 from typing import Any
 
+from .changed import Changed
 from .folder import Folder
 from .state import News, Whole, whole_of
 from .status import Record, started_workers
@@ -15,7 +16,7 @@ class Watching:
 
     def __init__(self, folder: Folder):
         self.folder, self.record, self.news = folder, Record(), News()
-        self.trying = Trying(folder.path / "waiting")
+        self.trying, self.changed = Trying(folder.path / "waiting"), Changed(folder.path)
         # How many of the workers that were counted run, how many have ended since, and when it is looked again.
         self.running, self.lost, self.next_look = 0, 0, 0.0
         self.is_started, self.timeout = False, 60
@@ -40,6 +41,8 @@ class Watching:
         if word.startswith("tick "):
             self.trying.note(block, reasons, time.monotonic())
         self.trying.forget_others(self.record.wanted, self.record.workers)
+        # What a start that fails writes itself, such as a log, is no news.
+        self.changed.take(self.failing())
         self.look()
 
     def look(self, is_lost: bool = False) -> None:
@@ -48,9 +51,16 @@ class Watching:
         if now < self.next_look and not is_lost:
             return
         self.next_look = now + self.pause()
+        if self.changed.look(self.failing()):
+            # Somebody mends what has failed.
+            self.trying.try_all(now)
         found = started_workers(self.folder.workers)
         self.running = sum((self.record.generation, number) in found for number in self.record.workers)
         self.lost = len(self.record.workers) - self.running
+
+    def failing(self) -> list[str]:
+        """The names of the workers that fail to start."""
+        return [f"{self.record.generation}.{number}" for number in sorted(self.trying.failing)]
 
     def pause(self) -> float:
         return pause_of(len(self.record.workers), self.timeout)
