@@ -170,6 +170,7 @@ def shown(status: Status) -> str:
         f"state       {status['line']}",
         *map(shown_failing, status["failing"]),
         f"addresses   {' '.join(status['addresses']) or 'none'}",
+        *(f"removed     {path}: nobody can connect until HUP or USR2" for path in status.get("lost_paths", [])),
         f"generation  {status['generation'] or 'none'}, {workers(len(status['workers']))}",
         *map(shown_worker, status["workers"]),
         *map(shown_other, status["others"]),

@@ -138,6 +138,8 @@ class ShownTest(unittest.TestCase):
             self.assertIn(wanted, said)
         quiet = {**status, "last": None, "doing": None, "question": 0, "waiting": 0, "masters": [], "file_has_changed": False, "of_files": None}
         self.assertNotIn("files  ", shown(quiet))
+        self.assertNotIn("removed  ", shown(quiet))
+        self.assertIn("removed     /x: nobody can connect until HUP or USR2\n", shown({**quiet, "lost_paths": ["/x"]}))
         for wanted in ("master      none runs", "last word   none\n", "now         waits for words\n"):
             self.assertIn(wanted, shown(quiet))
 
