@@ -6,6 +6,7 @@ The HTTP is waitress's: its parser, buffers, limits and threads. This module run
 - The next answer on a kept connection says `Connection: close`.
 - A kept connection that stays idle is closed, after some seconds.
 """
+import resource
 import socket
 import threading
 import time
@@ -19,6 +20,10 @@ from waitress.task import ErrorTask, WSGITask
 
 BACKLOG = 1024
 MOST_CONNECTIONS = 1000
+# The descriptors that are left to the application, whatever the limit is.
+OF_APPLICATION = 64
+# A connection that has asked for nothing whole for so long makes way, once there are nearly as many as there may be.
+SILENT_SECONDS, NEARLY = 30.0, 0.9
 # The longest pause of the loop, in service and while it finishes.
 PAUSE, SHORT_PAUSE = 1.0, 0.1
 
@@ -27,12 +32,14 @@ class Requests:
     """The requests that are being answered, with the times of their beginnings."""
 
     def __init__(self):
-        self.begun: dict[int, float] = {}
+        self.begun: dict[int, tuple[float, HTTPChannel]] = {}
         self.is_finishing = False
 
     def oldest_if_all(self, threads: int) -> float | None:
-        """If every thread is at a request: since when the last of them is."""
-        begun = list(self.begun.values())
+        """If every thread is at a request: since when the last of them is, or its client has taken something of the answer.
+        One that waits for its client is not at it."""
+        all_begun = list(self.begun.values())
+        begun = [max(moment, last_sent(channel)) for moment, channel in all_begun if not waits_for_client(channel)]
         return max(begun) if len(begun) >= threads else None
 
 
@@ -42,13 +49,15 @@ def channel_of(requests: Requests) -> type:
     class Noted:
         # It is mixed into tasks of waitress, which have the rest.
         request: Any
+        channel: Any
 
         def service(self) -> None:
-            requests.begun[id(self)] = time.monotonic()
+            requests.begun[id(self)] = time.monotonic(), self.channel
             try:
                 super().service()  # type: ignore[misc]
             finally:
                 del requests.begun[id(self)]
+                self.channel.has_asked = time.monotonic()
 
         def build_response_header(self) -> bytes:
             if requests.is_finishing:
@@ -59,6 +68,22 @@ def channel_of(requests: Requests) -> type:
     return type("Channel", (HTTPChannel,), {"task_class": task, "error_task_class": fault})
 
 
+def waits_for_client(channel: HTTPChannel) -> bool:
+    """Whether the answer waits until its client has taken more of it."""
+    return channel.total_outbufs_len > channel.adj.outbuf_high_watermark
+
+
+def last_sent(channel: HTTPChannel) -> float:
+    """When something was sent or received last, by the clock that nobody sets."""
+    return time.monotonic() - (time.time() - channel.last_activity)
+
+
+def most_connections() -> int:
+    """How many connections the descriptors of this process are enough for: waitress spins where they run out."""
+    soft, _ = resource.getrlimit(resource.RLIMIT_NOFILE)
+    return MOST_CONNECTIONS if soft == resource.RLIM_INFINITY else max(1, min(MOST_CONNECTIONS, soft - OF_APPLICATION))
+
+
 class Server:
     """The loop of the main thread. Other threads call `close`, `finish` and `is_stuck`."""
 
@@ -67,8 +92,9 @@ class Server:
         self.lock, self.is_told_to_finish = threading.Lock(), False
         self.map: dict[int, Any] = {}
         self.wanted: list[str] = []
+        self.keep, self.most = keep, most_connections()
         limits: dict[str, Any] = {
-            "threads": threads, "backlog": BACKLOG, "connection_limit": MOST_CONNECTIONS, "channel_timeout": keep,
+            "threads": threads, "backlog": BACKLOG, "connection_limit": self.most, "channel_timeout": keep,
             "cleanup_interval": 1, "asyncore_use_poll": True, "ident": None, "clear_untrusted_proxy_headers": False,
         }
         create_server(application, map=self.map, sockets=list(sockets.values()), **limits)
@@ -86,6 +112,7 @@ class Server:
         while True:
             self.turned = time.monotonic()
             self.act()
+            self.drop_slow()
             if self.is_told_to_finish:
                 deadline = deadline or self.turned + finish
                 if self.has_finished(idle) or self.turned > deadline:
@@ -104,6 +131,21 @@ class Server:
                 door.accepting = False
                 door.del_channel(self.map)
                 door.socket.close()
+
+    def drop_slow(self) -> None:
+        """Closes connections that take nothing of their answer, and, where there are too many, those that ask too slowly."""
+        channels: list[Any] = [one for one in list(self.map.values()) if isinstance(one, HTTPChannel)]
+        for one in channels:
+            if one.total_outbufs_len and time.time() - one.last_activity > self.keep:
+                one.handle_close()
+        if len(channels) < NEARLY * self.most:
+            return
+        now = time.monotonic()
+        for one in channels:
+            # (whoever has never asked has no such moment, and gets one)
+            one.has_asked = getattr(one, "has_asked", now)
+            if not one.requests and not one.total_outbufs_len and now - one.has_asked > SILENT_SECONDS:
+                one.handle_close()
 
     def close(self, address: str) -> None:
         with self.lock:

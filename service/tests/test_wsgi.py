@@ -126,6 +126,47 @@ class WsgiTest(WorkerTest):
         for connection in stuck:
             connection.close()
 
+    def test_slow_downloads_are_no_requests_that_never_end(self) -> None:
+        talk, address = self.begun("--threads", "2", "--timeout", "2")
+        self.assertEqual(talk.hear(), "ready")
+        slow = [kept(address) for _ in range(2)]
+        for connection in slow:
+            connection.sendall(b"GET /big HTTP/1.1\r\nHost: test\r\nConnection: close\r\n\r\n")
+            self.assertIn(b"200 OK", connection.recv(100))
+        # Both threads wait for their clients for longer than a request may take.
+        time.sleep(5)
+        for connection in slow:
+            with connection, connection.makefile("rb") as got:
+                self.assertGreater(len(got.read()), 40_000_000)
+        self.assertIn("version 1 ", answer_of(address))
+        talk.say("quit")
+        self.assertEqual((talk.hear(), talk.wait()), ("gone", 0))
+
+    def test_a_client_that_takes_nothing_is_dropped(self) -> None:
+        talk, address = self.begun("--threads", "1", "--timeout", "2", "--keep", "3")
+        self.assertEqual(talk.hear(), "ready")
+        with kept(address) as client:
+            client.sendall(b"GET /big HTTP/1.1\r\nHost: test\r\n\r\n")
+            self.assertIn("version 1 ", answer_of(address))
+        talk.say("quit")
+        self.assertEqual((talk.hear(), talk.wait()), ("gone", 0))
+
+    def test_few_descriptors_are_few_connections(self) -> None:
+        said = self.room / "said"
+        command = f'ulimit -n 100; exec {PYTHON} {BIN / "prefork-wsgi"} --chdir {PROGRAMS} wsgi_page:application 2>{said}'
+        address = free_address()
+        talk = self.started("sh", "-c", command, addresses=(address,))
+        self.assertEqual(talk.hear(), "ready")
+        many = [kept(address) for _ in range(120)]
+        for connection in many[:30]:
+            self.assertIn(b"version 1 ", asked(connection))
+        for connection in many:
+            connection.close()
+        self.assertIn("version 1 ", answer_of(address))
+        self.assertNotIn("Too many open files", said.read_text())
+        talk.say("quit")
+        self.assertEqual((talk.hear(), talk.wait()), ("gone", 0))
+
     def test_requests_that_waitress_refuses(self) -> None:
         talk, address = self.begun()
         talk.hear()

@@ -5,6 +5,9 @@ import subprocess
 import sys
 import time
 
+# More than waitress keeps for a client that does not read.
+PIECES, PIECE = 40, 1_000_000
+
 
 def application(environ, start_response):
     path, text = environ["PATH_INFO"], f"version {os.environ.get('VERSION', '1')} process {os.getpid()}\n"
@@ -12,6 +15,9 @@ def application(environ, start_response):
         time.sleep(1)
     if path == "/held":
         hold(pathlib.Path(os.environ["HELD"]))
+    if path == "/big":
+        start_response("200 OK", [("Content-Length", str(PIECES * PIECE))])
+        return (b"x" * PIECE for _ in range(PIECES))
     if path == "/stuck":
         time.sleep(3600)
     if path == "/print":
