@@ -142,7 +142,7 @@ class Server:
             return
         now = time.monotonic()
         for one in channels:
-            # (whoever has never asked has no such moment, and gets one)
+            # (a client that has never asked has no such moment, and gets one)
             one.has_asked = getattr(one, "has_asked", now)
             if not one.requests and not one.total_outbufs_len and now - one.has_asked > SILENT_SECONDS:
                 one.handle_close()
