@@ -304,10 +304,10 @@ class Site:
         self.check(f"answers of {found['versions']}", set(found["versions"]) - set(perhaps) == set(versions))
 
     def nothing_left(self) -> None:
-        """No process, and no file but records and journal, of it is left."""
+        """No process, and no file but records, journal and the mark of the folder, of it is left."""
         running = self.mark.left()
         self.check(f"processes are left: {running}", not running)
-        kept = {"blocks", "records", "journal"}
+        kept = {"blocks", "records", "journal", ".prefork"}
         left = sorted(file.name for file in self.run.iterdir() if file.name not in kept) if self.run.exists() else []
         self.check(f"files are left: {left}", not left)
 
