@@ -104,7 +104,10 @@ PID_OF_MASTER = "the configuration has a pid, which would name the master, and t
 
 # An editor that empties a file before it writes it, or a full disk.
 EMPTY = "the configuration has no listeners and no groups. Is it empty, or written only in part?"
-HAS_PID, NO_LISTENERS = "refused pid", "refused no-listeners"
+# What is set there in vain would be believed.
+OF_SERVICE = "the table service has the key {}. This service reads no key of it yet: give the options of prefork-serve on " \
+    "its command line"
+HAS_PID, NO_LISTENERS, HAS_KEYS = "refused pid", "refused no-listeners", "refused service-keys"
 
 
 class Commands:
@@ -191,6 +194,9 @@ class Commands:
             return None
         if "pid" in found:
             return HAS_PID, PID_OF_MASTER
+        own = found.get("service")
+        if isinstance(own, dict) and own:
+            return HAS_KEYS, OF_SERVICE.format(min(own))
         is_empty = not {"listeners", "groups"} & set(found)
         return (NO_LISTENERS, EMPTY) if is_empty else None
 

@@ -10,7 +10,9 @@ import unittest
 from typing import Any
 
 from kit import BIN, OUT, built, until
-from prefork_service.commands import EMPTY, HAS_PID, NO_LISTENERS, PID_OF_MASTER, Commands, mistake_of, parted, refusal_of
+from prefork_service.commands import (
+    EMPTY, HAS_KEYS, HAS_PID, NO_LISTENERS, PID_OF_MASTER, Commands, mistake_of, parted, refusal_of,
+)
 from prefork_service.places import SHIM
 from prefork_service.preloading import Preloading
 
@@ -257,6 +259,18 @@ class CommandsTest(unittest.TestCase):
         self.configure('[[groups]]\nlisteners = ["127.0.0.1:1"]\nworkers = 1\n')
         self.commands.change("1.1")
         self.assertIsNone(self.commands.fault())
+
+    def test_a_key_that_nobody_reads_is_refused(self) -> None:
+        served = 'listeners = ["127.0.0.1:1"]\n'
+        self.configure(f'{served}[service]\nwsgi = "a:b"\n[service.environment]\nCOLOUR = "blue"\n')
+        self.commands.change("1.1")
+        report, why = self.commands.fault() or ("", "")
+        self.assertEqual(report, HAS_KEYS)
+        self.assertIn("key environment", why)
+        for text in (served, f"{served}[service]\n"):
+            self.configure(text)
+            self.commands.change("1.1")
+            self.assertIsNone(self.commands.fault(), text)
 
     def test_a_pipe_is_no_configuration(self) -> None:
         self.config.unlink()
