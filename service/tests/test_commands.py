@@ -389,7 +389,9 @@ class LaunchTest(unittest.TestCase):
                 self.assertEqual(self.launched(folder, word, text, **more).stderr, "")
             keeper.stdin.close()
             keeper.wait(60)
-            self.assertEqual((room / "said").read_text(), "worker\nmaster\n")
+            # A process of its own passes the lines of a worker on, with its name.
+            wanted = ["1.1.0: worker", "master"]
+            self.assertTrue(until(lambda: sorted((room / "said").read_text().splitlines()) == wanted), (room / "said").read_text())
 
     def test_what_is_no_start_of_a_worker_is_refused(self) -> None:
         with tempfile.TemporaryDirectory() as room:
