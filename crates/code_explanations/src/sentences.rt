@@ -266,7 +266,7 @@ different, and at most 1024 workers.",
         code: "C12",
         meaning: "service is no table",
         remedy: "\
-Its keys are for the service, `prefork-serve`; the master does not read them.
+Its keys are for the service, `prefork-serve`; a master does not read them.
 Put them below a line '[service]', or remove the key.",
     },
     Explanation {

@@ -12,8 +12,8 @@ pub(crate) const FROM_HELP: &str = "Start with FILE [default: 1 worker at 0.0.0.
 pub(crate) const TO_HELP: &str = "HUP and USR2 go over to FILE [default: as --from]";
 
 pub(crate) const GOALS_HELP: &str = "\
-HUP and USR2 go over to FILE; of several, each word that was
-carried out to the next one, up to the last [default: as --from]";
+HUP and USR2 go over to FILE [default: as --from]; of
+several, each word that is done goes over to the next";
 
 pub(crate) const PROGRAM_HELP: &str = "The executable of workers and of the next master";
 
