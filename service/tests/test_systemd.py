@@ -56,7 +56,8 @@ class SystemdTest(unittest.TestCase):
             other.bind(f"{room}/site.sock")
             other.listen()
             numbers = [one.fileno(), other.fileno(), one.fileno()]
-            command = ["sh", "-c", STARTS, "sh", *map(str, numbers), number, PYTHON, SHOWS]
+            # (dash reads no descriptor of two digits)
+            command = ["bash", "-c", STARTS, "bash", *map(str, numbers), number, PYTHON, SHOWS]
             found = subprocess.run(command, pass_fds=set(numbers), cwd=SERVICE, capture_output=True, text=True, check=True)
             addresses = sorted(["127.0.0.1:%d" % one.getsockname()[1], f"{room}/site.sock"])
         return found.stdout.replace(str(addresses), "both").strip()
