@@ -127,14 +127,15 @@ class WsgiTest(WorkerTest):
             connection.close()
 
     def test_slow_downloads_are_no_requests_that_never_end(self) -> None:
-        talk, address = self.begun("--threads", "2", "--timeout", "2")
+        # (a starved application may take a while before its answer waits for the client)
+        talk, address = self.begun("--threads", "2", "--timeout", "6")
         self.assertEqual(talk.hear(), "ready")
         slow = [kept(address) for _ in range(2)]
         for connection in slow:
             connection.sendall(b"GET /big HTTP/1.1\r\nHost: test\r\nConnection: close\r\n\r\n")
             self.assertIn(b"200 OK", connection.recv(100))
         # Both threads wait for their clients for longer than a request may take.
-        time.sleep(5)
+        time.sleep(9)
         for connection in slow:
             with connection, connection.makefile("rb") as got:
                 self.assertGreater(len(got.read()), 40_000_000)
@@ -143,7 +144,7 @@ class WsgiTest(WorkerTest):
         self.assertEqual((talk.hear(), talk.wait()), ("gone", 0))
 
     def test_a_client_that_takes_nothing_is_dropped(self) -> None:
-        talk, address = self.begun("--threads", "1", "--timeout", "2", "--keep", "3")
+        talk, address = self.begun("--threads", "1", "--timeout", "20", "--keep", "3")
         self.assertEqual(talk.hear(), "ready")
         with kept(address) as client:
             client.sendall(b"GET /big HTTP/1.1\r\nHost: test\r\n\r\n")
