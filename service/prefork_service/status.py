@@ -83,16 +83,30 @@ def started_workers(place: pathlib.Path) -> dict[tuple[str, int], int]:
     found = {}
     for file in files_in(place):
         try:
-            numbers = file.read_text().split()
+            text = file.read_text()
         except (OSError, ValueError):
             continue
+        numbers, (generation, _, number) = text.split(), file.name.rpartition(".")
         # The process that the master has started, and the one that serves, where it is another one.
-        if numbers and numbers[0].isdigit() and descends(int(numbers[0]), os.getpid()):
-            generation, _, number = file.name.rpartition(".")
+        if number.isdigit() and numbers and numbers[0].isdigit() and descends(int(numbers[0]), os.getpid()):
             found[generation, int(number)] = int(numbers[-1])
         elif numbers:
-            file.unlink(missing_ok=True)
+            forget(file, text)
     return found
+
+
+def forget(file: pathlib.Path, text: str) -> None:
+    """Removes the file of a worker that has ended. A worker that is started in its place has a file of the same name, and
+    may write it at this very moment: that one stays, or comes back."""
+    aside = file.with_name(f"{file.name}.ended")
+    try:
+        file.rename(aside)
+        if aside.read_text() == text:
+            aside.unlink()
+        else:
+            aside.rename(file)
+    except (OSError, ValueError):
+        pass
 
 
 def masters_of(first: int) -> list[int]:

@@ -5,9 +5,12 @@ import subprocess
 import tempfile
 import time
 import unittest
+from unittest import mock
 
 from kit import PYTHON, until
-from prefork_service.status import Record, others_of, age_of, descends, masters_of, numbers_of, shown, started_workers, workers_of
+from prefork_service.status import (
+    Record, others_of, age_of, descends, forget, masters_of, numbers_of, shown, started_workers, workers_of,
+)
 
 BLOCK = "word HUP\n1 m1 census 1.1 : counted 0-2\n2 m1 census 1.2 : counted 0-1,3\ndone cause none pid no-file\n"
 
@@ -88,6 +91,45 @@ class ProcessesTest(unittest.TestCase):
         moment = int(time.monotonic()) + 1
         found = workers_of(record, {("1.2", 0): process.pid}, {0: moment})
         self.assertIn(found[0]["last_beat_seconds"], range(max(0, int(time.monotonic()) - moment) + 1))
+
+
+class FilesTest(unittest.TestCase):
+    """The files of workers, of which one that is started in the place of another has the same name."""
+
+    def setUp(self) -> None:
+        folder = tempfile.TemporaryDirectory()
+        self.addCleanup(folder.cleanup)
+        self.place = pathlib.Path(folder.name)
+        self.file = self.place / "1.2.0"
+        ended = subprocess.Popen(["true"])
+        ended.wait()
+        self.ended = f"{ended.pid}\n"
+
+    def test_that_of_a_worker_that_has_ended_is_removed(self) -> None:
+        self.file.write_text(self.ended)
+        self.assertEqual(started_workers(self.place), {})
+        self.assertEqual(list(self.place.iterdir()), [])
+
+    def test_that_of_the_next_worker_stays(self) -> None:
+        """It is written after the file was read, and before it is removed."""
+        running = subprocess.Popen(["sleep", "60"])
+        self.addCleanup(running.wait)
+        self.addCleanup(running.kill)
+
+        def written_meanwhile(process: int, ancestor: int) -> bool:
+            self.file.write_text(f"{running.pid}\n")
+            return False
+
+        self.file.write_text(self.ended)
+        with mock.patch("prefork_service.status.descends", written_meanwhile):
+            self.assertEqual(started_workers(self.place), {})
+        self.assertEqual(started_workers(self.place), {("1.2", 0): running.pid})
+
+    def test_that_of_a_worker_that_is_being_written_stays(self) -> None:
+        """Its file is empty for a moment."""
+        self.file.write_text("")
+        forget(self.file, self.ended)
+        self.assertEqual([file.name for file in self.place.iterdir()], ["1.2.0"])
 
 
 class WantedTest(unittest.TestCase):
