@@ -28,7 +28,7 @@ void note_reason(const char *name, const char *why) {
     close(file);
 }
 
-/* Opens the file of late generations, and gives the generation of this worker with a newline; -1 where there is none. */
+/* Opens the file of late generations, and gives the generation of this worker with a newline; -1 if the file is missing. */
 static int open_late(char *generation, size_t room, int flags) {
     char path[4096];
     const char *folder = getenv("PREFORK_FOLDER"), *name = getenv("PREFORK_WORKER");

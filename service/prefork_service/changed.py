@@ -10,7 +10,7 @@ MOST_FILES, MOST_CHANGES = 64, 8
 
 
 def seen(path: pathlib.Path) -> tuple[int, int, int] | None:
-    """What tells a file from the one that was there before; nothing if there is none."""
+    """What tells a file from the one that was there before; nothing if the file is missing."""
     try:
         found = path.stat()
     except OSError:
