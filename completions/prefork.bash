@@ -39,7 +39,7 @@ _prefork() {
     case ${COMP_WORDS[1]} in
         enact) options='--from --to --workers --bare --json --why --held --state --help' ;;
         plan) options='--from --to --workers --bare --json --why --dot --help' ;;
-        explore) options='--from --to --workers --bare --json --why --held --events --turns --limit --forbid --require --least --list --progress --help' ;;
+        explore) options='--from --to --workers --bare --json --why --held --events --turns --limit --forbid --require --least --list --progress --deaths --help' ;;
         certify) options='--from --to --workers --bare --json --why --held --help' ;;
         supervise) options='--program --from --to --answer-within --ready-within --verbose --why --help' ;;
         adopt) options='--program --answer-within --ready-within --help' ;;

@@ -14,7 +14,7 @@ SERVICE = pathlib.Path(__file__).resolve().parent.parent.parent / "service"
 sys.path.insert(0, str(SERVICE))
 
 from prefork_service import live, page, view
-from prefork_service.chronicle import Done
+from prefork_service.done import Done
 from prefork_service.web import Site
 
 Status = dict[str, Any]

@@ -43,15 +43,28 @@ def is_free(port: int) -> bool:
 
 
 def place_of(address: str) -> tuple[str, int]:
-    """The host and the port of an address."""
+    """The host and the port of an address, without the brackets of an IPv6 one."""
     host, _, port = address.rpartition(":")
-    return host, int(port)
+    return host.strip("[]"), int(port)
+
+
+def ipv6_beside(address: str) -> str | None:
+    """The same port of the IPv6 loopback, if this machine has one and the port is free there."""
+    found = f"[::1]:{place_of(address)[1]}"
+    try:
+        with socket.socket(socket.AF_INET6) as probe:
+            probe.bind(place_of(found))
+    except OSError:
+        return None
+    return found
 
 
 def answer_of(address: str, path: str = "/", seconds: float = SECONDS) -> str:
     """The text of an answer, on a connection of its own."""
     with socket.create_connection(place_of(address), seconds) as connection:
-        connection.sendall(f"GET {path} HTTP/1.1\r\nHost: gate\r\nConnection: close\r\n\r\n".encode())
+        # (the page of a service answers for its own address alone)
+        host = "gate" if address.startswith("/") else address
+        connection.sendall(f"GET {path} HTTP/1.1\r\nHost: {host}\r\nConnection: close\r\n\r\n".encode())
         with connection.makefile("rb") as got:
             return got.read().decode().partition("\r\n\r\n")[2]
 

@@ -1,4 +1,6 @@
 """Checks of what a script does again by itself, on pieces of work that are made up."""
+import contextlib
+import io
 from collections.abc import Callable, Iterator
 
 from gate.again import MOST_AGAIN, Work, all_done
@@ -61,6 +63,17 @@ def many_failures_are_not_the_machines() -> Iterator[str]:
         yield f"again: {MOST_AGAIN + 1} pieces that fail: {found}"
 
 
+def what_failed_is_named_at_the_end() -> Iterator[str]:
+    """However much was said of it."""
+    said = io.StringIO()
+    with contextlib.redirect_stdout(said):
+        Tally(2, 2, ["unit tests: a_test\n" + "a line\n" * 200, "a page: it is not there"]).end()
+    last = said.getvalue().splitlines()[-3:]
+    if last != ["failed: unit tests: a_test", "failed: a page: it is not there", "2 passed, 2 failed"]:
+        yield f"again: the end of what was said: {last}"
+
+
 CHECKS: tuple[Callable[[], Iterator[str]], ...] = (
     the_second_run_counts, what_fails_again_has_failed, a_lost_request_stays_lost, many_failures_are_not_the_machines,
+    what_failed_is_named_at_the_end,
 )

@@ -5,7 +5,7 @@ import threading
 import time
 from collections.abc import Callable, Iterator
 
-from gate.scripts import COMPUTING, EXPECTED, FIRST, SCRIPTS, WAITING, WITHOUT_PROGRAM, Scripts, lanes
+from gate.scripts import COMPUTING, EXPECTED, FIRST, MOST_AGAIN, SCRIPTS, WAITING, WITHOUT_PROGRAM, Scripts, lanes
 from gate.waiting import comes
 
 PROCESSORS = (1, 2, 4, 8)
@@ -141,6 +141,9 @@ def tell_what_failed(room: pathlib.Path) -> Iterator[str]:
         yield f"told in the order {told}"
     if "documents: what is wrong" not in scripts.wrong():
         yield f"told: {scripts.wrong()}"
+    scripts.failed["documents"] = [*map(str, range(200)), "failed: the last one", "0 passed, 1 failed"]
+    if len(found := scripts.wrong()) > 2 * MOST_AGAIN or "documents: failed: the last one" not in found:
+        yield f"told of a script that says much: {found}"
 
 
 def miss_lost_checks(room: pathlib.Path) -> Iterator[str]:

@@ -17,6 +17,7 @@ from gate.spare import spare
 # The scripts, and what each counts, in the order in which that is told.
 SCRIPTS = {
     "cases": "cases",
+    "addresses": "texts of addresses",
     "limits": "limits",
     "rehearsals": "rehearsals",
     "terminals": "runs at a terminal",
@@ -32,6 +33,8 @@ SCRIPTS = {
     "service": "checks of a web service",
     "mistakes": "checks of what mistakes are told",
     "adapters": "checks of applications as they are",
+    "faults": "injected faults",
+    "storm": "checks of a storm",
     "package": "checks of the package and of a roll-out",
     "page": "checks of the page and the library",
     "documents": "checks of documents",
@@ -43,12 +46,12 @@ WITHOUT_PROGRAM = ("selftest",)
 FIRST = ("json",)
 # What mostly waits, for services under load and for real children: the longest first. It begins once the program is
 # proved, beside the proofs of tests, and goes before them, as far as the system lets it.
-WAITING = ("adapters", "service", "page", "children", "mistakes", "package", "soak")
+WAITING = ("adapters", "service", "faults", "storm", "page", "children", "mistakes", "package", "soak")
 AHEAD = -5
 # What computes: first what tells most in a second, and then the longest, so that short ones fill the end. It begins once
 # the last proofs of tests leave it room, and gives way to the others, whose loads and time limits are those of an
 # operator.
-COMPUTING = ("cases", "hostile", "rehearsals", "roundtrips", "reader", "limits", "explorations", "documents",
+COMPUTING = ("cases", "addresses", "hostile", "rehearsals", "roundtrips", "reader", "limits", "explorations", "documents",
              "terminals", "deployments", "pictures")
 NICE = 10
 # From this number of processors on, two of those that wait run side by side. On four, two of them have starved each
@@ -58,6 +61,8 @@ MANY = 8
 LOOKS, ROOM = 10, 0.45
 # How long scripts may take to end once they are told to.
 END_SECONDS = 10.0
+# About how many lines of those that failed are said again at the end.
+MOST_AGAIN = 60
 # The result of a script: how much it counts as passed and as failed.
 Counted = tuple[int, int]
 # The file beside the scripts with the fewest checks of each, a line for each. Without the file none is expected.
@@ -231,9 +236,11 @@ class Scripts:
         self.mark.left(END_SECONDS)
         self.mark.end_all()
 
-    def wrong(self) -> list[str]:
-        """What was said by those that failed, in a fixed order."""
-        return [f"{name}: {line}" for name in SCRIPTS for line in self.failed.get(name, [])]
+    def wrong(self, most: int = MOST_AGAIN) -> list[str]:
+        """What was said by those that failed, in a fixed order, and not many more lines than `most`. A script says at its
+        end what has failed, so the last lines of each."""
+        each = max(1, most // max(1, len(self.failed)))
+        return [line for name in SCRIPTS for line in last_of(name, self.failed.get(name, []), each)]
 
     def took(self) -> str:
         """How long each took."""
@@ -241,6 +248,12 @@ class Scripts:
 
     def counts(self) -> str:
         return "; ".join(f"{what}: {sum(self.counted[name])}" for name, what in SCRIPTS.items())
+
+
+def last_of(name: str, lines: list[str], most: int) -> list[str]:
+    """The last lines of a script, and how many there are above these."""
+    above = [f"{name}: ({len(lines) - most} lines more, above)"] if len(lines) > most else []
+    return above + [f"{name}: {line}" for line in lines[-most:]]
 
 
 def at_niceness(nice: int) -> list[str]:

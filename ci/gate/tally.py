@@ -8,6 +8,8 @@ ROOT = pathlib.Path(__file__).resolve().parent.parent.parent
 PROGRAM = ROOT / "crates" / "prefork" / "out" / "prefork"
 # The most lines that are printed of what is wrong.
 MOST_LINES = 40
+# How much of the first line of something wrong is printed again at the end.
+MOST_BYTES, NEWLINE = 400, "\n"
 
 
 def program_path(named: str | pathlib.Path | None = None) -> str:
@@ -49,11 +51,15 @@ class Tally:
         self.is_lost |= other.is_lost
 
     def end(self) -> int:
-        """Prints what is wrong and the counts, and gives the exit status: 1 if a check failed or no check was made."""
-        for line in self.wrong[:MOST_LINES]:
+        """Prints what is wrong and the counts, and gives the exit status: 1 if a check failed or no check was made. Where
+        something wrong has many lines, the first line of each is printed again at the end."""
+        told = self.wrong[:MOST_LINES]
+        for line in told:
             print(line)
         if len(self.wrong) > MOST_LINES:
             print(f"and {len(self.wrong) - MOST_LINES} lines more")
+        for line in told if any("\n" in line for line in told) else ():
+            print(f"failed: {line.partition(NEWLINE)[0][:MOST_BYTES]}")
         print(f"{self.passed} passed, {self.failed} failed")
         return 1 if self.failed or not self.passed else 0
 

@@ -15,9 +15,16 @@ FILES = {
     "./usr/share/man/man5/prefork.toml.5.gz": "-rw-r--r--", "./usr/share/doc/prefork/copyright": "-rw-r--r--",
     "./usr/share/bash-completion/completions/prefork": "-rw-r--r--", "./etc/prefork/default.env": "-rw-r--r--",
     "./usr/share/doc/prefork/fleet/roles/prefork/tasks/main.yml": "-rw-r--r--",
+    "./usr/share/doc/prefork/README.md": "-rw-r--r--", "./usr/share/doc/prefork/docs/FORMATS.md": "-rw-r--r--",
+    "./usr/share/doc/prefork/docs/WORKERS.md": "-rw-r--r--", "./usr/share/doc/prefork/docs/formats/json.md": "-rw-r--r--",
+    "./usr/share/zsh/vendor-completions/_prefork-ctl": "-rw-r--r--",
+    "./usr/share/fish/vendor_completions.d/prefork-ctl.fish": "-rw-r--r--",
 }
+# The texts whose links lead somewhere in the package.
+LINKED = ("guides", "examples", "units", "containers")
+LINK = re.compile(r"\]\((?!https?:|#)([^)#\s]+)")
 # What ./package reads; of the crates it looks at the program and at how old its proof is.
-SOURCES = ("package", "install", "CHANGELOG.md", "crates.txt", "docs", "completions", "service", "fleet")
+SOURCES = ("package", "install", "CHANGELOG.md", "README.md", "crates.txt", "docs", "completions", "service", "fleet")
 
 
 def can_build() -> bool:
@@ -46,9 +53,30 @@ def is_built(room: Room) -> None:
     own = ("./usr/", "./etc/prefork/")
     strange = [path for path in modes if not path.startswith(own) and path not in ("./", "./etc/")]
     room.check(f"it has files elsewhere: {strange}", not strange)
+    lead_somewhere(room, package)
+    pleases_lintian(room, package)
     version = ran("dpkg-deb", "--field", package, "Version").stdout.strip()
     room.check(f"an unproved program is in version {version}", version.endswith("~unproved"))
     is_only_proved(room, version.partition("~")[0])
+
+
+def lead_somewhere(room: Room, package: pathlib.Path) -> None:
+    """The links of guides lead to files of the package."""
+    tree = room.path / "unpacked"
+    ran("dpkg-deb", "--extract", package, tree)
+    documents = tree / "usr" / "share" / "doc" / "prefork"
+    pages = [page for name in LINKED for page in (documents / name).glob("*.md")]
+    dead = [f"{page.name}: {link}" for page in pages for link in LINK.findall(page.read_text()) if not (page.parent / link).exists()]
+    room.check(f"links lead nowhere: {dead}", pages and not dead)
+
+
+def pleases_lintian(room: Room, package: pathlib.Path) -> None:
+    """lintian has no error, where it is there."""
+    if not shutil.which("lintian"):
+        room.skipped.append("lintian is not on the path")
+        return
+    found = ran("lintian", "--allow-root", "--fail-on=error", package)
+    room.check(f"lintian: {found.stdout}", found.returncode == 0)
 
 
 def is_only_proved(room: Room, version: str) -> None:

@@ -111,23 +111,30 @@ def a_serve_is_killed(site: Site) -> None:
 
 
 def both_are_killed(site: Site) -> None:
-    """`serve` and its master killed, while a request is slow: it is answered, and the next start does not wait for
-    it."""
+    """`serve` and its master killed under load, while a request is slow: it is answered, and the next start does not wait
+    for it. The workers serve on, the keeper keeps the sockets, and the next start has the same ones: no request is lost."""
     began = site.hold_slow()
-    site.begin()
-    site.end_load()
+    site.begin(listeners=[site.first, site.second, str(site.room / "site.sock")])
+    old, sockets = site.workers(), site.listening()
     with concurrent.futures.ThreadPoolExecutor(1) as pool:
         asked = pool.submit(answer_of, site.first, "/slow")
         try:
             until("the slow request", began.exists)
-            master = site.master()
+            master, keeper = site.master(), site.keeper()
             site.serve.kill()
             site.kill(master)
             site.serve.wait()
-            site.begin()
+            # A start that fails takes nothing away.
+            failed = site.started("--metrics", site.first)
+            site.check("a start whose port is taken doesn't end with 1", failed.wait(SECONDS) == 1)
+            site.serve = site.started()
+            until("other workers beside the one that is asked", lambda: len(site.workers() - old) == 2)
+            until("another keeper alone", lambda: site.keeper() not in (None, keeper))
         finally:
             site.hold.unlink()
         site.check("the slow request isn't answered", asked.result(SECONDS).startswith("version 1 "))
+    until("no old worker", lambda: site.has_others(old))
+    site.check(f"other sockets: {sockets}, {site.listening()}", site.listening() == sockets)
     site.wants("HUP", 0, "done", 2)
     site.end("1")
     site.certify()
@@ -185,6 +192,8 @@ def a_serve_is_killed_whose_sockets_are_stored(site: Site) -> None:
         site.serve = site.started()
         until("the pid file of serve", lambda: (site.run / "serve.pid").read_text() == f"{site.serve.pid}\n")
         site.check("the Unix socket doesn't serve", unix_answer(path).startswith("HTTP/1.1 200 "))
+        # (workers of the one before serve on, while this one does not hear words yet)
+        until("words are heard", (site.run / "ctl.sock").exists)
         site.go_over_to()
         site.wants("HUP", 0, "done", 2)
         until("one socket is stored", lambda: len(systemd.stored) == 1)

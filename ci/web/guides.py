@@ -3,31 +3,48 @@ copy of its folder.
 
 Each page leads to an answer, and to a reload with status 0, within two minutes. Its ports are others here.
 """
+import functools
 import os
 import pathlib
 import re
 import shutil
 import subprocess
 import tempfile
+import threading
 import time
 from collections.abc import Callable, Iterator
 from typing import Any
 
 from gate.addresses import free_address
+from gate.again import Work
 from gate.documents.commands import of_markdown
 from gate.processes import Mark
 from gate.tally import ROOT, Tally
+from gate.waiting import Wrong
 
 SERVICE = ROOT / "service"
 GUIDES = SERVICE / "guides"
 HELLO = "hello from process"
+# A page that writes the configuration by itself, and does not take that of the first page.
+ALONE = "file.md"
 # The pages, each with the set-ups and programs of ci/adapters that it needs, what an answer has, and the options of curl.
 PAGES = {
     "wsgi.md": ({"wsgi"}, HELLO), "gunicorn.md": ({"gunicorn"}, HELLO), "uvicorn.md": ({"uvicorn"}, HELLO),
     "node.md": ({"node"}, HELLO), "ruby.md": ({"unicorn", "puma"}, HELLO), "nginx.md": ({"nginx"}, "Welcome to nginx"),
-    "haproxy.md": ({"haproxy"}, HELLO), "uwsgi.md": ({"uwsgi"}, HELLO), "django.md": ({"wsgi", "django"}, "to 192.0.2.7"),
+    ALONE: ({"gunicorn"}, HELLO), "haproxy.md": ({"haproxy"}, HELLO), "uwsgi.md": ({"uwsgi"}, HELLO), "go.md": ({"go"}, HELLO),
+    "django.md": ({"wsgi", "django", "nginx", "gunicorn"}, HELLO),
 }
+# Of a page, what is printed of an address that is asked for.
+PRINTED = {"django.md": {
+    "http://127.0.0.1:8080/": "to 192.0.2.7", "http://127.0.0.1:8082/": "301 Moved Permanently",
+    "https://127.0.0.1:8443/": "to 127.0.0.1", "https://127.0.0.1:8443/static/style.css": "color: green",
+}}
+# What is typed before reloads that fail, with status 3.
+BREAKS = "echo '1 / 0' >>"
+# What is printed of a reload, by its status; of one that was tried first too.
+RELOADS = {0: re.compile(r"^done cause none pid no-file$", re.M), 3: re.compile(r"^(rolled-back |failed not-ready$)", re.M)}
 ADDRESS, ADDED = "127.0.0.1:8080", "127.0.0.1:8081"
+ADDRESSES = (ADDRESS, "127.0.0.1:8082", "127.0.0.1:8443")
 README, README_NEEDS = "service/README.md", {"wsgi", "gunicorn"}
 NUMBER = re.compile(r"process \d+")
 # How often a page asks for its first answer, once a second, and how often that is done here: a busy machine starts a
@@ -35,9 +52,11 @@ NUMBER = re.compile(r"process \d+")
 ASKS, OFTEN = "--retry 9 --retry-delay 1 ", "--retry 90 --retry-delay 1 "
 # The time from the first command to the status of the reload.
 MOST_SECONDS = 120
+# What begins a block that is typed.
+TYPED = re.compile(r"^(?:\S+=\S+ )?(?:prefork|mkdir|sed|curl|openssl|nginx|python3|echo|go build|sleep)", re.M)
 # A program is typed with & after it, so its output is a file.
 BLOCK = re.compile(r"^( *)```(\w+)\n(.*?)^ *```$", re.M | re.S)
-NAME = re.compile(r"`([\w.-]+\.(?:py|js|ru|toml|cfg|conf\.in)|start-\w+)`")
+NAME = re.compile(r"`([\w.-]+\.(?:py|js|ru|go|toml|cfg|css|conf|conf\.in)|start-\w+)`")
 # What a page asks with beside the address: the proxy of its application.
 HEADERS = re.compile(r"-H '[^']*'")
 
@@ -58,12 +77,19 @@ class Reader:
 
     def __init__(self, page: str, answer: str, path: str, room: pathlib.Path):
         self.page, self.answer, self.room = page, answer, room
-        self.address, self.mark, self.wrong = free_address(), Mark("GUIDES_OF"), list[str]()
-        self.environment = self.mark.environment(PATH=path, LC_ALL="C")
+        self.addresses, self.mark, self.wrong = {one: free_address() for one in ADDRESSES}, Mark("GUIDES_OF"), list[str]()
+        self.address = self.addresses[ADDRESS]
+        self.environment = self.mark.environment(PATH=path, LC_ALL="C", GOCACHE=str(SERVICE / "out" / "go-cache"))
         self.headers = ""
 
+    def filled(self, text: str) -> str:
+        """A text of a page with the addresses of this reader."""
+        for one, free in self.addresses.items():
+            text = text.replace(one, free)
+        return text.replace(ASKS, OFTEN)
+
     def text(self, page: str) -> str:
-        return (GUIDES / page).read_text().replace(ADDRESS, self.address).replace(ASKS, OFTEN)
+        return self.filled((GUIDES / page).read_text())
 
     def write(self, page: str) -> None:
         """Writes the files of a page."""
@@ -90,28 +116,36 @@ class Reader:
 
     def follow(self) -> None:
         """Follows the page from its first command to its last one."""
-        self.write("README.md")
+        if self.page != ALONE:
+            self.write("README.md")
         self.write(self.page)
         started = time.monotonic()
-        for name, command in blocks_of(self.text(self.page)):
-            if name or "prefork" not in command:
-                continue
-            if "prefork-serve " in command and (self.room / "run" / "serve.pid").exists():
+        for name, block in blocks_of(self.text(self.page)):
+            if not name and TYPED.search(block):
+                self.type_block(block)
+        seconds = time.monotonic() - started
+        if seconds > MOST_SECONDS:
+            self.wrong.append(f"{self.page}: this took {seconds:.0f} seconds")
+
+    def type_block(self, block: str) -> None:
+        """Types the commands of a block, and looks at what they print. One that starts something ends with &."""
+        breaks = 0
+        for command in block.replace("\\\n", " ").splitlines():
+            breaks = 3 if command.startswith(BREAKS) else breaks
+            if command.startswith("prefork-serve ") and (self.room / "run" / "serve.pid").exists():
                 # (the word is answered a moment before the service has ended, and another one is refused until then)
                 self.stop()
             printed = self.typed(command)
             self.headers = " ".join(HEADERS.findall(command)) or self.headers
-            if "curl " in command:
-                self.expect(command, printed, self.answer)
-            elif "prefork-serve " in command:
-                ask = f"curl --silent --show-error --retry 9 --retry-connrefused http://{self.address}/"
+            if command.startswith("curl "):
+                told = {self.filled(asked): text for asked, text in PRINTED.get(self.page, {}).items()}
+                self.expect(command, printed, told.get(command.split()[-1], self.answer))
+            elif command.startswith("prefork-serve ") and "curl " not in block:
+                ask = f"curl --silent --show-error {OFTEN}--retry-connrefused {self.headers} http://{self.address}/"
                 self.expect(command, self.typed(ask), self.answer)
-            if "echo $?" in command:
-                self.expect(command, printed, "\ndone cause none pid no-file\n")
-                self.expect(command, printed, "\n0\n")
-        seconds = time.monotonic() - started
-        if seconds > MOST_SECONDS:
-            self.wrong.append(f"{self.page}: this took {seconds:.0f} seconds")
+            if command.endswith("echo $?"):
+                self.expect(command, printed, f"\n{breaks}\n")
+                self.expect(command, printed, found[0] if (found := RELOADS[breaks].search(printed)) else RELOADS[breaks].pattern)
 
     def break_off(self) -> None:
         """An application that does not load is rolled back, and the old one serves on, as the pages say."""
@@ -179,21 +213,41 @@ def faults_of_readme(prefork: str, path: str) -> list[str]:
         return reader.wrong
 
 
-def outcome(prefork: str, there: set[str], *others: Callable[[str], list[str]]) -> Tally:
-    """Installs the service with a program, and follows the guides whose set-ups are there, and others with what the
-    README needs, one after another."""
+class Installed:
+    """The service as ./install installs it, once for all pages."""
+
+    def __init__(self) -> None:
+        self.lock, self.prefix = threading.Lock(), tempfile.TemporaryDirectory(prefix="installed-")
+        self.path = ""
+
+    def path_with(self, prefork: str) -> str:
+        """The path of a shell that finds it, with this program. The Python of Debian's packages is the first one."""
+        with self.lock:
+            if not self.path:
+                command = [str(ROOT / "install"), "--unproved", prefork, self.prefix.name]
+                done = subprocess.run(command, stdin=subprocess.DEVNULL, capture_output=True, text=True)
+                if done.returncode:
+                    raise Wrong(f"./install ends with {done.returncode}: {done.stderr}")
+                self.path = f"{self.prefix.name}/bin:/usr/sbin:/usr/bin:{os.environ['PATH']}"
+            return self.path
+
+
+INSTALLED = Installed()
+
+
+def remove_installed() -> None:
+    INSTALLED.prefix.cleanup()
+
+
+def outcome(prefork: str, follows: Callable[[str], list[str]]) -> Tally:
     tally = Tally()
-    with tempfile.TemporaryDirectory(prefix="installed-") as prefix:
-        command = [str(ROOT / "install"), "--unproved", prefork, prefix]
-        installed = subprocess.run(command, stdin=subprocess.DEVNULL, capture_output=True, text=True)
-        tally.check([f"./install ends with {installed.returncode}: {installed.stderr}"] if installed.returncode else [])
-        # (the Python of Debian's packages is the first one)
-        path = f"{prefix}/bin:/usr/sbin:/usr/bin:{os.environ['PATH']}"
-        for page, (needed, _) in PAGES.items():
-            if needed <= there:
-                tally.check(faults(page, path))
-        if README_NEEDS <= there:
-            tally.check(faults_of_readme(prefork, path))
-            for follows in others:
-                tally.check(follows(path))
+    tally.check(follows(INSTALLED.path_with(prefork)))
     return tally
+
+
+def works(prefork: str, there: set[str], others: dict[str, Callable[[str], list[str]]]) -> list[Work]:
+    """The guides whose set-ups are there, the page of the service, and others that need what that needs."""
+    pages = {page: functools.partial(faults, page) for page, (needed, _) in PAGES.items() if needed <= there}
+    if README_NEEDS <= there:
+        pages |= {README: functools.partial(faults_of_readme, prefork), **others}
+    return [Work(page, functools.partial(outcome, prefork, follows)) for page, follows in pages.items()]

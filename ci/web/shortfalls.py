@@ -4,10 +4,12 @@ import itertools
 import json
 import os
 import pathlib
+import re
 import resource
 import signal
 import socket
 import subprocess
+import time
 from collections.abc import Callable
 from typing import Any
 
@@ -57,24 +59,31 @@ class Views:
     def differences(self, state: str, running: int, why: str) -> list[str]:
         """Where something else is told than this state of two workers that are wanted, and this reason."""
         status, page = json.loads(self.ctl("--json", "status") or "{}"), answer_of(self.page)
-        metrics = answer_of(self.page, "/metrics").splitlines()
+        metrics, told = answer_of(self.page, "/metrics").splitlines(), json.loads(answer_of(self.page, "/status.json") or "{}")
         text, hook = self.ctl("status"), self.told_to_hook("on-short" if state == "short" else "on-healed")
+        lines = {"json": status.get("line"), "status.json": told.get("line"), "hook": hook.get("line")}
         line = f"{state}: wanted 2, runs {running}"
         named = line if state == "short" else f"{running} workers of generation "
         looks = {
             "json": (status.get("state"), status.get("wanted"), status.get("running")) == (state, 2, running),
+            "status.json": (told.get("state"), told.get("wanted"), told.get("running")) == (state, 2, running),
             "status": f"state       {line}" in text, "page": f'class="state {state}"' in page and line in page,
             "metrics": {f'prefork_state{{state="{state}"}} 1', "prefork_workers_wanted 2", f"prefork_workers_running {running}"}
             <= set(metrics), "systemd": self.told_to_systemd().startswith(named),
             "hook": (hook.get("state"), hook.get("wanted"), hook.get("running")) == (state, 2, running),
         }
         reasons = {"json": status.get("line", ""), "status": text, "page": page, "systemd": self.told_to_systemd()}
+        reasons |= {"status.json": told.get("line", ""), "hook": str([hook.get("line"), hook.get("failing")])}
         wrong = [name for name, is_well in looks.items() if not is_well]
+        # How often it has failed changes while they are asked one after another; all else is the same text.
+        same = {name: re.sub(r"once|\d+ times", "N times", str(line)) for name, line in lines.items()}
+        wrong += [f"their lines are {same}"] if len(set(same.values())) > 1 else []
         return wrong + [f"{name}: not {why}" for name, said in reasons.items() if state == "short" and why not in said]
 
     def agree(self, what: str, state: str, running: int, why: str = "") -> None:
-        """Waits until all tell the same."""
+        """Waits until all tell the same, and says how long that took."""
         found: list[str] = []
+        began = time.monotonic()
 
         def holds() -> bool:
             try:
@@ -84,6 +93,7 @@ class Views:
             return not found
         try:
             until(f"all tell of {what}", holds)
+            print(f"{self.site.name}: all tell of {what} after {time.monotonic() - began:.1f} s")
         except Exception:
             self.site.check(f"{what}: {found}; {self.ctl('status')}{self.told_to_systemd()}", False)
             raise

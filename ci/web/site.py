@@ -25,6 +25,8 @@ RATE = 260
 # How long a request may wait. Where nobody serves for a while requests wait, on a busy machine for many seconds.
 PATIENCE = 50
 CLIENTS = 8
+# The state of a socket that listens, in /proc/net/tcp.
+LISTENS = "0A"
 CENSUS = re.compile(r"census \S+ : counted (\S+)$", re.M)
 # An application that cannot start, neither as a worker nor as a new master.
 BROKEN = "#!/bin/sh\nexit 7\n"
@@ -80,6 +82,8 @@ class Site:
         self.given: list[int] = []
         # The program that runs in place of the double, with an adapter, if there is one.
         self.program: list[str] = []
+        # Whether the configuration says so, and not the command line.
+        self.is_in_file = False
         # Whether a preloader forks the workers, which have their names and not words of their own.
         self.is_forked = False
         # More options of the load.
@@ -180,9 +184,9 @@ class Site:
         # So that there is load before the first word.
         time.sleep(0.5)
 
-    def started(self) -> subprocess.Popen:
-        command: list[Any] = [*self.before, BIN / "prefork-serve", "--folder", self.run, "--prefork", self.prefork]
-        command += [*self.options, "site.toml", *(["--", *self.program] if self.program else [])]
+    def started(self, *more: str) -> subprocess.Popen:
+        command: list[Any] = [*self.before, BIN / "prefork-serve", *more, "--folder", self.run, "--prefork", self.prefork]
+        command += [*self.options, "site.toml", *(["--", *self.program] if self.program and not self.is_in_file else [])]
         streams: dict[str, Any] = {"stdin": subprocess.DEVNULL, "stderr": self.said, "pass_fds": self.given}
         return subprocess.Popen(command, env=self.environment, cwd=self.room, **streams)
 
@@ -220,6 +224,13 @@ class Site:
     def keeper(self) -> int | None:
         return self.found(lambda words: str(BIN / "prefork-keeper") in words[:2])
 
+    def listening(self) -> set[tuple[str, str]]:
+        """The sockets that listen at its two ports, as the system numbers them."""
+        ports = {f"{int(address.rpartition(':')[2]):04X}" for address in (self.first, self.second)}
+        lines = [line.split() for line in pathlib.Path("/proc/net/tcp").read_text().splitlines()[1:]]
+        found = [(words[1].partition(":")[2], words[9]) for words in lines if words[3] == LISTENS]
+        return {(port, inode) for port, inode in found if port in ports}
+
     def kill(self, number: int | None) -> None:
         """Kills a process that was found."""
         if number is None:
@@ -251,7 +262,7 @@ class Site:
         block, faults = sent.communicate(timeout=SECONDS)
         self.check(f"{word}: ctl's status is {sent.returncode}: {block}{faults}", sent.returncode == status)
         self.check(f"{word}: the block is {block!r}", block.startswith(f"word {word}\n"))
-        self.check(f"{word}: the report is {block!r}", block.split("\n")[-2].startswith(report))
+        self.check(f"{word}: the report is {block!r}", block.rstrip("\n").rpartition("\n")[2].startswith(report))
         counted = CENSUS.findall(block)
         self.check(f"{word}: counted {counted}", counted and size_of(counted[-1]) == workers)
         self.check_workers(word, workers)

@@ -40,7 +40,9 @@ const run = (command, words, files, input) => {
 const ask = (words, files, input = '') => run('prefork', words, files, input);
 const blocksOf = (state, length) => {
   const told = ask(...Asked.enacting(state, length, ['--json']));
-  return told.output ? JSON.parse(told.output).blocks : [];
+  // (a fault has no blocks, or comes below those before it)
+  const [first] = told.output.split('\n');
+  return (first && JSON.parse(first).blocks) || [];
 };
 const isSame = (p, q) => JSON.stringify(p) === JSON.stringify(q);
 

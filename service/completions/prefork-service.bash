@@ -6,7 +6,7 @@ _prefork_service() {
 
     COMPREPLY=()
     case $prev in
-        --folder | --reload-on-change | --prefork | --python | --chdir | --records | --metrics)
+        --folder | --reload-on-change | --prefork | --python | --chdir | --records | --metrics | --access-log)
             compopt -o default
             return
             ;;
@@ -16,6 +16,10 @@ _prefork_service() {
             ;;
         --stop | --usr1)
             mapfile -t COMPREPLY < <(compgen -W 'HUP INT QUIT TERM USR1 USR2 WINCH' -- "$cur")
+            return
+            ;;
+        --access-form)
+            mapfile -t COMPREPLY < <(compgen -W 'combined json' -- "$cur")
             return
             ;;
         --socket-group)
@@ -50,7 +54,7 @@ _prefork_service() {
                 compopt -o default
                 return
             fi
-            options='--folder --prefork --records --records-size --metrics --page --answer-within --defer-accept --socket-mode --socket-group --public --on-done --on-rolled-back --on-degraded --on-short --on-healed --check --keep-trying --plain-log --reload-on-change --listen --workers --wsgi --preload --python --threads --timeout --keep --trusted-proxy --chdir --warm --after-load --after-fork --ready --ready-within --probe --probe-within --probe-limit --stop --finish --usr1 --env --no-listen-fds --blocking --version --help'
+            options='--folder --prefork --records --records-size --metrics --page --host --answer-within --defer-accept --socket-mode --socket-group --public --on-done --on-rolled-back --on-degraded --on-short --on-healed --check --init --keep-trying --plain-log --reload-on-change --listen --workers --wsgi --preload --python --threads --timeout --keep --trusted-proxy --access-log --access-form --chdir --warm --after-load --after-fork --ready --ready-within --probe --probe-within --probe-limit --stop --finish --usr1 --env --no-listen-fds --blocking --version --help'
             ;;
         prefork-ctl) options='--folder --json --wait --seconds --events --forbid --require --least --records --prefork --version --help' ;;
         prefork-checkworker) options='--path --slow --one --preload --patience --version --help' ;;

@@ -9,14 +9,16 @@ obeys the lines of standard input as docs/WORKERS.md says, takes the listening s
 each connection in a thread of its own with `page(request)`, which gives a status and a text. Lines are heard by the
 main thread alone: whatever is being served, the master is answered at once.
 
-At `quit`, and at the end of input, no connection is accepted any more, and each one that is open gets its answers to
-the end: the next answer on a kept connection says that it is the last. Then `gone` is said, where `quit` was told.
+At `quit` no connection is accepted any more, and each one that is open gets its answers to the end: the next answer on
+a kept connection says that it is the last. Then `gone` is said. At the end of input it does the same, but for `gone`,
+once the service no longer needs a worker that has survived its master.
 """
 import os
 import select
 import socket
 import sys
 import threading
+import time
 
 # How long a kept connection may be idle, a request may take to arrive, the requests in progress may take to end, and
 # the keeper to answer. The first is longer than a machine may halt: the load counts a kept connection that ends
@@ -26,6 +28,8 @@ REQUEST_SECONDS = 10.0
 FINISH_SECONDS = 30.0
 KEEPER_SECONDS = 10.0
 MOST_CONNECTIONS = 256
+# How often a worker that has survived its master looks whether it is to finish.
+SURVIVAL_LOOK = 0.1
 LONGEST_HEAD = 16384
 LONGEST_BODY = 1 << 20
 REASONS = {200: "OK", 400: "Bad Request", 404: "Not Found", 405: "Method Not Allowed", 500: "Internal Server Error"}
@@ -261,7 +265,7 @@ class Worker:
     """The master's lines, and what each asks for."""
 
     def __init__(self, page):
-        self.server, self.start, self.status = Server(page), None, 0
+        self.server, self.start, self.status, self.serves = Server(page), None, 0, False
 
     def obey(self, line):
         """Does what a line asks; whether the next one is heard."""
@@ -276,6 +280,7 @@ class Worker:
                 # It was killed meanwhile: no request is for a worker that nobody waits for.
                 return False
             self.server.begin()
+            self.serves = True
             say("ready")
         elif word == "ping":
             say("pong")
@@ -292,6 +297,22 @@ class Worker:
         return True
 
 
+def outlive_master():
+    """Serves on after the death of the master, as long as the service wants it: while a file is there that it touches."""
+    path = f"{os.environ.get('PREFORK_FOLDER')}/survivors/{os.environ.get('PREFORK_WORKER')}.{os.getpid()}"
+    touched, seen = 0, time.monotonic()
+    try:
+        os.close(os.open(path, os.O_WRONLY | os.O_CREAT | os.O_TRUNC, 0o600))
+        while time.monotonic() - seen <= FINISH_SECONDS:
+            if (now := os.stat(path).st_mtime_ns) != touched:
+                touched, seen = now, time.monotonic()
+            time.sleep(SURVIVAL_LOOK)
+        os.unlink(path)
+    except OSError:
+        # There is no service that wants it, or it wants it no longer.
+        pass
+
+
 def work(page):
     """Is a worker that serves `page`, until it is told to quit or its input ends."""
     worker = Worker(page)
@@ -299,6 +320,8 @@ def work(page):
         for line in sys.stdin:
             if not worker.obey(line):
                 return 0
+        if worker.serves:
+            outlive_master()
     except (IndexError, ValueError):
         worker.status = 1
     worker.server.finish()

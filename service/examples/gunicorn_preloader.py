@@ -28,12 +28,13 @@ from gunicorn import sock as sockets
 from gunicorn.app.wsgiapp import WSGIApplication
 
 from prefork_service import wsgi
+from prefork_service.addresses import text_of
 from prefork_service.convention import Pipes, clear_environment, warn
 from prefork_service.preloader import Preloader
 from prefork_service.titles import set_title
 
 
-class Serving:
+class Serving(wsgi.Serving):
     """A worker of gunicorn that serves, as the thread sees it that hears the master."""
 
     def __init__(self, worker: Any):
@@ -42,7 +43,7 @@ class Serving:
     def close(self, address: str) -> None:
         """It accepts no more at an address, if its class can do that."""
         for one in self.worker.sockets:
-            if hasattr(self.worker, "poller") and address == address_of(one):
+            if hasattr(self.worker, "poller") and address == text_of(one.getsockname()):
                 self.worker.poller.unregister(one)
 
     def finish(self) -> None:
@@ -52,17 +53,18 @@ class Serving:
     def is_stuck(self, timeout: float) -> bool:
         return timeout > 0 and time.monotonic() - self.worker.turned > timeout
 
+    def reopen(self) -> None:
+        self.worker.log.reopen_files()
 
-def address_of(listener: Any) -> str:
-    name = listener.getsockname()
-    return name if isinstance(name, str) else f"{name[0]}:{name[1]}"
+    def settle(self) -> None:
+        """gunicorn writes its own logs, and counts nothing here."""
 
 
 def forked_class(kind: type) -> type:
     """A class of gunicorn's, whose worker has no master of gunicorn's: it says that it turns to this process alone, and its
     parent may be another one."""
 
-    class Forked(kind):  # type: ignore[misc, valid-type]
+    class Forked(kind):
         ppid = property(lambda self: os.getppid(), lambda self, number: None)
         turned = time.monotonic()
         # What hears the master, once it is there.

@@ -10,6 +10,8 @@ require "puma/server"
 require "rack"
 
 SETOWN, SETSIG, ASYNC, LONGEST, HANDED = 8, 10, 0o20000, 4096, 4
+# How often a worker that has survived its master looks whether it is to finish, and after how long it does by itself.
+LOOK, FINISH = 0.1, 30
 
 # The name that `ps -o comm` shows.
 def show_name(name)
@@ -40,9 +42,24 @@ class Leaving
   end
 end
 
+# Serves on after the death of the master, as long as the service wants it: while a file is there that it touches.
+def outlive_master(name)
+  path, clock = "#{FOLDER}/survivors/#{name}.#{$$}", -> { Process.clock_gettime(Process::CLOCK_MONOTONIC) }
+  File.write(path, "")
+  touched, seen = nil, clock.call
+  while clock.call - seen <= FINISH
+    now = File.mtime(path)
+    touched, seen = now, clock.call if now != touched
+    sleep LOOK
+  end
+  File.unlink(path)
+rescue SystemCallError
+  nil
+end
+
 # A worker: obeys the master's lines, to their end.
-def work(app, input, output, place, threads)
-  output.sync, start, addresses, app = true, nil, [], Leaving.new(app)
+def work(app, input, output, name, place, threads)
+  output.sync, start, addresses, serves, app = true, nil, [], false, Leaving.new(app)
   server = Puma::Server.new(app, Puma::Events.strings, {min_threads: 1, max_threads: threads})
   keeper = Socket.new(:UNIX, :SEQPACKET)
   keeper.connect(Addrinfo.unix(place))
@@ -53,7 +70,7 @@ def work(app, input, output, place, threads)
       socket, (host, _, port) = socket_of(keeper, first), first.rpartition(":")
       server.binder.inherit_tcp_listener(host, port.to_i, TCPServer.for_fd(socket.fileno))
       addresses << first
-    when "go" then server.run(true) && output.puts("ready")
+    when "go" then serves = server.run(true) && (output.puts("ready") || true)
     when "ping" then output.puts("pong")
     when "tick" then output.puts("beat #{first} #{start}")
     when "close" then keeper.send("-#{first}", 0) if addresses.delete(first)
@@ -66,6 +83,7 @@ def work(app, input, output, place, threads)
     else abort "a line that no master says: #{word}"
     end
   end
+  outlive_master(name) if serves
   app.leave
   server.stop(true)
 end
@@ -86,7 +104,7 @@ def become(connection, text, given, app, threads)
   _, name, keeper = text.split(" ", 3)
   show_name("worker #{name}")
   tie(connection, lifeline)
-  work(app, input, output, keeper, threads)
+  work(app, input, output, name, keeper, threads)
   connection.send("ended 0", 0)
 end
 
@@ -111,6 +129,7 @@ rescue SystemCallError
 end
 
 life, said, fork_socket = STDIN.dup, STDOUT.dup, Socket.for_fd(Integer(ENV.delete("PREFORK_FORK_SOCKET")))
+FOLDER = ENV["PREFORK_FOLDER"]
 ENV.delete_if { |name, _| name.start_with?("PREFORK_") }
 STDIN.reopen("/dev/null") && STDOUT.reopen(STDERR)
 show_name("prefork-preload")

@@ -5,9 +5,11 @@
  * prefork-activate --help, and docs/WORKERS.md for the lines. */
 #define _GNU_SOURCE
 #include "ending.h"
+#include "gate.h"
 #include "probe.h"
 #include "program.h"
 #include "reason.h"
+#include "survival.h"
 #include "waiting.h"
 #include "worker.h"
 
@@ -46,13 +48,14 @@ static char start_number[32];
 /* The program: its holder and the socket to it, its process, and what it has said to NOTIFY_SOCKET. */
 static pid_t holder, program;
 static int line = -1, notified = -1;
-static char room[256], notify_path[300], probe_path[300];
+static char room[256], notify_path[300], probe_path[300], gate_path[300];
+static bool is_shut;
 static double begun, next_look;
 static bool is_ready, has_notified;
 
-/* How the worker ends: since when it finishes, and whether it was told to quit. */
+/* How the worker ends: since when it finishes, whether it was told to quit, and whether its master has died meanwhile. */
 static double finish_by;
-static bool was_told_to_quit;
+static bool was_told_to_quit, has_survived;
 
 static void say(const char *text) {
     char said[LONGEST_LINE];
@@ -87,9 +90,9 @@ static void end_program(void) {
         return;
     close(line);
     line = -1;
-    program = 0;
     has_ended_within(holder, HOLDER_SECONDS);
-    kill_all();
+    kill_all(holder, program);
+    program = 0;
     remove_room(room);
 }
 
@@ -113,6 +116,7 @@ static void make_room(void) {
         fail("%s: %s", room, strerror(errno));
     snprintf(notify_path, sizeof notify_path, "%s/notify", room);
     snprintf(probe_path, sizeof probe_path, "%s/probe", room);
+    snprintf(gate_path, sizeof gate_path, "%s/gate", room);
 }
 
 static void open_notify(void) {
@@ -148,12 +152,16 @@ static void go(void) {
     if (options.blocking)
         set_blocking();
     begin_waiting(&waiting, &addresses);
+    const char *library = options.ready == READY_PROBE ? gate_library() : 0;
+    is_shut = library && shut_gate(gate_path, &addresses);
     struct gifts gifts = {&options,
                           &addresses,
                           options.probe ? probe.listener : -1,
                           room,
                           notified >= 0 ? notify_path : 0,
-                          options.probe ? probe_path : 0};
+                          options.probe ? probe_path : 0,
+                          is_shut ? gate_path : 0,
+                          library};
     begun = next_look = now();
     adopt_orphans();
     holder = start_holder(&gifts, &line);
@@ -221,7 +229,9 @@ static void hear_master(void) {
     if (got < 0 && errno == EINTR)
         return;
     if (got <= 0) {
-        finish();
+        has_survived = is_ready && begin_survival();
+        if (!has_survived)
+            finish();
         return;
     }
     length += (size_t)got;
@@ -278,6 +288,8 @@ static void look(void) {
     if (!has_master())
         return;
     if (is_program_ready()) {
+        if (is_shut && !open_gate(gate_path))
+            END_WRONG("%s: %s", gate_path, strerror(errno));
         is_ready = true;
         say("ready");
     } else if (options.ready == READY_PROBE && probe.wrong >= MOST_WRONG) {
@@ -299,6 +311,10 @@ static void go_on(void) {
     }
     if (!program)
         return;
+    if (has_survived && is_survival_over(options.finish)) {
+        finish();
+        return;
+    }
     if (options.probe)
         go_on_probing(&probe);
     if (!is_ready)
@@ -323,6 +339,8 @@ static int pause_of(void) {
         seconds = until_probe(&probe);
     if (program && !finish_by && !is_ready)
         seconds = until_look(seconds);
+    if (has_survived && !finish_by && seconds > SURVIVAL_LOOK)
+        seconds = SURVIVAL_LOOK;
     return seconds > 0 ? (int)(seconds * 1000) + 1 : 0;
 }
 
@@ -332,7 +350,7 @@ static void turn(void) {
     struct pollfd watched[] = {{line, POLLIN, 0},
                                {notified, POLLIN, 0},
                                {options.probe && program ? probe.connection : -1, POLLIN, 0},
-                               {finish_by || is_starting ? -1 : lines, POLLIN, 0}};
+                               {finish_by || is_starting || has_survived ? -1 : lines, POLLIN, 0}};
     if (poll(watched, 4, pause_of()) < 0 && errno != EINTR)
         fail("poll: %s", strerror(errno));
     if (watched[0].revents)

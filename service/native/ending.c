@@ -15,6 +15,8 @@
 
 /* The pause between two looks at children that end, in microseconds. */
 #define LOOK 2000
+/* How long it is tried to end children that are not known, in seconds. */
+#define BLIND_SECONDS 5
 
 static int remove_entry(const char *path, const struct stat *found, int kind, struct FTW *place) {
     (void)found, (void)kind, (void)place;
@@ -22,7 +24,8 @@ static int remove_entry(const char *path, const struct stat *found, int kind, st
     return 0;
 }
 
-static void kill_children(void) {
+/* Kills the children that /proc shows; whether there is a /proc. */
+static bool kill_children(void) {
     char path[300], line[512];
     int parent;
     struct dirent *entry;
@@ -37,19 +40,37 @@ static void kill_children(void) {
         if (file)
             fclose(file);
     }
-    if (folder)
-        closedir(folder);
+    if (!folder)
+        return false;
+    closedir(folder);
+    return access("/proc/self/stat", R_OK) == 0;
 }
 
-/* Kills all that is left of the program. What a killed process has started becomes a child of this one. */
-void kill_all(void) {
+/* Kills a child and its group, as far as they are children of this process: their numbers are not those of others then. */
+static void kill_known(pid_t child) {
+    siginfo_t found;
+    if (child > 0 && waitid(P_PGID, (id_t)child, &found, WEXITED | WNOHANG | WNOWAIT) == 0)
+        kill(-child, SIGKILL);
+    if (child > 0 && waitid(P_PID, (id_t)child, &found, WEXITED | WNOHANG | WNOWAIT) == 0)
+        kill(child, SIGKILL);
+}
+
+/* Kills all that is left of the program. What a killed process has started becomes a child of this one. Without a /proc
+ * only some are known, and others may stay. */
+void kill_all(pid_t holder, pid_t program) {
+    double begun = now();
     for (;;) {
         pid_t ended = waitpid(-1, 0, WNOHANG);
         if (ended < 0 && errno == ECHILD)
             return;
         if (ended > 0)
             continue;
-        kill_children();
+        if (!kill_children()) {
+            kill_known(holder);
+            kill_known(program);
+            if (now() - begun > BLIND_SECONDS)
+                return;
+        }
         usleep(LOOK);
     }
 }

@@ -78,7 +78,7 @@ static void hold(const struct gifts *gifts, int line) {
     } else {
         tell(line, NEWS_REFUSED, fault ? fault : errno);
     }
-    kill_all();
+    kill_all(0, program);
     remove_room(gifts->room);
 }
 

@@ -1,14 +1,22 @@
-/* prefork-launch child | prefork-launch adopt
+/* prefork-launch child | prefork-launch adopt | prefork-launch bound PARENT PROGRAM ARGUMENT.. | prefork-launch load NUMBER
  *
- * What a master starts as its workers, and as the new master of an upgrade. prefork-serve starts masters with it.
+ * What a master starts as its workers, and as the new master of an upgrade. prefork-serve starts masters with it, and
+ * preloaders that have settings.
  *
  * `child` becomes the worker of its generation. The folder PREFORK_FOLDER has a file for each generation, commands/I.C:
- * the words of the command, each ended by a byte 0. Words PREFORK_NAME=VALUE before them are for its environment. The
- * first worker of a generation takes commands/next for it. The generation is read from the master's first line, which
- * stays in the pipe for the worker. The worker starts in the folder to which the path PREFORK_PLACE leads at that moment: a
- * symbolic link may lead elsewhere by then.
+ * the words of the command, each ended by a byte 0. Words PREFORK_NAME=VALUE before them are for its environment. Workers
+ * with settings have sections there (recipe.h): the folder, variables, limits and the command of a group. The first worker
+ * of a generation takes commands/next for it. The generation is read from the master's first line, which stays in the pipe
+ * for the worker. The worker starts in the folder to which the path PREFORK_PLACE, or that of its section, leads at that
+ * moment: a symbolic link may lead elsewhere by then.
  *
- * `adopt` becomes `PREFORK_PROGRAM adopt`, with this program for its workers.
+ * `adopt` becomes `PREFORK_PROGRAM adopt`, with this program for its workers, and is killed when the old master ends: a
+ * master that reads the end of its input waits for its workers, which serve on then.
+ *
+ * `bound` becomes PROGRAM, which is killed when PARENT, the process that starts it, ends.
+ *
+ * `load` becomes a preloader, by the section that can be read at the descriptor NUMBER. If it can't, it says `failed` and
+ * why, as a preloader does.
  *
  * The standard error of a master is a pipe to prefork-serve, which reads there what the master asks. The messages of
  * workers do not belong into it: they go where those of the service go, each line after the name of its worker. The
@@ -17,6 +25,7 @@
 #include "ask.h"
 #include "log.h"
 #include "reason.h"
+#include "recipe.h"
 
 #include <errno.h>
 #include <fcntl.h>
@@ -27,15 +36,20 @@
 #include <stdio.h>
 #include <stdlib.h>
 #include <string.h>
+#include <sys/prctl.h>
 #include <sys/stat.h>
 #include <unistd.h>
 
 #define LONGEST_LINE 4096
+/* How often the file of a worker is written: without it the worker does not count as running. */
+#define MOST_TRIES 3
 
 static void fail(const char *form, ...) __attribute__((format(printf, 1, 2), noreturn));
 
 /* Whom the service knows this process as, once that is clear. */
 static const char *known_as;
+/* Whether it becomes a preloader, whose output is read. */
+static bool is_preloader;
 
 static void fail(const char *form, ...) {
     char text[1024];
@@ -47,6 +61,8 @@ static void fail(const char *form, ...) {
     /* Nobody may read what it says. */
     signal(SIGPIPE, SIG_IGN);
     dprintf(2, "prefork-launch: %s\n", text);
+    if (is_preloader)
+        dprintf(1, "failed %s\n", text);
     exit(1);
 }
 
@@ -92,10 +108,13 @@ static unsigned read_generation(char *generation, size_t room) {
 static void note_process(const char *generation, unsigned number) {
     char path[4096];
     snprintf(path, sizeof path, "%s/workers/%s.%u", setting("PREFORK_FOLDER"), generation, number);
-    int file = open(path, O_WRONLY | O_CREAT | O_TRUNC | O_CLOEXEC, 0600);
-    if (file >= 0) {
-        dprintf(file, "%d\n", (int)getpid());
-        close(file);
+    for (int tries = 0; tries < MOST_TRIES; tries++) {
+        int file = open(path, O_WRONLY | O_CREAT | O_TRUNC | O_CLOEXEC, 0600);
+        bool is_written = file >= 0 && dprintf(file, "%d\n", (int)getpid()) > 0;
+        if (file >= 0)
+            close(file);
+        if (is_written)
+            return;
     }
 }
 
@@ -122,7 +141,23 @@ static char *content_of(const char *path, size_t *length) {
     return got > 0 ? text : 0;
 }
 
-/* The words of a generation's command. */
+/* The words of a file, each ended by a byte 0; nothing if it has none. */
+static char **words_of(const char *path) {
+    size_t length, count = 0;
+    char *text = content_of(path, &length);
+    if (!text || text[length - 1])
+        return 0;
+    for (size_t at = 0; at < length; at++)
+        count += !text[at];
+    char **words = calloc(count + 1, sizeof *words);
+    if (!words)
+        return 0;
+    for (size_t word = 0; word < count; text += strlen(text) + 1)
+        words[word++] = text;
+    return words;
+}
+
+/* The words of a generation. */
 static char **command_of(const char *generation) {
     static char path[4096], next[4096];
     const char *folder = setting("PREFORK_FOLDER");
@@ -130,17 +165,9 @@ static char **command_of(const char *generation) {
     snprintf(next, sizeof next, "%s/commands/next", folder);
     if (link(next, path) < 0 && errno != EEXIST)
         fail("%s: %s", next, strerror(errno));
-    size_t length, count = 0;
-    char *text = content_of(path, &length);
-    if (!text || text[length - 1])
-        fail("%s: no command", path);
-    for (size_t at = 0; at < length; at++)
-        count += !text[at];
-    char **words = calloc(count + 1, sizeof *words);
+    char **words = words_of(path);
     if (!words)
-        fail("out of memory");
-    for (size_t word = 0; word < count; text += strlen(text) + 1)
-        words[word++] = text;
+        fail("%s: no command", path);
     return words;
 }
 
@@ -151,14 +178,28 @@ static char **set_variables(char **words) {
     return words;
 }
 
-/* Goes to the folder in which programs start, by its text. */
-static void enter_place(void) {
-    const char *place = getenv("PREFORK_PLACE");
+/* Goes to a folder, or to that in which programs start, by its text. */
+static void enter_place(const char *folder) {
+    const char *place = folder ? folder : getenv("PREFORK_PLACE");
     if (!place || !*place)
         return;
     if (chdir(place) < 0)
         fail("%s: %s", place, strerror(errno));
     setenv("PWD", place, 1);
+}
+
+/* Becomes what a section says. */
+static void become(char **section) __attribute__((noreturn));
+
+static void become(char **section) {
+    struct refusal refusal;
+    char **command = apply_settings(section, &refusal);
+    if (!command)
+        fail("%s", refusal.text);
+    if (!*command)
+        fail("no command");
+    execvp(command[0], command);
+    fail("%s: %s", command[0], strerror(errno));
 }
 
 /* Takes the standard error of the service. Without a keeper it stays as it is: the worker cannot start then, and says
@@ -176,6 +217,11 @@ static void take_errors(void) {
     close(connection);
 }
 
+/* Lets the system kill this process, and what it becomes, when its parent ends. */
+static void end_with_parent(void) {
+    prctl(PR_SET_PDEATHSIG, SIGKILL);
+}
+
 int main(int count, char **words) {
     char generation[32], own[4096];
     if (count == 2 && !strcmp(words[1], "child")) {
@@ -185,23 +231,44 @@ int main(int count, char **words) {
         setenv("PREFORK_WORKER", name, 1);
         if (waits(number))
             return 1;
-        char **command = set_variables(command_of(generation));
+        char **section = section_for(set_variables(command_of(generation)), number);
         note_process(generation, number);
         take_errors();
-        enter_place();
+        if (!section)
+            fail("commands/%s has no section for worker %u", generation, number);
+        enter_place(folder_of(section));
         begin_log(setting("PREFORK_FOLDER"), name);
-        execvp(command[0], command);
-        fail("%s: %s", command[0], strerror(errno));
+        become(section);
+    }
+    if (count == 3 && !strcmp(words[1], "load")) {
+        is_preloader = true;
+        snprintf(own, sizeof own, "/proc/self/fd/%s", words[2]);
+        char **section = words_of(own);
+        close(atoi(words[2]));
+        if (!section)
+            fail("%s: no section", own);
+        enter_place(folder_of(section));
+        become(section);
     }
     if (count == 2 && !strcmp(words[1], "adopt")) {
         ssize_t length = readlink("/proc/self/exe", own, sizeof own - 1);
         own[length > 0 ? length : 0] = 0;
         const char *program = setting("PREFORK_PROGRAM");
         known_as = "adopt";
+        end_with_parent();
         take_errors();
         execlp(program, program, "adopt", "--program", own, (char *)0);
         fail("%s: %s", program, strerror(errno));
     }
-    dprintf(2, "usage: prefork-launch child | prefork-launch adopt\n");
+    if (count > 3 && !strcmp(words[1], "bound")) {
+        end_with_parent();
+        if (getppid() != atoi(words[2]))
+            return 1;
+        execvp(words[3], words + 3);
+        dprintf(2, "prefork-launch: %s: %s\n", words[3], strerror(errno));
+        return 1;
+    }
+    dprintf(2, "usage: prefork-launch child | prefork-launch adopt | prefork-launch bound PARENT PROGRAM ARGUMENT.. | "
+               "prefork-launch load NUMBER\n");
     return 2;
 }

@@ -7,6 +7,7 @@
 #include <stdio.h>
 #include <stdlib.h>
 #include <string.h>
+#include <unistd.h>
 
 static const char HELP[] = "Usage: prefork-activate [OPTIONS] -- PROGRAM ARGUMENT..\n"
                            "\n"
@@ -122,5 +123,8 @@ void read_options(int count, char **words, struct options *options) {
         usage("--ready probe needs --probe PATH", 0);
     if (options->probe && options->probe[0] != '/')
         usage("--probe takes a path that begins with /, not: ", options->probe);
+    /* Whether a program waits for connections is seen there, and nowhere else. */
+    if (options->ready == READY_ACCEPT && access("/proc/self/fd", R_OK | X_OK))
+        usage("--ready accept needs /proc, which is not there; take --ready notify or --ready probe", 0);
     options->command = words + optind;
 }

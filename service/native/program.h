@@ -11,6 +11,8 @@ struct gifts {
     /* The socket of the probe, or -1. */
     int probe;
     const char *room, *notify, *probe_place;
+    /* The file that says which sockets are shut until the probe has passed, if they are, and the library that reads it. */
+    const char *gate, *library;
 };
 
 /* The holder's messages: the program's process number, why it could not be started, its exit status. */

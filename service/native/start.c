@@ -1,5 +1,6 @@
 #define _GNU_SOURCE
 #include "start.h"
+#include "shut.h"
 
 #include <errno.h>
 #include <fcntl.h>
@@ -51,16 +52,28 @@ static void append(char *text, size_t room, const char *more, size_t length) {
     text[had + length] = 0;
 }
 
+/* Appends what php-fpm knows a socket by: it has no brackets around an IPv6 host. */
+static void append_for_fpm(char *text, size_t room, const char *address, int number) {
+    const char *end = *address == '[' ? strchr(address, ']') : 0;
+    char part[300];
+    if (end)
+        snprintf(part, sizeof part, "%.*s%s=%d", (int)(end - address - 1), address + 1, end + 1, number);
+    else
+        snprintf(part, sizeof part, "%s=%d", address, number);
+    append(text, room, part, strlen(part));
+}
+
 /* The numbers of all addresses as a program wants them: {fds} or {fpm}. */
 static void append_all(const struct gifts *gifts, char *text, size_t room, bool is_fpm) {
-    char part[300];
+    char part[16];
     for (int at = 0; at < gifts->addresses->count; at++) {
-        const char *address = gifts->addresses->of[at].text;
-        if (is_fpm)
-            snprintf(part, sizeof part, "%s%s=%d", at ? "," : "", address, FIRST_DESCRIPTOR + at);
-        else
+        if (is_fpm) {
+            append(text, room, ",", at ? 1 : 0);
+            append_for_fpm(text, room, gifts->addresses->of[at].text, FIRST_DESCRIPTOR + at);
+        } else {
             snprintf(part, sizeof part, "%d;", FIRST_DESCRIPTOR + at);
-        append(text, room, part, strlen(part));
+            append(text, room, part, strlen(part));
+        }
     }
 }
 
@@ -122,6 +135,20 @@ static void clear_environment(void) {
     *to = 0;
 }
 
+/* Lets the program load a library, beside those that it has; not if --env says which it has. */
+static void set_gate(const struct gifts *gifts) {
+    const char *had = getenv("LD_PRELOAD");
+    char libraries[8192];
+    for (int at = 0; at < gifts->options->setting_count; at++)
+        if (!strncmp(gifts->options->settings[at], "LD_PRELOAD=", 11))
+            return;
+    int length = snprintf(libraries, sizeof libraries, "%s%s%s", had ? had : "", had && *had ? ":" : "", gifts->library);
+    if (length >= (int)sizeof libraries)
+        return;
+    setenv("LD_PRELOAD", libraries, 1);
+    setenv(SHUT_NAME, gifts->gate, 1);
+}
+
 static void set_environment(const struct gifts *gifts) {
     char number[16], names[16 * (MOST_LISTENERS + 1)] = "", name[16];
     clear_environment();
@@ -129,6 +156,8 @@ static void set_environment(const struct gifts *gifts) {
         putenv(filled(gifts, gifts->options->settings[at]));
     if (gifts->notify)
         setenv("NOTIFY_SOCKET", gifts->notify, 1);
+    if (gifts->gate)
+        set_gate(gifts);
     if (gifts->options->no_listen_fds)
         return;
     for (int at = 0; at < gift_count(gifts); at++) {

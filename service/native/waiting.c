@@ -9,6 +9,7 @@
 #include <fcntl.h>
 #include <netinet/in.h>
 #include <poll.h>
+#include <stdint.h>
 #include <stdio.h>
 #include <stdlib.h>
 #include <string.h>
@@ -37,19 +38,34 @@ static int listener_of(const struct waiting *waiting, ino_t inode) {
     return -1;
 }
 
+/* Address and port of a TCP socket, each four bytes of the address as one number of this machine. */
+static void write_place(char *place, size_t room, int listener) {
+    union {
+        struct sockaddr any;
+        struct sockaddr_in four;
+        struct sockaddr_in6 six;
+    } name;
+    socklen_t length = sizeof name;
+    if (getsockname(listener, &name.any, &length) < 0)
+        return;
+    if (name.any.sa_family == AF_INET)
+        snprintf(place, room, "%08X:%04X", name.four.sin_addr.s_addr, ntohs(name.four.sin_port));
+    if (name.any.sa_family == AF_INET6) {
+        uint32_t part[4];
+        memcpy(part, &name.six.sin6_addr, sizeof part);
+        snprintf(place, room, "%08X%08X%08X%08X:%04X", part[0], part[1], part[2], part[3], ntohs(name.six.sin6_port));
+    }
+}
+
 void begin_waiting(struct waiting *waiting, const struct addresses *addresses) {
     memset(waiting, 0, sizeof *waiting);
     for (int at = 0; at < addresses->count; at++) {
         struct stat found;
-        struct sockaddr_in place;
-        socklen_t length = sizeof place;
         int listener = addresses->of[at].listener;
         if (fstat(listener, &found) < 0)
             fail("%s: %s", addresses->of[at].text, strerror(errno));
         waiting->of[at].inode = found.st_ino;
-        if (!getsockname(listener, (struct sockaddr *)&place, &length) && place.sin_family == AF_INET)
-            snprintf(waiting->of[at].place, sizeof waiting->of[at].place, "%08X:%04X", place.sin_addr.s_addr,
-                     ntohs(place.sin_port));
+        write_place(waiting->of[at].place, sizeof waiting->of[at].place, listener);
         waiting->count++;
     }
 }
@@ -166,13 +182,13 @@ static void look_at_thread(struct waiting *waiting, const struct descriptors *fo
 }
 
 /* Connections that came from a listening socket: a program that is always at work is never seen to wait. */
-static void look_at_connections(struct waiting *waiting, const struct descriptors *found) {
-    char line[256], place[16];
+static void look_at_connections(struct waiting *waiting, const struct descriptors *found, const char *path) {
+    char line[256], place[48];
     unsigned state;
     unsigned long inode;
-    FILE *file = found->held_count ? fopen("/proc/net/tcp", "re") : 0;
+    FILE *file = found->held_count ? fopen(path, "re") : 0;
     while (file && fgets(line, sizeof line, file)) {
-        if (sscanf(line, "%*d: %15s %*s %x %*s %*s %*s %*s %*s %lu", place, &state, &inode) != 3 || state == 10)
+        if (sscanf(line, "%*d: %47s %*s %x %*s %*s %*s %*s %*s %lu", place, &state, &inode) != 3 || state == 10)
             continue;
         for (int at = 0; at < found->held_count; at++)
             for (int of = 0; found->held[at] == inode && of < waiting->count; of++)
@@ -202,7 +218,8 @@ static void look_at_process(struct waiting *waiting, const char *process) {
             look_at_thread(waiting, &found, process, entry->d_name);
     if (folder)
         closedir(folder);
-    look_at_connections(waiting, &found);
+    look_at_connections(waiting, &found, "/proc/net/tcp");
+    look_at_connections(waiting, &found, "/proc/net/tcp6");
 }
 
 bool is_waited_for(struct waiting *waiting, pid_t session) {

@@ -8,8 +8,8 @@
 struct waiting {
     struct {
         ino_t inode;
-        /* Address and port as /proc/net/tcp writes them, or the empty text. */
-        char place[16];
+        /* Address and port as /proc/net/tcp and tcp6 write them, or the empty text. */
+        char place[48];
         bool is_seen;
     } of[MOST_LISTENERS];
     int count;

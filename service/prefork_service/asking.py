@@ -4,29 +4,20 @@ import os
 import selectors
 import signal
 import socket
-import subprocess
-import sys
 from typing import TYPE_CHECKING, Any
 
-from . import places
-from .burying import started
-from .commands import mistake_of, parted, refusal_of
 from .door import Door
-from .finding import nearest
 from .folder import plain, say
-from .hooks import OF_SYSTEMD
 from .questions import ANSWERS, NOT_ASKED, STATE, state
 from .sockets import file_of
-from .words import NOTE, SIGNALS, STATUS, TICK, TRY, WORDS, Word
+from .words import BRIEF, NOTE, SIGNALS, STATUS, TICK, TRY, WORDS, Word
 
 if TYPE_CHECKING:
     from .service import Service
 
 LONGEST, QUEUE = 64, 64
 NOTHING_ASKED = "nothing is asked: go and back answer an upgrade that asks, USR2 attended"
-NOT_TRIED = "there is no worker to try: with --preload try is not possible"
-# How much longer than its worker may take to be ready a trial may run.
-TRIAL_SECONDS = 90.0
+NO_WATCH = "prefork-watch, which starts trials, does not answer just now"
 FAULT = "a fault in prefork-serve, which has logged it with its trace"
 
 
@@ -95,43 +86,26 @@ class Asking:
         service = self.service
         if text in (*WORDS, TICK):
             service.take(word)
-        elif text == TRY:
-            self.try_next(word)
+        elif text == BRIEF:
+            word.answer(json.dumps(service.summary.brief()) + "\n")
         elif text in ANSWERS:
             self.answer(word)
-        elif text == STATUS:
-            word.answer(json.dumps(service.summary.status()) + "\n")
+        elif text in (STATUS, TRY):
+            self.hand_over(word)
         elif text == STATE:
             current = service.current.text if service.current else None
             word.answer(state(service.question, current, len(service.waiting)))
         else:
-            near = f". Do you mean {found}?" if (found := nearest(text)) else ""
-            word.answer(f"{NOTE}{plain(text) or 'nothing'} is not a word. Words are {', '.join(WORDS)} and {STATUS}{near}\nunread W1\n")
+            word.answer(f"{NOTE}{plain(text) or 'nothing'} is not a word. Words are {', '.join(WORDS)} and {STATUS}\nunread W1\n")
 
-    def try_next(self, word: Word) -> None:
-        """Has one worker of the next version tried by a process of its own, which answers the asker."""
-        service = self.service
-        commands = service.commands
-        try:
-            command = parted(commands.config.read_bytes())[1] or commands.default
-        except OSError as fault:
-            word.answer(f"{NOTE}{commands.config}: {fault.strerror}\nword {TRY}\nrefused not-read\n")
-            return
-        if not command or commands.preloading and command == commands.default:
-            word.answer(f"{NOTE}{NOT_TRIED}\nword {TRY}\nrefused not-tried\n")
-            return
-        if refusal := refusal_of(str(service.command[0]), commands.config):
-            word.answer(f"{NOTE}{mistake_of(refusal) or refusal.splitlines()[0]}\nword {TRY}\nrefused configuration\n")
-            return
-        seconds = commands.ready_seconds
-        given = [str(commands.config), os.environ.get("PREFORK_PLACE", ""), str(seconds), "--", *command]
-        code = "import sys; from prefork_service import trial; sys.exit(trial.main(sys.argv[1:]))"
-        environment = {name: text for name, text in os.environ.items() if not name.startswith(OF_SYSTEMD)}
-        environment |= {"PYTHONPATH": str(places.HOME), "PYTHONDONTWRITEBYTECODE": "1"}
-        streams: dict[str, Any] = {"stdin": subprocess.DEVNULL, "stdout": word.askers[0], "env": environment}
-        process = started([sys.executable, "-c", code, *given], start_new_session=True, **streams)
-        service.telling.hooks.watch(process, TRY, seconds + TRIAL_SECONDS)
-        word.askers.pop().close()
+    def hand_over(self, word: Word) -> None:
+        """Has prefork-watch answer. In its place the status is told in short."""
+        if self.service.feed.hand_over(word.askers, word.text):
+            word.close()
+        elif word.text == STATUS:
+            word.answer(json.dumps(self.service.summary.brief()) + "\n")
+        else:
+            word.answer(f"{NOTE}{NO_WATCH}\nword {word.text}\nrefused not-tried\n")
 
     def answer(self, word: Word) -> None:
         """Answers the question, if there is one."""

@@ -95,6 +95,13 @@ class Barrier:
         else:
             self.duty(close, events, key.fileobj)
 
+    def once(self, text: str) -> None:
+        """Says something once in a while, however often it comes."""
+        now = time.monotonic()
+        if now - self.told.get(text, (now - TELL_SECONDS, 0))[0] >= TELL_SECONDS:
+            self.told[text] = now, 0
+            self.say(text)
+
     def note(self, name: str, fault: Exception) -> None:
         """Tells of a fault: with its trace, or how often it has come again."""
         self.count, self.has_failed, now = self.count + 1, True, time.monotonic()

@@ -11,7 +11,7 @@ import time
 import weakref
 from typing import Any
 
-from .status import fields_of
+from .processes import fields_of
 
 PR_SET_CHILD_SUBREAPER = 36
 # The process between an adapter and its program, which ends all that the program has started. How long it may take at a

@@ -7,12 +7,10 @@ import subprocess
 import tempfile
 from typing import Any
 
-from .records import GAP, LOST, blocks_of, files_of, masters_in, part_number
+from .blocks import block_of, ends_block
+from .records import GAP, LOST, files_of, masters_in, part_number
+from .words import CHANGES
 
-# Blocks of words that were refused before anything was asked of the kernel: certify would carry them out.
-REFUSED = re.compile(r"(?:word .*\nrefused (?:C\d|W4).*|unread .*)\n")
-# Blocks of words that were carried out and can go over to another configuration.
-GOES_OVER = re.compile(r"word (?:HUP|USR2|USR2 attended)\n(?!refused |nothing\n)")
 NOT_ACCEPTED, NOT_COMPARED = 5, 1
 BEGINNING = "its beginning is no longer there"
 
@@ -52,10 +50,33 @@ def life_of(folder: pathlib.Path) -> Life:
     return Life(folder, begin, blocks_of(text), dict(sorted(targets.items())), lacks, lost)
 
 
+def blocks_of(text: str) -> list[str]:
+    """The blocks of a text, each with its lines. What is not complete at the end is left out."""
+    found, block = [], ""
+    for line in text.splitlines(keepends=True):
+        block += line
+        if ends_block(line):
+            found.append(block)
+            block = ""
+    return found
+
+
+def is_refused(text: str) -> bool:
+    """Whether a word was refused before anything was asked of the kernel: certify would carry it out."""
+    report = block_of(text).report
+    return report.outcome == "unread" or report.is_of_file
+
+
+def goes_over(text: str) -> bool:
+    """Whether a word was carried out that can go over to another configuration."""
+    block = block_of(text)
+    return block.word in CHANGES and block.report.outcome not in ("refused", "nothing")
+
+
 def goals_of(life: Life) -> list[bytes]:
     """The configuration that each word went over to which was carried out, in their order: the newest that was read
     up to its block. `prefork certify` lets all later words go over to the last one: it need not be told again."""
-    goals = [target_at(life, number) for number, block in enumerate(life.blocks, 1) if GOES_OVER.match(block)]
+    goals = [target_at(life, number) for number, block in enumerate(life.blocks, 1) if goes_over(block)]
     while len(goals) > 1 and goals[-1] == goals[-2]:
         goals.pop()
     return goals
@@ -96,7 +117,7 @@ def ended_before(life: Life, number: int) -> str:
 
 def answered(life: Life, prefork: str) -> tuple[int, str] | str:
     """The number of the block that `prefork certify` does not accept, and why; or why it compares nothing; or nothing."""
-    chosen = [(number, block) for number, block in enumerate(life.blocks, 1) if not REFUSED.fullmatch(block)]
+    chosen = [(number, block) for number, block in enumerate(life.blocks, 1) if not is_refused(block)]
     with tempfile.TemporaryDirectory(prefix="certify-") as room:
         files = goal_files(pathlib.Path(room), goals_of(life))
         goals = [argument for file in files for argument in ("--to", file)]

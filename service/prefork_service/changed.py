@@ -7,6 +7,8 @@ import re
 # A path in the text of a fault, how many files are looked at, and how often a change of one is news while workers fail.
 PATH = re.compile(rb"/[^\s\"'():,;<>\0]+")
 MOST_FILES, MOST_CHANGES = 64, 8
+# A setting of workers whose value is read from a file.
+READS = b"\1read "
 
 
 def seen(path: pathlib.Path) -> tuple[int, int, int] | None:
@@ -21,6 +23,11 @@ def seen(path: pathlib.Path) -> tuple[int, int, int] | None:
 def is_file(path: pathlib.Path) -> bool:
     """Whether a path names a file, or one that may come."""
     return path.is_file() or "/" in str(path) and not path.exists() and path.parent.is_dir()
+
+
+def of_setting(word: bytes) -> bytes:
+    """A word of a command, or the file that a setting before it reads."""
+    return word.partition(b"=")[2] if word.startswith(READS) else word
 
 
 class Changed:
@@ -40,7 +47,7 @@ class Changed:
                 text = file.read_bytes()
             except OSError:
                 continue
-            words = text.split(b"\0") if file.name == "next" else PATH.findall(text)
+            words = [of_setting(word) for word in text.split(b"\0")] if file.name == "next" else PATH.findall(text)
             found |= {place / os.fsdecode(word) for word in words if word and len(word) < 4096}
         return set(sorted(filter(is_file, found))[:MOST_FILES])
 

@@ -11,7 +11,7 @@ import uuid
 from . import places
 from .checkworker import Bench, NotLoaded, free_address, is_fault
 from .conversation import MARK, RUNS, Conversation, marked
-from .status import fields_of
+from .processes import fields_of
 
 QUEUE = 128
 
@@ -45,7 +45,7 @@ class PreloaderBench(Bench):
         self.fork_socket.bind(str(self.place))
         self.fork_socket.listen(QUEUE)
         mark, number = uuid.uuid4().hex, self.fork_socket.fileno()
-        environment = {**os.environ, MARK: mark, "PREFORK_FORK_SOCKET": str(number)}
+        environment = {**os.environ, MARK: mark, "PREFORK_FORK_SOCKET": str(number), "PREFORK_FOLDER": str(room)}
         self.preloader = Conversation(given.command, environment, mark, [number])
         self.talks.append(self.preloader)
 
@@ -57,7 +57,10 @@ class PreloaderBench(Bench):
         name = f"1.1.{len(self.files)}"
         self.files[mark] = self.room / "workers" / name
         self.files[mark].touch()
-        return {"PREFORK_FOLDER": str(self.room), "PREFORK_WORKER": name}
+        return super().more(mark)
+
+    def name_of(self, mark: str) -> str:
+        return self.files[mark].name
 
     def worker_of(self, talk: Conversation) -> int:
         """The process of a worker that is ready."""

@@ -26,6 +26,7 @@ from collections.abc import Callable, Sequence
 from typing import Any
 
 from . import VERSION, places
+from .addresses import host_and_port
 from .conversation import END, MARK, RUNS, Conversation, marked
 from .options import fault_of
 
@@ -59,7 +60,7 @@ def first_line(address: str, path: str, seconds: float) -> str:
 
 def asked(address: str, path: str, seconds: float) -> socket.socket:
     """A connection on which a page was asked for."""
-    host, _, port = address.rpartition(":")
+    host, port = host_and_port(address)
     connection = socket.create_connection((host, int(port)), seconds)
     connection.sendall(f"GET {path} HTTP/1.1\r\nHost: check\r\nConnection: close\r\n\r\n".encode())
     return connection
@@ -116,7 +117,11 @@ class Bench:
 
     def more(self, mark: str) -> dict[str, str]:
         """More variables of a worker with a mark."""
-        return {}
+        return {"PREFORK_FOLDER": str(self.room), "PREFORK_WORKER": self.name_of(mark)}
+
+    def name_of(self, mark: str) -> str:
+        """The name of the worker with a mark."""
+        return "1.1.0"
 
     def left(self, talk: Conversation) -> list[int]:
         """The processes of a worker."""
@@ -276,6 +281,30 @@ def check_ends(bench: Bench) -> None:
     bench.nothing_left("after that", talk)
 
 
+def check_survival(bench: Bench) -> None:
+    """The death of a master where the service lets workers serve on. One that finishes at once is right too."""
+    address, place = free_address(), bench.room / "survivors"
+    place.mkdir()
+    talk = bench.ready(address)
+    talk.process.stdin.close()
+    deadline = time.monotonic() + bench.patience
+    while not (files := [*place.iterdir()]) and talk.process.poll() is None and time.monotonic() < deadline:
+        time.sleep(0.02)
+    if files:
+        names = {file.name for file in files}
+        wanted = {f"{bench.name_of(talk.mark)}.{number}" for number in bench.left(talk)}
+        bench.point("a survivor makes one file, with its name and the number of its process", len(names & wanted), 1)
+        bench.point("it serves on while its file is there", first_line(address, bench.given.path, bench.answer), is_answer)
+        for file in files:
+            file.unlink()
+    else:
+        print("note   it does not survive its master: requests wait until workers of the next one have loaded")
+    bench.point("a survivor ends with status 0 once its file is gone", talk.wait(bench.patience), 0)
+    bench.point("a survivor says nothing", talk.rest() if talk.process.returncode is not None else b"", b"")
+    bench.nothing_left("after that", talk)
+    place.rmdir()
+
+
 def check_keeper(bench: Bench) -> None:
     """Addresses that it cannot have."""
     with socket.socket() as taken:
@@ -292,7 +321,7 @@ def check_keeper(bench: Bench) -> None:
     os.kill(bench.keeper.pid, signal.SIGCONT)
 
 
-CHECKS = (check_lines, check_quit, check_two, check_ends, check_keeper)
+CHECKS = (check_lines, check_quit, check_two, check_ends, check_survival, check_keeper)
 
 
 def arguments() -> argparse.Namespace:

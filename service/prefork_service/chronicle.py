@@ -1,56 +1,28 @@
-"""What a service remembers of its words, and what it tells of them: blocks, journal, reasons, and the last words."""
+"""What a service remembers of its words: blocks, journal, how they ended, and what workers have noted."""
 import collections
-import dataclasses
 import pathlib
 import time
+from typing import Any
 
-from .last_lines import LastLines, shown
+from .blocks import report_of
+from .last_lines import LastLines
 from .folder import Folder
 from .journal import Journal, wall_clock
-from .reasons import Reasons, cause_of, explained, failed_workers
+from .reasons import Reasons, failed_workers
 from .records import MEGABYTE, Records, is_quiet
-from .words import START
+from .words import is_routine, is_tick
 
-# How many words are remembered, and the bytes that the blocks may take together.
-MOST_WORDS, MOST_BYTES = 20, 32 * MEGABYTE
-
-
-@dataclasses.dataclass
-class Done:
-    """A word that was carried out: when it began, how long it took, its block, why calls of it failed, and what the workers
-    said last that failed to start."""
-
-    word: str
-    began: str
-    seconds: float
-    block: str
-    reasons: list[str]
-    errors: dict[str, list[str]] = dataclasses.field(default_factory=dict)
-
-    @property
-    def report(self) -> str:
-        return self.block.splitlines()[-1]
-
-    @property
-    def cause(self) -> str | None:
-        return cause_of(self.block)
-
-    def as_json(self) -> dict:
-        return {
-            "word": self.word, "report": self.report, "at": self.began, "seconds": round(self.seconds, 3),
-            "cause": self.cause, "reasons": self.reasons,
-            "errors": [{"worker": name, "lines": lines} for name, lines in self.errors.items()],
-        }
+# The bytes that the blocks may take together.
+MOST_BYTES = 32 * MEGABYTE
 
 
 class Chronicle:
-    """The records of a service, its journal, and its last words."""
+    """The records of a service, its journal, and the reasons that no block has been explained by yet."""
 
     def __init__(self, folder: Folder, place: pathlib.Path, most: int = MOST_BYTES):
         self.records = Records(place / "records", folder.blocks, most)
         self.journal, self.reasons = Journal(place / "journal"), Reasons(folder.reasons)
         self.errors = LastLines(folder.path / "errors")
-        self.done: collections.deque[Done] = collections.deque(maxlen=MOST_WORDS)
         # How often each word ended how.
         self.counts: collections.Counter[tuple[str, str]] = collections.Counter()
         self.ticks: collections.Counter[str] = collections.Counter()
@@ -64,7 +36,7 @@ class Chronicle:
 
     def begin_word(self, word: str) -> None:
         self.began, self.moment = wall_clock(), time.monotonic()
-        if not word.startswith("tick "):
+        if not is_tick(word):
             self.journal.end_ticks()
             self.journal.note(f"{word} begins")
 
@@ -75,37 +47,26 @@ class Chronicle:
         self.noted |= {name: lines[-1].strip() for name, lines in self.errors.of(silent).items()}
         return dict(self.noted)
 
-    def end_word(self, word: str, block: str, others: list[str], mistakes: list[str]) -> list[str]:
-        """Notes a block; why calls of it failed, or the word was refused."""
-        why = explained(block, self.noted, others) + mistakes
-        errors = self.errors.of(failed_workers(block))
-        self.errors.forget_old()
-        done = Done(word, self.began or wall_clock(), time.monotonic() - self.moment, block, why, errors)
-        is_tick = word.startswith("tick ") and word != START
-        if word.startswith("tick "):
-            self.ticks[done.report.split()[0]] += 1
-        if not is_tick:
-            self.journal.note(f"{word}: {done.report}")
-        elif not is_quiet(block.splitlines()[1:]):
-            self.journal.note_tick(done.report)
-        else:
+    def end_word(self, word: str, block: str) -> dict[str, Any] | None:
+        """Notes how a word has ended. What rests on it, and has to be explained: nothing, if that is a quiet tick."""
+        report, is_late = block.splitlines()[-1], is_routine(word)
+        is_short = is_late and is_quiet(block)
+        if is_tick(word):
+            self.ticks[report_of(report).outcome] += 1
+        if not is_late:
+            self.journal.note(f"{word}: {report}")
+            self.counts[word, report_of(report).outcome] += 1
+        elif is_short:
             self.journal.end_ticks()
-        if not is_tick or not self.journal.repeats:
-            for line in [*why, *shown(errors)]:
-                self.journal.note(f"{word}: {line}")
-        if not is_tick or not is_quiet(block.splitlines()[1:]):
-            self.note_ends(why)
-        if not is_tick:
-            self.done.append(done)
-            self.counts[word, done.report.split()[0]] += 1
-        return [*why, *shown(errors)]
-
-    def note_ends(self, told: list[str]) -> None:
-        """Notes the reasons that explain no call: workers have ended by themselves."""
-        for name, why in self.noted.items():
-            if not any(line.endswith(f": {why}") for line in told):
-                self.journal.note(f"worker {name}: {why}")
-        self.noted.clear()
+        else:
+            self.journal.note_tick(report)
+        errors, noted = self.errors.of(failed_workers(block)), self.noted
+        self.errors.forget_old()
+        if is_short:
+            return None
+        self.noted = {}
+        told = {"word": word, "began": self.began or wall_clock(), "seconds": time.monotonic() - self.moment, "block": block}
+        return {**told, "noted": noted, "errors": errors, "is_noted": not is_late or not self.journal.repeats}
 
     def cut_word(self, word: str, lines: list[str]) -> None:
         """The master has ended in the middle of a word, after these lines of its block."""
@@ -114,13 +75,8 @@ class Chronicle:
 
     def refuse_word(self, word: str, report: str, reason: str) -> None:
         """A word that no master was told."""
-        self.done.append(Done(word, wall_clock(), 0.0, f"word {word}\n{report}\n", [reason]))
-        self.counts[word, report.split()[0]] += 1
+        self.counts[word, report_of(report).outcome] += 1
         self.journal.note(f"{word}: {report}: {reason}")
-
-    def last_word(self) -> Done | None:
-        """The last word that somebody has said; the start of a master is not a word."""
-        return next((done for done in reversed(self.done) if done.word != START), None)
 
     def counted(self) -> list[dict]:
         """How often each word ended how."""

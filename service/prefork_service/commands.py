@@ -1,4 +1,4 @@
-"""The command of each generation of workers, and the configuration without it.
+"""The command of each generation of workers, and the configuration without it and without the table `service`.
 
 The master knows one program, prefork-launch. It finds the command of a worker's generation in the folder `commands`:
 `next` is for a generation that has no worker yet, and `I.C` for the workers of generation I.C. So the new generation
@@ -13,33 +13,27 @@ import datetime
 import json
 import pathlib
 import re
-import subprocess
 import tomllib
-from typing import Any
+from collections.abc import Callable
+from typing import TYPE_CHECKING
 
+from .blocks import block_of, report_of
 from .folder import Folder, content_of, files_in, say, text_of
-from .needs import addresses_of
-from .preloading import Preloading
-from .quickly import GIVEN
+from .keeping import SOCKETS
+from .named import addresses_of
+from .recipes import SERVICE, Fault, Runs, Setup, Told, file_of, has_table, is_command, setup_of, write_private
 
-# How long the master's program may take to say whether it reads a configuration.
-ASKING_SECONDS = 10.0
-# Lines of a refusal that begin to explain a fault, and the title of a code.
-HEADING, CODE = re.compile(r"  (?:config|file|usage|[A-Z]\d+): "), re.compile(r"  [A-Z]\d+: (.*)")
+if TYPE_CHECKING:
+    from .preloading import Preloading
+
+# The configuration that a command line says in place of a file.
+GIVEN = "given.toml"
 # The name of the file of a generation.
 GENERATION = re.compile(r"\d+\.\d+")
-# The rules of `command` in a configuration.
-MOST_WORDS, LONGEST_WORD = 16, 255
+# In the place of a text that is no TOML, and has a table `service`: what is wrong is said of the file itself.
+NO_TOML, OF_SERVICE = b"the text is not TOML\n", re.compile(rb"^\s*\[{0,2}\s*[\"']?service\b", re.M)
 # The variable that tells a worker the addresses of its generation, in their order.
 ADDRESSES = "PREFORK_ADDRESSES"
-
-
-def is_command(value: object) -> bool:
-    """Whether a configuration may have this as its `command`."""
-    if not isinstance(value, list) or not 1 <= len(value) <= MOST_WORDS:
-        return False
-    texts = [word.encode() for word in value if isinstance(word, str)]
-    return len(texts) == len(value) and all(1 <= len(text) <= LONGEST_WORD and 0 not in text for text in texts)
 
 
 def toml_of(value: object) -> str:
@@ -49,20 +43,23 @@ def toml_of(value: object) -> str:
     if isinstance(value, list):
         return "[" + ", ".join(toml_of(item) for item in value) + "]"
     if isinstance(value, (float, datetime.date, datetime.time)):
-        raise ValueError("no configuration has such a value")
+        # The master is to refuse it, for its kind.
+        return value.isoformat() if not isinstance(value, float) else repr(value)
     return json.dumps(value, ensure_ascii=False).replace("\x7f", "\\u007f")
 
 
-def parted(text: bytes) -> tuple[bytes, list[str] | None]:
-    """A configuration without its command, and the command. One that the master is to refuse stays as it is."""
+def parted(text: bytes) -> bytes:
+    """A configuration without its command, and without what is for the service alone: nobody else is to keep that. One that
+    the master is to refuse stays as it is otherwise."""
     try:
         found = tomllib.loads(text.decode())
-        command = found.pop("command", None)
-        if not is_command(command):
-            return text, None
-        return "".join(f"{json.dumps(key)} = {toml_of(value)}\n" for key, value in found.items()).encode(), command
     except (ValueError, RecursionError):
-        return text, None
+        return NO_TOML if OF_SERVICE.search(text) else text
+    has_command, has_table = is_command(found.get("command")), isinstance(found.get(SERVICE), dict)
+    if not has_command and not has_table:
+        return text
+    left_out = [*(["command"] if has_command else []), *([SERVICE] if has_table else [])]
+    return "".join(f"{json.dumps(key)} = {toml_of(value)}\n" for key, value in found.items() if key not in left_out).encode()
 
 
 def is_toml(text: bytes) -> bool:
@@ -73,30 +70,6 @@ def is_toml(text: bytes) -> bool:
     return True
 
 
-def refusal_of(prefork: str, config: pathlib.Path) -> str | None:
-    """Why the master refuses a configuration, or can't be asked, if that is so."""
-    command = [prefork, "plan", "--why", "--from", str(config), "USR1"]
-    streams: dict[str, Any] = {"stdin": subprocess.DEVNULL, "stdout": subprocess.DEVNULL, "stderr": subprocess.PIPE}
-    try:
-        found = subprocess.run(command, **streams, text=True, timeout=ASKING_SECONDS)
-    except OSError as fault:
-        return f"{prefork}: {fault.strerror}"
-    except subprocess.TimeoutExpired:
-        return f"{prefork}: it has not said in {ASKING_SECONDS:g} seconds whether it reads the configuration"
-    return found.stderr.strip() if found.returncode else None
-
-
-def mistake_of(refusal: str) -> str:
-    """What a refusal says of the file: the place, and what is wrong there. Of a code that is its title."""
-    titles = [found[1] for found in map(CODE.fullmatch, refusal.splitlines()) if found]
-    places = []
-    for line in refusal.splitlines()[1:]:
-        if not line.startswith("  ") or HEADING.match(line):
-            break
-        places.append(line.strip().removeprefix("--from "))
-    return ": ".join([*places[:1], *(places[1:] or titles[-1:])])
-
-
 # The master handles no signals: a HUP to the number in its file ends it.
 PID_OF_MASTER = "the configuration has a pid, which would name the master, and that handles no signals. Remove it: " \
     "serve.pid in the folder of the service is the file for kill"
@@ -104,38 +77,52 @@ PID_OF_MASTER = "the configuration has a pid, which would name the master, and t
 
 # An editor that empties a file before it writes it, or a full disk.
 EMPTY = "the configuration has no listeners and no groups. Is it empty, or written only in part?"
-# What is set there in vain would be believed.
-OF_SERVICE = "the table service has the key {}. This service reads no key of it yet: give the options of prefork-serve on " \
-    "its command line"
 HAS_PID, NO_LISTENERS, HAS_KEYS = "refused pid", "refused no-listeners", "refused service-keys"
+# An owner or a group of a socket that this system does not know, or does not allow.
+HAS_SOCKETS = "refused socket-options"
+
+
+def failed_numbers(block: str) -> list[int]:
+    """The numbers of the workers that did not start."""
+    calls = [call for call in block_of(block).calls if call.kind in ("fork", "await-ready") and not call.is_plain]
+    return [call.worker for call in calls if call.worker is not None]
 
 
 class Commands:
     """What workers are started by, and the configurations that the master reads."""
 
-    def __init__(self, folder: Folder, config: str, default: list[str] | None):
-        self.folder, self.config, self.default = folder, pathlib.Path(config), default
+    def __init__(self, folder: Folder, config: str, told: Told, text: bytes | None = None):
+        """Where a text is given, that is what the service starts with, whatever the file has by now."""
+        self.folder, self.config, self.told = folder, pathlib.Path(config), told
         self.place = folder.path / "commands"
         self.place.mkdir(mode=0o700, exist_ok=True)
         self.late = self.place / "late"
         self.now, self.next = folder.path / "config.toml", folder.path / "next.toml"
-        self.accepted = folder.path / "accepted.toml"
-        # How long a worker by the default may take to be ready.
-        self.ready_seconds = 30.0
-        # What workers by the default are forked by, if they are.
-        self.preloading: Preloading | None = None
+        self.accepted, self.kept = folder.path / "accepted.toml", self.place / "accepted.files"
+        # How long a master waits for its workers at most, if it has a limit, and the programs that are told of events where
+        # the command line names them.
+        self.most_seconds, self.told_hooks = 0.0, dict[str, str]()
+        # What forks workers, where a preloader does, and how it is made.
+        self.preloading: "Preloading | None" = None
+        self.preloads: Callable[[], "Preloading"] | None = None
         self.known: list[pathlib.Path] = []
-        self.proposed: list[str] | None = None
+        self.proposed = Setup()
         self.is_changing = False
         # The text of the file as it was read last, and the text of what runs.
         self.text, self.current_text = b"", b""
         # What masters read: the configuration that runs, and the one that is to follow, each without its command.
         self.now_text, self.proposed_text = b"", b""
-        self.current = self.read(self.now)
+        if text is None:
+            self.current = self.read(self.now)
+        else:
+            self.text, kept = text, content_of(self.kept) if text == content_of(self.accepted) else None
+            self.current = self.write(self.now, json.loads(kept) if kept else None)
         self.current_text, self.now_text = self.text, self.proposed_text
+        # The key `answer_within` of the start.
+        self.began_with = self.current.answer_within
 
-    def read(self, target: pathlib.Path) -> list[str] | None:
-        """Reads the configuration and writes it for the master, without its command; the command for its workers."""
+    def read(self, target: pathlib.Path) -> Setup:
+        """Reads the configuration and writes it for the master; what its workers are started by."""
         try:
             self.text = text_of(self.config)
         except OSError as fault:
@@ -143,16 +130,21 @@ class Commands:
             target.unlink(missing_ok=True)
             self.proposed_text = b""
             say(f"{self.config}: {fault.strerror}")
-            return self.default
+            return self.found(b"")
         return self.write(target)
 
-    def write(self, target: pathlib.Path) -> list[str] | None:
-        text, command = parted(self.text)
-        self.proposed_text = text
-        target.write_bytes(text)
-        if not command and not self.default and is_toml(self.text):
-            say(f"{self.config} has no command, and the command line names no program")
-        return command or self.default
+    def write(self, target: pathlib.Path, kept: dict[str, str] | None = None) -> Setup:
+        self.proposed_text = parted(self.text)
+        write_private(target, self.proposed_text)
+        setup = self.found(self.text, kept)
+        if not setup.recipes and not setup.faults and is_toml(self.text):
+            say(f"{self.config} has no command and no program, and the command line names none")
+        return setup
+
+    def found(self, text: bytes, kept: dict[str, str] | None = None) -> Setup:
+        """What is read last: its faults are those of the file."""
+        self.setup = setup_of(text, self.told, kept)
+        return self.setup
 
     def source(self) -> pathlib.Path:
         """The file that has the text that was read last: the one that people edit, if it is that."""
@@ -161,29 +153,35 @@ class Commands:
         except OSError:
             return self.now
 
-    def is_kept(self) -> bool:
-        """Whether a service that was killed has left the configuration that it had accepted; that is taken then."""
+    def fall_back(self) -> bool:
+        """Takes the configuration that a service had accepted which was killed; whether there is one."""
         if not self.accepted.exists():
             return False
         say(f"{self.config} is refused; the service that was killed had accepted another text, and starts with that")
         self.text = self.current_text = self.accepted.read_bytes()
-        self.current = self.write(self.now)
-        self.now_text = self.proposed_text
+        kept = content_of(self.kept)
+        self.current = self.write(self.now, json.loads(kept) if kept else None)
+        self.now_text, self.began_with = self.proposed_text, self.current.answer_within
         return True
 
     def accept(self) -> None:
-        """Keeps the configuration of what runs. The copy is for a service that is killed: without it this one serves
-        on."""
+        """Keeps the configuration of what runs, and what its files of variables had. The copy is for a service that is killed:
+        without it this one serves on."""
         new = self.place / "accepted"
         try:
-            new.write_bytes(self.current_text)
+            if self.current.files:
+                write_private(new, json.dumps(self.current.files).encode())
+                new.replace(self.kept)
+            else:
+                self.kept.unlink(missing_ok=True)
+            write_private(new, self.current_text)
             new.replace(self.accepted)
         except OSError as fault:
             say(f"{self.accepted}: {fault.strerror}")
 
     def has_adapter(self) -> bool:
-        """Whether workers are started by what the command line says, and not by a command of the configuration."""
-        return self.current is not None and self.current == self.default
+        """Whether each worker has one connection to the keeper, as those of adapters and preloaders have."""
+        return all(one.runs is not Runs.COMMAND for one in self.current.recipes)
 
     def fault(self) -> tuple[str, str] | None:
         """Why the service refuses the configuration that was read last, though its master would take it: a report, and
@@ -194,11 +192,40 @@ class Commands:
             return None
         if "pid" in found:
             return HAS_PID, PID_OF_MASTER
-        own = found.get("service")
-        if isinstance(own, dict) and own:
-            return HAS_KEYS, OF_SERVICE.format(min(own))
+        faults = self.faults()
+        if faults:
+            more = f"; and {len(faults) - 1} more, which prefork-serve --check {self.config} says" if len(faults) > 1 else ""
+            is_of_sockets = not self.setup.faults and bool(self.faults_of_sockets())
+            return HAS_SOCKETS if is_of_sockets else HAS_KEYS, f"{faults[0]}{more}"
         is_empty = not {"listeners", "groups"} & set(found)
         return (NO_LISTENERS, EMPTY) if is_empty else None
+
+    def faults(self) -> list[str]:
+        """What is wrong with the tables `service` and `sockets` that were read last, each with its line."""
+        found = [*self.setup.faults, *self.faults_of_sockets()]
+        slow = [one for one in self.setup.recipes if self.most_seconds and one.seconds() > self.most_seconds]
+        why = f"the master that runs waits for {self.most_seconds:g} seconds at most: start the service anew for more"
+        found += [Fault((SERVICE,), f"ready_within or finish of workers makes {one.seconds():g} seconds, and {why}") for one in slow[:1]]
+        if not found:
+            return []
+        from .toml_lines import line_of
+        text = self.text.decode(errors="replace")
+        lines = [(line_of(text, fault.path), fault.text) for fault in found]
+        return [f"{self.config}, line {number}: {said}" if number else f"{self.config}: {said}" for number, said in sorted(lines)]
+
+    def faults_of_sockets(self) -> list[Fault]:
+        if SOCKETS not in self.proposed_text:
+            return []
+        from .listeners import faults_of_sockets
+        return faults_of_sockets(self.proposed_text)
+
+    def hooks(self) -> dict[str, str]:
+        """The programs that are told of events: those of the file that runs, and those of the command line in their place."""
+        return {**self.current.hooks, **self.told_hooks}
+
+    def has_table(self) -> bool:
+        """Whether the file has a table `service` with keys, as it was read last."""
+        return has_table(self.text)
 
     def has_changed(self) -> bool:
         """Whether the file is another one than was accepted."""
@@ -214,9 +241,9 @@ class Commands:
             file.unlink(missing_ok=True)
         if content_of(self.now) != self.now_text:
             new = self.place / "new"
-            new.write_bytes(self.now_text)
+            write_private(new, self.now_text)
             new.replace(self.now)
-        self.write_next(self.started_by(self.current, False), self.now_text)
+        self.write_next(self.current, False, self.now_text)
 
     def generations(self) -> list[pathlib.Path]:
         return [file for file in files_in(self.place) if GENERATION.fullmatch(file.name)]
@@ -227,18 +254,28 @@ class Commands:
             if file not in self.known:
                 file.unlink(missing_ok=True)
 
-    def write_next(self, command: list[str] | None, config: bytes) -> None:
-        """Writes the command of the next generation, and before it the addresses of its configuration: a master names
-        those of the configuration before, too, while it reloads."""
+    def write_next(self, setup: Setup, is_next: bool, config: bytes) -> None:
+        """Writes what starts the next generation, and before it the addresses of its configuration: a master names those of
+        the configuration before, too, while it reloads."""
         addresses = addresses_of(config)
-        words = [*([f"{ADDRESSES}={' '.join(addresses)}"] if addresses else []), *(command or ["false"])]
-        text, there = b"".join(word.encode("utf-8", "surrogateescape") + b"\0" for word in words), self.place / "next"
+        before = [f"{ADDRESSES}={' '.join(addresses)}"] if addresses else []
+        text, there = file_of(setup.recipes, self.started_by(setup, is_next), before), self.place / "next"
         if content_of(there) == text:
             # On a full disk it could not be written again.
             return
         new = self.place / "new"
-        new.write_bytes(text)
+        write_private(new, text)
         new.replace(there)
+
+    def notes(self, block: str) -> list[str]:
+        """What is said to people of a block that has gone over to a configuration, or back from one."""
+        is_back = block_of(block).report.is_back
+        groups = dict.fromkeys(self.proposed.group_of(number) for number in failed_numbers(block))
+        found = [f"what has not started is of the group {group}; all groups have gone back" for group in groups if group and is_back]
+        answer = self.proposed.answer_within
+        if answer != self.began_with and not is_back:
+            found.append(f"service.answer_within is for the master: the next start of prefork-serve takes {answer or 'the usual one'}")
+        return found
 
     def change(self, running: str) -> None:
         """The configuration is read again: the next word starts a new generation, and this one runs, if it is known.
@@ -247,7 +284,7 @@ class Commands:
         one afterwards, for its generation, and the next reload has a generation of the same name."""
         self.known, self.is_changing = [file for file in self.generations() if running in ("", file.name)], True
         self.proposed = self.read(self.next)
-        self.write_next(self.started_by(self.proposed, True), self.proposed_text)
+        self.write_next(self.proposed, True, self.proposed_text)
         self.forget_others()
         self.try_late()
 
@@ -261,7 +298,7 @@ class Commands:
             return
         self.is_changing = False
         self.late.unlink(missing_ok=True)
-        if report.startswith(("done", "degraded target")):
+        if report_of(report).runs:
             self.current, self.current_text, self.now_text = self.proposed, self.text, self.proposed_text
             self.keep_now()
             self.accept()
@@ -270,7 +307,7 @@ class Commands:
             self.settle_preloading(True)
         else:
             self.forget_others()
-            self.write_next(self.started_by(self.current, False), self.now_text)
+            self.write_next(self.current, False, self.now_text)
             self.settle_preloading(False)
 
     def try_late(self) -> None:
@@ -289,14 +326,21 @@ class Commands:
         except OSError as fault:
             say(f"{self.now}: {fault.strerror}")
 
-    def started_by(self, command: list[str] | None, is_next: bool) -> list[str] | None:
-        """What starts a worker by a command: a shim, if a preloader has loaded what the command line says."""
-        is_forked = self.preloading and command and command == self.default
-        return self.preloading.words(is_next) if self.preloading and is_forked else command
+    def started_by(self, setup: Setup, is_next: bool) -> list[list[str]]:
+        """What starts the workers of each group: a shim, if a preloader has loaded the application."""
+        if not self.preloading and self.preloads and any(one.runs and one.runs.is_forked for one in setup.recipes):
+            self.preloading = self.preloads()
+        preloading = self.preloading
+        if preloading and is_next:
+            preloading.renew()
+        return [
+            preloading.words(is_next, at, one) if preloading and one.runs and one.runs.is_forked else [*one.words]
+            for at, one in enumerate(setup.recipes)
+        ]
 
     def is_forked(self) -> bool:
         """Whether workers that run were forked by a preloader."""
-        return self.preloading is not None and self.preloading.now is not None
+        return self.preloading is not None and bool(self.preloading.now)
 
     def settle_preloading(self, has_changed: bool) -> None:
         if self.preloading:
@@ -310,11 +354,11 @@ class Commands:
         if self.config.parent == self.place and not self.config.exists():
             # What the command line has said in place of a file.
             self.config.write_bytes(self.current_text)
-        self.write_next(self.started_by(self.current, False), self.now_text)
+        self.write_next(self.current, False, self.now_text)
         self.accept()
 
     def clear(self) -> None:
-        own = [self.place / name for name in ("next", "new", "accepted", "late", GIVEN)]
+        own = [self.place / name for name in ("next", "new", "accepted", "accepted.files", "late", GIVEN)]
         for file in [*self.generations(), *own, self.now, self.next, self.accepted]:
             file.unlink(missing_ok=True)
         with contextlib.suppress(OSError):

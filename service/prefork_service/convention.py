@@ -1,15 +1,14 @@
 """What a worker written in Python needs: the master's lines, and the sockets of the keeper. See docs/WORKERS.md."""
 import os
 import select
-import socket
 import sys
+import time
 
-KEEPER_SECONDS = 10.0
+from .holding import Unfit
+
 LONGEST_LINE = 4096
-
-
-class Unfit(Exception):
-    """The worker cannot serve. The text is for people, on standard error."""
+# How often a worker that has survived its master looks whether it is to finish.
+SURVIVAL_LOOK = 0.1
 
 
 class Pipes:
@@ -60,68 +59,6 @@ class Pipes:
         return not watched.poll(0)
 
 
-class Hold:
-    """The connection to the keeper that holds addresses. It is made for the first one."""
-
-    def __init__(self, seconds: float = KEEPER_SECONDS):
-        self.seconds = seconds
-        self.connection: socket.socket | None = None
-
-    def take(self, address: str) -> socket.socket:
-        """The listening socket of an address, which is held from then on."""
-        said, given = self.ask(address)
-        if not said:
-            # The keeper has ended, and another one is there or comes; or nothing was said on the connection for too
-            # long. What was taken before stays as it is.
-            self.close()
-            said, given = self.ask(address)
-        if said != b"ok" or not given:
-            raise Unfit(f"{address}: {said.decode('latin-1')[3:] or 'the keeper has gone'}")
-        return socket.socket(fileno=given[0])
-
-    def ask(self, address: str) -> tuple[bytes, list[int]]:
-        """What the keeper answers; nothing if it has ended."""
-        try:
-            if not self.connection:
-                self.connection = connected(self.seconds)
-            self.connection.send(address.encode())
-            said, given, _, _ = socket.recv_fds(self.connection, 200, 1)
-        except (BrokenPipeError, ConnectionResetError):
-            return b"", []
-        except OSError as fault:
-            raise Unfit(f"{address}: no keeper: {fault}") from fault
-        return said, given
-
-    def give_up(self, address: str) -> None:
-        """Holds an address no longer."""
-        try:
-            if self.connection:
-                self.connection.send(f"-{address}".encode())
-        except OSError:
-            # A keeper that has ended holds nothing.
-            pass
-
-    def close(self) -> None:
-        if self.connection:
-            self.connection.close()
-        self.connection = None
-
-
-def connected(seconds: float) -> socket.socket:
-    """A connection to the keeper. Raises OSError."""
-    place = os.environ.get("PREFORK_KEEPER")
-    if not place:
-        raise Unfit("PREFORK_KEEPER does not name the keeper's socket")
-    connection = socket.socket(socket.AF_UNIX, socket.SOCK_SEQPACKET)
-    connection.settimeout(seconds)
-    try:
-        connection.connect(place)
-    except OSError:
-        connection.close()
-        raise
-    return connection
-
-
 def clear_environment() -> None:
     """Takes out what is between the master and the worker, for the application and what it starts."""
     for name in list(os.environ):
@@ -133,15 +70,70 @@ def clear_environment() -> None:
 FOLDER, NAME = os.environ.get("PREFORK_FOLDER"), os.environ.get("PREFORK_WORKER")
 
 
-def note_late() -> None:
-    """Notes that this worker was not ready in time, while its generation is tried."""
+class Survival:
+    """Of a worker that serves on after the death of its master: a file in the folder of the service. It finishes once that
+    is gone, or nobody has touched it for some seconds."""
+
+    def __init__(self, seconds: float):
+        self.path, self.seconds = f"{FOLDER}/survivors/{NAME}.{os.getpid()}", seconds
+        self.touched, self.seen = 0, time.monotonic()
+
+    def begins(self) -> bool:
+        """Says to the service that this worker serves on; whether the service wants that."""
+        try:
+            os.close(os.open(self.path, os.O_WRONLY | os.O_CREAT | os.O_TRUNC | os.O_CLOEXEC, 0o600))
+        except OSError:
+            return False
+        self.seen = time.monotonic()
+        return True
+
+    def is_over(self) -> bool:
+        try:
+            touched = os.stat(self.path).st_mtime_ns
+        except OSError:
+            return True
+        if touched != self.touched:
+            self.touched, self.seen = touched, time.monotonic()
+        if time.monotonic() - self.seen <= self.seconds:
+            return False
+        try:
+            os.unlink(self.path)
+        except OSError:
+            # The service was faster.
+            pass
+        return True
+
+
+# Those of its files that a worker writes to. They are open for one that becomes another user.
+LATE, REASONS = "commands/late", "reasons"
+OPENED: dict[str, int] = {}
+
+
+def open_files() -> None:
+    """Opens them: as another user it could not."""
+    for name in (LATE, REASONS):
+        try:
+            OPENED[name] = os.open(f"{FOLDER}/{name}", os.O_WRONLY | os.O_APPEND | os.O_CLOEXEC)
+        except OSError:
+            # Nobody asks.
+            pass
+
+
+def append(name: str, text: bytes) -> None:
+    """Adds to one of these files."""
     try:
-        file = os.open(f"{FOLDER}/commands/late", os.O_WRONLY | os.O_APPEND | os.O_CLOEXEC)
-        os.write(file, f"{generation()}\n".encode())
-        os.close(file)
+        file = OPENED[name] if name in OPENED else os.open(f"{FOLDER}/{name}", os.O_WRONLY | os.O_APPEND | os.O_CLOEXEC)
+        os.write(file, text)
+        if name not in OPENED:
+            os.close(file)
     except OSError:
         # Nobody asks.
         pass
+
+
+def note_late() -> None:
+    """Notes that this worker was not ready in time, while its generation is tried."""
+    append(LATE, f"{generation()}\n".encode())
 
 
 def is_known_late() -> bool:
@@ -161,10 +153,4 @@ def warn(text: str) -> None:
     print(f"worker {os.getpid()}: {text}", file=sys.stderr, flush=True)
     if not FOLDER or not NAME:
         return
-    try:
-        file = os.open(f"{FOLDER}/reasons", os.O_WRONLY | os.O_APPEND | os.O_CLOEXEC)
-        os.write(file, f"{NAME} {text}".replace("\n", " ").encode()[:1000] + b"\n")
-        os.close(file)
-    except OSError:
-        # Nobody asks.
-        pass
+    append(REASONS, f"{NAME} {text}".replace("\n", " ").encode()[:1000] + b"\n")

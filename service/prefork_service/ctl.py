@@ -9,6 +9,8 @@ prefork-ctl [--folder F] [--records FOLDER] [--prefork PROGRAM] [--json] certify
 Sends a word to the service in the folder F (`run`, or that of the only unit): HUP, USR1, USR2, "USR2 attended", WINCH,
 TTIN, TTOU, QUIT, INT or TERM, in capitals or not; `reload`, `upgrade`, `log-rotate` and `stop` are HUP, USR2, USR1 and
 QUIT. It waits for what comes of it, prints that block and, on standard error, why calls of it failed and what runs now.
+Meanwhile it shows for how long, and how many new and old workers run: at a terminal in a line that moves, elsewhere in one
+each ten seconds.
 It ends with the status of the report:
 
     0   done, or nothing was asked for
@@ -45,42 +47,102 @@ With --json all of them print JSON.
 """
 import argparse
 import contextlib
+import errno
 import json
 import pathlib
 import socket
 import subprocess
 import sys
 import time
+from collections.abc import Callable, Iterator
+from typing import Any
 
 from . import VERSION
+from .blocks import ends_block, report_of
 from .certifying import certify
-from .finding import COMMANDS, folder_of, word_of
+from .errors import take_standard
+from .finding import COMMANDS, Unnamed, folder_of, nearest, word_of
+from .folder import content_of
+from .following import Follower
+from .guarding import OutputFault, complain, guarded, put
 from .questions import STATE
 from .rehearsing import rehearsal
 from .state import MEANINGS, STOPPED
-from .status import shown
+from .status import shown, shown_brief
 from .top import show
-from .words import NOTE, STATUS, TOP, TRY, WORDS
+from .words import BRIEF, NOTE, STATUS, TOP, TRY, WORDS
 
+# How long a status may take, and how long is waited for the reasons of a word whose block has come.
+STATUS_SECONDS, NOTES_SECONDS, LONGEST = 20.0, 15.0, 65536
+# How long a service that starts may take until it listens, when that is said, and how often it is looked.
+START_SECONDS, TELL_SECONDS, PAUSE_SECONDS = 60.0, 1.0, 0.02
+ENDED = "the service has ended before it answered"
+ONLY_BRIEF = "this is the status in short: prefork-watch, which tells it in full, does not answer just now"
 ENDS = {"failed": 3, "done": 0, "nothing": 0, "answered": 0, "rolled-back": 3, "degraded": 4, "unread": 2}
 
 
-def asked(folder: str, word: str) -> tuple[str, str]:
+def asked(
+    folder: str, word: str, seconds: float | None = None, say: Callable[[str], None] = complain
+) -> tuple[str, str]:
     """What comes of a word, and what is to be said of it to people. A question that is asked before that is said at
-    once."""
+    once. Once the block is there, its reasons are waited for no longer than a moment."""
     block, notes = "", ""
-    with socket.socket(socket.AF_UNIX) as service:
-        service.connect(str(pathlib.Path(folder) / "ctl.sock"))
+    with connected(pathlib.Path(folder), say) as service:
+        service.settimeout(seconds)
         service.sendall(f"{word}\n".encode())
-        with service.makefile() as answer:
-            for line in answer:
+        with contextlib.suppress(TimeoutError, ConnectionResetError):
+            for line in lines_from(service):
                 if line.startswith("asks ") and word != STATE:
-                    print(f"prefork-ctl: it {line}", end="", file=sys.stderr, flush=True)
+                    say(f"it {line.rstrip()}")
                 elif line.startswith(NOTE):
                     notes += f"prefork-ctl: {line.removeprefix(NOTE)}"
                 else:
                     block += line
+                    if ends_block(line):
+                        service.settimeout(NOTES_SECONDS)
     return block, notes
+
+
+def connected(folder: pathlib.Path, say: Callable[[str], None]) -> socket.socket:
+    """A connection to the service. One that starts, and does not listen yet, is waited for. Raises OSError."""
+    deadline, is_told = time.monotonic() + START_SECONDS, False
+    while True:
+        service = socket.socket(socket.AF_UNIX)
+        try:
+            service.connect(str(folder / "ctl.sock"))
+            return service
+        except OSError as fault:
+            service.close()
+            is_early = fault.errno in (errno.ENOENT, errno.ECONNREFUSED) and is_starting(folder)
+            if not is_early or time.monotonic() > deadline:
+                raise
+        if not is_told and time.monotonic() > deadline - START_SECONDS + TELL_SECONDS:
+            say("the service is starting")
+            is_told = True
+        time.sleep(PAUSE_SECONDS)
+
+
+def is_starting(folder: pathlib.Path) -> bool:
+    """Whether the process that has noted its number in the folder runs, and is a service."""
+    number = (content_of(folder / "serve.pid") or b"").strip().decode("latin-1")
+    return number.isdigit() and content_of(pathlib.Path("/proc") / number / "comm") == b"prefork-serve\n"
+
+
+def lines_from(service: socket.socket) -> Iterator[str]:
+    """The lines that a service answers, as far as they are whole."""
+    unread = b""
+    while got := service.recv(LONGEST):
+        *lines, unread = (unread + got).split(b"\n")
+        yield from (f"{line.decode(errors='replace')}\n" for line in lines)
+
+
+def status_of(folder: str) -> dict[str, Any]:
+    """The status of a service; in short, where the process does not answer that tells it in full."""
+    for word in (STATUS, BRIEF):
+        block = asked(folder, word, STATUS_SECONDS)[0]
+        if block:
+            return json.loads(block)
+    raise ConnectionError(errno.ECONNRESET, ENDED)
 
 
 def arguments() -> argparse.Namespace:
@@ -139,55 +201,100 @@ def options_of_explore(given: argparse.Namespace) -> list[str]:
 
 
 def main() -> int:
+    """Whatever happens ends with a status, and with a line that says why."""
+    take_standard()
+    return guarded(control)
+
+
+def control() -> int:
     given = arguments()
     try:
         given.folder = folder_of(given.folder)
         if given.wait:
             return wait_for(given)
         if given.word == [TOP]:
-            return show(lambda: json.loads(asked(given.folder, STATUS)[0]))
+            return show(lambda: whole(status_of(given.folder)))
+        if given.word == [STATUS]:
+            return tell_status(given)
         if given.word == ["certify"]:
             return certify_records(given)
         if given.word[:1] in (["plan"], ["explore"]):
             return rehearse(given)
         return tell(given, " ".join(given.word) or STATE)
-    except LookupError as fault:
-        print(f"prefork-ctl: {fault}", file=sys.stderr)
+    except Unnamed as fault:
+        complain(str(fault))
+    except OutputFault:
+        raise
     except OSError as fault:
         hint = "" if isinstance(fault, PermissionError) else ". Name its folder: --folder F, or --folder prefork@NAME"
-        print(f"prefork-ctl: no service in {given.folder}: {fault.strerror or fault}{hint}", file=sys.stderr)
+        complain(f"no service in {given.folder}: {fault.strerror or fault}{hint}")
     return 1
+
+
+def whole(status: dict[str, Any]) -> dict[str, Any]:
+    """A status that is not told in short."""
+    if status.get("brief"):
+        raise ConnectionError(errno.EAGAIN, ONLY_BRIEF)
+    return status
 
 
 def wait_for(given: argparse.Namespace) -> int:
     """Asks for the status until it is in a state, and prints the last one."""
-    until, status = time.monotonic() + (30.0 if given.seconds is None else given.seconds), {}
+    until, status = time.monotonic() + (30.0 if given.seconds is None else given.seconds), dict[str, Any]()
     while True:
         with contextlib.suppress(OSError, ValueError):
-            status = json.loads(asked(given.folder, STATUS)[0])
+            status = status_of(given.folder)
         found = status.get("state", STOPPED)
         if found == given.wait or time.monotonic() >= until:
             break
         status = {}
         time.sleep(0.1)
-    text = (json.dumps(status) + "\n" if given.json else shown(status)) if status else f"{STOPPED}: no service in {given.folder}\n"
-    print(text, end="")
+    text = text_of(given, status) if status else f"{STOPPED}: no service in {given.folder}\n"
+    put(text)
     return 0 if found == given.wait else 1
+
+
+def text_of(given: argparse.Namespace, status: dict[str, Any]) -> str:
+    if given.json:
+        return json.dumps(status) + "\n"
+    return shown_brief(status) if status.get("brief") else shown(status)
+
+
+def tell_status(given: argparse.Namespace) -> int:
+    """Prints the status of a service."""
+    status = status_of(given.folder)
+    put(text_of(given, status))
+    if status.get("brief"):
+        complain(ONLY_BRIEF)
+    return 0
 
 
 def tell(given: argparse.Namespace, word: str) -> int:
     """Tells the service a word, and prints what came of it."""
-    block, notes = asked(given.folder, word)
-    if not block:
-        print("prefork-ctl: the service has ended before it answered", file=sys.stderr)
+    block, notes = followed(given, word) if word in WORDS else asked(given.folder, word)
+    if not block.strip():
+        complain(ENDED)
         return 1
-    if word == STATUS:
-        print(block if given.json else shown(json.loads(block)), end="")
-        return 0
-    status = 0 if word == STATE else ENDS.get(block.splitlines()[-1].split()[0], 1)
-    print(as_json(block, notes, status) if given.json else block, end="", flush=True)
-    print("" if given.json else notes, end="", file=sys.stderr)
+    report = block.splitlines()[-1]
+    outcome = report_of(report).outcome
+    status = 0 if word == STATE else ENDS.get(outcome, 1)
+    if outcome == "unread" and (near := nearest(word)):
+        notes = f"{notes.rstrip()}. Do you mean {near}?\n"
+    # (the status is that of the word, also where its block can't be written)
+    put(as_json(block, notes, status) if given.json else block, status)
+    if not given.json:
+        for line in notes.splitlines():
+            complain(line.removeprefix("prefork-ctl: "))
     return status
+
+
+def followed(given: argparse.Namespace, word: str) -> tuple[str, str]:
+    """The same, while it is shown how far the word is."""
+    with Follower(lambda: status_of(given.folder), sys.stderr) as follower:
+        def say(text: str) -> None:
+            follower.clear()
+            complain(text)
+        return asked(given.folder, word, say=say)
 
 
 def as_json(block: str, notes: str, status: int) -> str:
@@ -199,26 +306,31 @@ def as_json(block: str, notes: str, status: int) -> str:
 
 def rehearse(given: argparse.Namespace) -> int:
     """Prints what a word would do to the service as it runs now."""
-    status = json.loads(asked(given.folder, STATUS)[0])
+    status = whole(status_of(given.folder))
     kind, word = given.word[0], " ".join(given.word[1:])
-    found = subprocess.run(rehearsal(kind, word, status, options_of_explore(given)), capture_output=True, text=True)
+    command = rehearsal(kind, word, status, options_of_explore(given))
+    try:
+        found = subprocess.run(command, capture_output=True, text=True, errors="replace")
+    except OSError as fault:
+        complain(f"{command[0]}: {fault.strerror}")
+        return 1
     if given.json:
         said = {"status": found.returncode, "lines": found.stdout.splitlines(), "notes": found.stderr.splitlines()}
-        print(json.dumps(said))
+        put(json.dumps(said) + "\n", found.returncode)
     else:
-        print(found.stdout, end="", flush=True)
-        print(found.stderr, end="", file=sys.stderr)
+        put(found.stdout, found.returncode)
+        sys.stderr.write(found.stderr)
     return found.returncode
 
 
 def certify_records(given: argparse.Namespace) -> int:
     """Prints what certify says of the records."""
     try:
-        service = json.loads(asked(given.folder, STATUS)[0])["service"]
+        service = whole(status_of(given.folder))["service"]
     except (OSError, ValueError):
         service = {"records": str(pathlib.Path(given.folder) / "records"), "prefork": "prefork"}
     place = pathlib.Path(given.records or service["records"])
     lines, status = certify(place, given.prefork or service["prefork"])
     text = json.dumps({"status": status, "lines": lines}) if given.json else "\n".join(lines)
-    print(text)
+    put(f"{text}\n", status)
     return status

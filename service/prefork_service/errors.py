@@ -37,6 +37,9 @@ class Errors(io.TextIOBase):
     def fileno(self) -> int:
         return self.number
 
+    def isatty(self) -> bool:
+        return os.isatty(self.number)
+
     def writable(self) -> bool:
         return True
 

@@ -11,6 +11,10 @@ NAMES = {"reload": "HUP", "upgrade": "USR2", "upgrade attended": ATTENDED, "stop
 COMMANDS = ("status", "plan", "explore", "certify", "go", "back", TICK, TOP, TRY)
 
 
+class Unnamed(LookupError):
+    """It is not known which service is meant. The text says what can be named."""
+
+
 def word_of(text: str) -> str:
     """The word that is meant: by its name, in capitals or not, or by what it does."""
     lower = " ".join(text.split()).lower()
@@ -35,7 +39,7 @@ def services(units: pathlib.Path = UNITS) -> list[pathlib.Path]:
 
 def folder_of(given: str | None, units: pathlib.Path = UNITS) -> str:
     """The folder that is meant: the one that is named, by its path or by its unit, or the one that is here, or that of the
-    only unit. Raises LookupError with what can be named."""
+    only unit. Raises Unnamed with what can be named."""
     if given:
         name = given.removesuffix(".service")
         return str(units / name.removeprefix(UNIT)) if name.startswith(UNIT) and "/" not in name else given
@@ -43,5 +47,5 @@ def folder_of(given: str | None, units: pathlib.Path = UNITS) -> str:
     if (pathlib.Path(HERE) / "ctl.sock").exists() or not found:
         return HERE
     if len(found) > 1:
-        raise LookupError(f"there are several services: name one, as --folder {' or --folder '.join(map(str, found))}")
+        raise Unnamed(f"there are several services: name one, as --folder {' or --folder '.join(map(str, found))}")
     return str(found[0])

@@ -6,21 +6,19 @@ import os
 import pathlib
 import re
 import shutil
-import socket
 import stat
 import sys
-import time
 
-# How long the processes of a service that was killed may take to end: longer than a worker finishes what it serves.
-LEAVE_SECONDS = 35
-# What says that a folder is that of a service, and what an earlier version left in one.
+# What says that a folder is that of a service.
 MARK = ".prefork"
-EARLIER = re.compile(r"journal(\.\d)?|records|blocks|(accepted|config|next)\.toml|serve\.pid|(ctl|keeper)\.sock|reasons|"
-                     r"workers|commands|(worker|template|preloader)\..+|\.\d+|\.blocks")
 # The file of a worker, by its generation and number.
 WORKER = re.compile(r"\d+\.\d+\.\d+")
-# The path of a socket has 107 bytes at most, and its name in the folder some of them.
-LONGEST_PATH = 90
+# The same, also where it was put aside and could not be removed.
+OF_WORKER = re.compile(r"\d+\.\d+\.\d+(\.ended)?")
+# The file in which a worker of --wsgi counts what it answers, by its process too.
+TRAFFIC = re.compile(r"\.?\d+\.\d+\.\d+\.\d+|ended")
+# That of a worker that has survived its master: with the number of its process.
+SURVIVOR = re.compile(r"(\d+\.\d+\.\d+)\.(\d+)")
 
 
 def say(text: str) -> None:
@@ -72,52 +70,22 @@ def remove_all(place: pathlib.Path, names: re.Pattern) -> None:
 
 
 class Folder:
-    """The folder of a service. `prefork-serve` locks it. Its master and its keeper inherit the lock, so no other
-    master runs before these have ended."""
+    """The folder of a service. `prefork-serve` locks it. Its master inherits the lock, so no other master runs before that
+    one has ended."""
 
-    def __init__(self, path: str):
+    def __init__(self, path: str, lock: int = -1):
         self.path = pathlib.Path(path).absolute()
         self.pid, self.blocks = self.path / "serve.pid", self.path / "blocks"
         self.words, self.keeper = self.path / "ctl.sock", self.path / "keeper.sock"
         # A file for each worker, with the number of its process, and one in which they note why they end.
         self.workers, self.reasons = self.path / "workers", self.path / "reasons"
+        # A file for each worker that serves on after the death of its master.
+        self.survivors = self.path / "survivors"
         self.mark = self.path / MARK
-        if len(os.fsencode(self.path)) > LONGEST_PATH:
-            sys.exit(f"prefork-serve: {self.path}: the path is too long for sockets: at most {LONGEST_PATH} bytes")
-        self.path.mkdir(mode=0o700, parents=True, exist_ok=True)
-        found = self.path.stat()
-        if found.st_uid != os.geteuid() or found.st_mode & 0o077:
-            sys.exit(f"prefork-serve: {self.path} must belong to you and be closed to others: chmod 700")
-        if not self.is_own():
-            sys.exit(f"prefork-serve: {self.path} is not empty, and is not the folder of a service: --folder takes a folder of its own")
-        self.mark.touch(0o600)
-        self.lock = os.open(self.path, os.O_RDONLY | os.O_DIRECTORY)
-        self.claim()
-
-    def is_own(self) -> bool:
-        """Whether the folder has the mark of a service, is empty, or has what an earlier version has left, which made no
-        mark."""
-        names = {file.name for file in files_in(self.path)}
-        is_earlier = "journal" in names and all(EARLIER.fullmatch(name) for name in names)
-        return self.mark.exists() or not names or is_earlier
-
-    def claim(self) -> None:
-        """Takes the lock. If no service answers, processes of a killed service hold it."""
-        deadline, is_told = time.monotonic() + LEAVE_SECONDS, False
-        while not self.is_claimed():
-            if self.is_served():
-                owner = self.pid.read_text().strip()
-                sys.exit(f"prefork-serve: {self.path} is served already, by process {owner}")
-            if time.monotonic() > deadline:
-                sys.exit(f"prefork-serve: processes of an earlier service in {self.path} are still running")
-            if not is_told:
-                say("waits for processes of an earlier service to end")
-            is_told = True
-            time.sleep(0.1)
-        for left in (self.words, self.keeper, *self.path.glob("preloader.*")):
-            left.unlink(missing_ok=True)
-        remove_all(self.workers, WORKER)
-        self.write_own()
+        # The process that has it may be the only service here. Its master inherits it.
+        self.lock = lock
+        if lock >= 0:
+            os.set_inheritable(lock, False)
 
     def write_own(self) -> None:
         """What processes of the service expect in the folder."""
@@ -128,6 +96,9 @@ class Folder:
         except FileExistsError:
             sys.exit(f"prefork-serve: {self.workers} is no folder, and the service has one of that name")
         self.mark.touch(0o600)
+        with contextlib.suppress(OSError):
+            # Workers of --wsgi count there what they answer.
+            (self.path / "traffic").mkdir(mode=0o700, exist_ok=True)
         self.pid.write_text(f"{os.getpid()}\n")
 
     def mend(self) -> bool:
@@ -151,18 +122,16 @@ class Folder:
         except BlockingIOError:
             return False
 
-    def is_served(self) -> bool:
-        with socket.socket(socket.AF_UNIX) as probe:
-            try:
-                probe.connect(str(self.words))
-                return True
-            except OSError:
-                return False
-
     def clear(self) -> None:
         for own in (self.words, self.keeper, self.pid, self.reasons):
             own.unlink(missing_ok=True)
-        remove_all(self.workers, WORKER)
+        remove_all(self.survivors, SURVIVOR)
+        self.clear_beside()
+
+    def clear_beside(self) -> None:
+        """Removes what is there beside its own files."""
+        remove_all(self.workers, OF_WORKER)
+        remove_all(self.path / "traffic", TRAFFIC)
         # Of an adapter that was killed together with the process that holds its program.
         for room in self.path.glob("worker.??????"):
             shutil.rmtree(room, ignore_errors=True)

@@ -7,16 +7,9 @@ import time
 from typing import Any
 
 from .burying import started
+from .events import EVENTS as EVENTS
 from .folder import say
 
-# The options that name a program, and when it is started.
-EVENTS = {
-    "on-done": "once a word was done",
-    "on-rolled-back": "once a word was rolled back",
-    "on-degraded": "once a word has left the service short",
-    "on-short": "once fewer workers run than are wanted",
-    "on-healed": "once as many workers run as are wanted again",
-}
 OF_OUTCOMES = {"done": "on-done", "rolled-back": "on-rolled-back", "degraded": "on-degraded"}
 # How long such a program may run, how many may run at a time, and how long the last ones may take at the end of the service.
 SECONDS, MOST, END_SECONDS = 30.0, 8, 2.0

@@ -33,12 +33,18 @@ packet each:
     =           all who are to hold a socket have asked for it since: it may be closed, once those that finish are over
     /ADDRESS    no configuration names it any more: it is closed, and opened anew if somebody asks for it
     %ADDRESS    if the path of this Unix socket has been removed, it is opened anew
+    *[ADDRESS, OPTIONS]   in JSON: what is wanted of this address, once it is opened
     ?  .        prefork-serve asks whether the keeper answers, and it does
     x           the keeper is to end, and Unix sockets are to be removed
+
+If prefork-serve ends without this, it was killed. The keeper stays then as long as a worker holds an address: workers serve
+on after the death of their master. The next prefork-serve connects to PATH and says `^`. It is given each socket with
+`+ADDRESS`, and then `x`; once it says `x` itself, it keeps them, and this keeper ends.
 """
 import argparse
 import grp
 import io
+import json
 import os
 import resource
 import selectors
@@ -50,15 +56,20 @@ from . import VERSION
 from .barrier import Barrier, Broken
 from .door import Door, has_said
 from .errors import take_standard
-from .sockets import QUEUE, file_of, listening
+from .opening import Wanted, listening
+from .packets import (
+    ANSWERS, ASKS, CLOSED, DROPS, ENDS, INHERITS, LONGEST_ADDRESS, LONGEST_TOLD, LOST, OPENED, REFUSED, RENEWS, SETTLED, WANTS,
+)
+from .sockets import QUEUE, file_of
 from .titles import set_title
 
 LINGER = 2.0
 # How long workers that hold a socket, and are not known to, may take to close it once they finish.
 FINISH_SECONDS = 10.0
+# How long the next prefork-serve may take to receive the sockets.
+HEIR_SECONDS = 5.0
 # How many clients may have connected and not asked yet: all workers that there can be may start at a time.
 MOST_SILENT = 1024
-LONGEST_ADDRESS = 200
 # Asked for in place of an address: the standard error of the service.
 ERRORS = "errors"
 # How a holder begins what it says of an address that it gives up.
@@ -66,8 +77,6 @@ GIVES_UP = "-"
 DEFER = "--defer-accept"
 # Of Unix sockets.
 MODE, GROUP = "--socket-mode", "--socket-group"
-# What the packets to and from prefork-serve begin with.
-OPENED, CLOSED, REFUSED, SETTLED, ASKS, ANSWERS, ENDS, LOST, DROPS, RENEWS = tuple("+-!=?.x~/%")
 
 
 def say(text: str) -> None:
@@ -124,7 +133,7 @@ class Channel:
 
     def hear(self) -> tuple[str, socket.socket | None]:
         try:
-            said, given, _, _ = socket.recv_fds(self.socket, LONGEST_ADDRESS + 1, 1)
+            said, given, _, _ = socket.recv_fds(self.socket, LONGEST_TOLD, 1)
         except OSError:
             return "", None
         return said.decode(), socket.socket(fileno=given[0]) if given else None
@@ -136,13 +145,17 @@ class Keeper:
     def __init__(
         self, door: socket.socket, linger: float, defers: bool, channel: Channel | None, group: int | None = None
     ):
-        self.linger, self.defers, self.channel, self.group = linger, defers, channel, group
+        self.linger, self.channel = linger, channel
+        # What is wanted of sockets where nobody says otherwise, and what is said of addresses.
+        self.usual, self.wanted = Wanted(defer_accept=defers, group=group), dict[str, Wanted]()
         self.kept: dict[str, Kept] = {}
         # Addresses that were dropped once.
         self.dropped: set[str] = set()
         self.held: dict[socket.socket, set[Kept]] = {}
         # Whether a holder has gone that prefork-serve was not told of.
         self.has_lost = False
+        # Whether prefork-serve was killed.
+        self.is_orphan = False
         self.events, self.barrier = selectors.DefaultSelector(), Barrier(say)
         self.door = Door(self.events, door, self.begin_to_hear, say, MOST_SILENT)
 
@@ -158,7 +171,7 @@ class Keeper:
         """A turn of the loop. What an event or a duty raises costs that one alone."""
         for key in self.barrier.select(self.events, self.linger / 4):
             self.barrier.event(self.events, key)
-        for duty in (self.tell_lost, self.close_dropped, self.door.tend, sys.stderr.flush):
+        for duty in (self.tell_lost, self.close_dropped, self.end_if_over, self.door.tend, sys.stderr.flush):
             self.barrier.duty(duty)
 
     def forsake(self, source: socket.socket) -> None:
@@ -181,6 +194,11 @@ class Keeper:
             self.let_go(holder)
         elif text == ERRORS:
             self.give_errors(holder)
+        elif text == INHERITS:
+            self.bequeath(holder)
+        elif text == ENDS and self.is_orphan:
+            # The sockets are kept by another one, and the files are its own.
+            sys.exit(0)
         elif text.startswith(GIVES_UP):
             self.give_up(holder, text.removeprefix(GIVES_UP))
         else:
@@ -211,7 +229,7 @@ class Keeper:
 
     def opened(self, address: str) -> Kept:
         is_again = address in self.dropped
-        kept = self.kept[address] = Kept(address, listening(address, self.defers, self.group, is_again))
+        kept = self.kept[address] = Kept(address, listening(address, self.wanted.get(address, Wanted()).over(self.usual), is_again))
         kept.free_since = time.monotonic()
         if self.channel:
             self.channel.tell(OPENED + address, kept.socket)
@@ -223,6 +241,38 @@ class Keeper:
         except OSError:
             pass
         self.let_go(holder)
+
+    def bequeath(self, heir: socket.socket) -> None:
+        """Gives all sockets to the next prefork-serve."""
+        self.take_given()
+        if not self.is_orphan:
+            self.let_go(heir)
+            return
+        heir.settimeout(HEIR_SECONDS)
+        self.held[heir] = set(self.kept.values())
+        try:
+            for address, kept in self.kept.items():
+                kept.holders += 1
+                socket.send_fds(heir, [(OPENED + address).encode()], [kept.socket.fileno()])
+            heir.send(ENDS.encode())
+            heir.setblocking(False)
+        except OSError:
+            self.let_go(heir)
+
+    def outlive(self, channel: Channel) -> None:
+        """prefork-serve was killed. Workers that serve on have the sockets, and the next start asks for them."""
+        self.events.unregister(channel.socket)
+        channel.socket.close()
+        self.channel, self.is_orphan = None, True
+
+    def end_if_over(self) -> None:
+        """Without prefork-serve it ends with the last holder. One that has been given sockets knows not who holds them: the
+        files stay then."""
+        if not self.is_orphan or any(kept.holders for kept in self.kept.values()):
+            return
+        if any(kept.has_strangers for kept in self.kept.values()):
+            sys.exit(0)
+        self.leave()
 
     def refuse(self, holder: socket.socket, address: str, reason: str) -> None:
         if self.channel:
@@ -280,7 +330,9 @@ class Keeper:
             say(f"{address} is not opened anew: {refusal.strerror}")
 
     def hear_serve(self, _: socket.socket) -> None:
-        said, given = self.channel.hear() if self.channel else ("", None)
+        if not self.channel:
+            return
+        said, given = self.channel.hear()
         kind, address = said[:1], said[1:]
         if kind == OPENED and given:
             self.kept[address] = Kept(address, given, has_strangers=True)
@@ -291,13 +343,15 @@ class Keeper:
             self.drop(address)
         elif kind == RENEWS:
             self.renew(address)
-        elif kind == ASKS and self.channel:
+        elif kind == WANTS:
+            named, options = json.loads(address)
+            self.wanted[named] = Wanted(**options)
+        elif kind == ASKS:
             self.channel.tell(ANSWERS)
         elif kind == ENDS:
             self.leave()
         else:
-            # Killed: the processes that have copies of the sockets go on with them, the files too.
-            sys.exit(0)
+            self.outlive(self.channel)
 
     def hear_input(self, given: io.TextIOBase) -> None:
         if not os.read(given.fileno(), 4096):

@@ -10,16 +10,21 @@ import selectors
 import socket
 import subprocess
 import time
-from typing import Any
+from typing import TYPE_CHECKING, Any
 
 from . import places
 from .burying import started
-from .convention import Hold
+from .holding import Hold
 from .folder import Folder, plain, say
-from .keeper import ANSWERS, ASKS, CLOSED, DROPS, ENDS, LONGEST_ADDRESS, LOST, OPENED, REFUSED, RENEWS, SETTLED
+from .packets import ANSWERS, ASKS, CLOSED, DROPS, ENDS, LONGEST_ADDRESS, LOST, OPENED, REFUSED, RENEWS, SETTLED, WANTS
 from .sockets import QUEUE, file_of, seal
-from .systemd import store, unstore
+from .systemd import may_store, store, unstore
 
+if TYPE_CHECKING:
+    from .listeners import Listeners
+
+# What a configuration with options of listeners has.
+SOCKETS = b"sockets"
 # How long it may take to answer, before it is killed; how often it is asked, and the least time between two starts.
 ANSWER_SECONDS, ASK_SECONDS, PAUSE_SECONDS = 10.0, 1.0, 1.0
 # How long the first one may take to open an address of the start.
@@ -31,12 +36,15 @@ DRAIN_SECONDS, LOOK_SECONDS = 1.0, 0.01
 class Keeping:
     """A keeper that runs, or is about to, and the sockets that it has."""
 
-    def __init__(self, events: selectors.BaseSelector, folder: Folder, options: list[str], held: dict[str, socket.socket]):
-        self.events, self.folder, self.options, self.held = events, folder, options, held
+    def __init__(
+        self, events: selectors.BaseSelector, folder: Folder, options: list[str], stored: dict[str, socket.socket],
+        inherited: dict[str, socket.socket],
+    ):
+        self.events, self.folder, self.options, self.held = events, folder, options, stored | inherited
         # Those that systemd has opened or stored: it gives them to the next start. And those that take no new connection.
-        self.of_systemd, self.sealed = set(held), set[str]()
+        self.of_systemd, self.sealed = set(stored), set[str]()
         # The files of Unix sockets.
-        self.files = {address: file_of(address) for address in held}
+        self.files = {address: file_of(address) for address in self.held}
         # The keeper and the socket to it, once it is started; when it was begun and asked last, and whether it owes an
         # answer.
         self.process: Any = None
@@ -45,10 +53,13 @@ class Keeping:
         # Why addresses were not opened since the last word, and the connection that holds those of the start.
         self.refusals: list[str] = []
         self.of_start = Hold(START_SECONDS)
+        # What is wanted of sockets, once a configuration says something of it.
+        self.listeners: "Listeners | None" = None
+        self.is_heir = bool(inherited)
         # Whether a worker may have ended since that was looked at.
         self.lost = False
         self.open_door()
-        for address, one in held.items():
+        for address, one in self.held.items():
             store(address, one)
         self.begin()
 
@@ -74,11 +85,10 @@ class Keeping:
         self.begun, self.restarts = time.monotonic(), self.restarts + 1
         self.channel, theirs = socket.socketpair(socket.AF_UNIX, socket.SOCK_SEQPACKET)
         command = [places.KEEPER, *self.options, "--door", str(self.door.fileno()), self.folder.keeper]
-        given = [self.folder.lock, self.door.fileno()]
         try:
             self.channel.setblocking(False)
             self.events.register(self.channel, selectors.EVENT_READ, self.hear)
-            self.process = started(command, stdin=theirs, start_new_session=True, pass_fds=given)
+            self.process = started(command, stdin=theirs, start_new_session=True, pass_fds=[self.door.fileno()])
         except OSError as fault:
             if is_heard(self.events, self.channel):
                 self.events.unregister(self.channel)
@@ -87,8 +97,21 @@ class Keeping:
             return
         finally:
             theirs.close()
+        if self.listeners:
+            self.listeners.tell_again()
         for address, one in self.held.items():
             self.tell(OPENED + address, one)
+
+    def wanted(self, text: bytes) -> "Listeners | None":
+        """Who sees to the options of listeners, if this configuration or one before it has some; that of a killed service too."""
+        if not self.listeners and (SOCKETS in text or self.is_heir):
+            from .listeners import Listeners
+            self.listeners = Listeners(self)
+        return self.listeners
+
+    def tell_options(self, text: str) -> None:
+        if self.process:
+            self.tell(WANTS + text)
 
     def tell(self, text: str, one: socket.socket | None = None) -> None:
         """Tells the keeper something. One that has ended, or hears nothing, is found by what it owes."""
@@ -156,7 +179,7 @@ class Keeping:
         """The service is about to stop: from now on new connections are refused, and those that wait stay. Where systemd
         may store the sockets, connections wait for the next start."""
         for address in set(self.held) - self.of_systemd - self.sealed:
-            if os.environ.get("NOTIFY_SOCKET"):
+            if may_store():
                 continue
             self.sealed.add(address)
             seal(self.held[address])
@@ -206,7 +229,7 @@ class Keeping:
             self.asked, self.owes = now, True
             self.tell(ASKS)
 
-    def has_lost(self) -> bool:
+    def take_lost(self) -> bool:
         """Whether a worker may have ended since this was asked last."""
         found, self.lost = self.lost, False
         return found

@@ -4,15 +4,14 @@ Nobody waits for them. One that hangs, or was stopped, would stay as long as the
 """
 import os
 import pathlib
-import re
 import signal
 import time
+from collections.abc import Collection
 
+from .blocks import block_of
 from .folder import files_in
-from .status import descends, fields_of
+from .processes import descends, fields_of
 
-QUIT = re.compile(r"^\d+ m\d+ quit (\d+\.\d+ \d+) : ok$", re.M)
-SPAWNED = re.compile(r"^\d+ m\d+ spawn-master (\d+) : spawned$", re.M)
 # How often it is looked at them.
 PAUSE_SECONDS = 1.0
 
@@ -25,14 +24,20 @@ class Leaving:
         self.folder, self.seconds = folder, seconds
         # By the process and its start: the worker's name, and when it has to have ended.
         self.due: dict[tuple[int, str], tuple[str, float]] = {}
+        # The processes of such a worker, where it has another one beside that.
+        self.processes: dict[tuple[int, str], set[int]] = {}
         self.next_look = 0.0
 
-    def note(self, block: str) -> None:
+    def note(self, text: str) -> None:
         """Takes those that a block has told to quit, and those of a new master that was ended on the way back."""
-        for worker in QUIT.findall(block):
-            self.take(worker.replace(" ", "."))
-        if (spawned := SPAWNED.search(block)) and block.splitlines()[-1].startswith(("rolled-back", "degraded old")):
-            self.take_all(f"{spawned[1]}.")
+        block = block_of(text)
+        plain = [call for call in block.calls if call.is_plain]
+        for call in plain:
+            if call.kind == "quit":
+                self.take(call.name)
+        spawned = next((call for call in plain if call.kind == "spawn-master"), None)
+        if spawned and block.report.is_back:
+            self.take_all(f"{spawned.about}.")
 
     def take_all(self, image: str = "") -> None:
         """Takes all workers, or those of an image: their master has ended, and so has their input."""
@@ -43,28 +48,43 @@ class Leaving:
     def take(self, name: str) -> None:
         """Takes the worker of this name, if it runs."""
         try:
-            text = (self.folder / "workers" / name).read_text().split()[0]
-        except (OSError, IndexError):
-            return
-        if not self.seconds or not text.isdigit():
+            numbers = [int(text) for text in (self.folder / "workers" / name).read_text().split()]
+        except (OSError, ValueError):
             return
         # (a process that has ended by now has no start)
-        start = start_of(int(text))
-        if start and self.is_own(int(text)):
-            self.due.setdefault((int(text), start), (name, time.monotonic() + self.seconds))
+        start = start_of(numbers[0]) if numbers else ""
+        if start and self.is_own(numbers[0]):
+            self.take_process(name, numbers[0], start)
+            self.processes[numbers[0], start] = set(numbers)
+
+    def take_process(self, name: str, process: int, start: str) -> None:
+        """Takes a worker by its process, and when that began."""
+        if self.seconds:
+            self.due.setdefault((process, start), (name, time.monotonic() + self.seconds))
 
     def is_own(self, process: int) -> bool:
         """Whether a process runs that belongs to this service. A worker of a dead master no longer descends from it, and
         one that writes a title of its own may have lost its environment."""
-        return descends(process, os.getpid()) or f"PREFORK_FOLDER={self.folder}" in environment_of(process)
+        try:
+            if descends(process, os.getpid()):
+                return True
+        except OSError:
+            # The system can't be asked just now.
+            pass
+        return f"PREFORK_FOLDER={self.folder}" in environment_of(process)
 
-    def tend(self) -> list[str]:
-        """Kills those that have not ended in time; their names."""
+    def tend(self, survivors: Collection[int] = ()) -> list[str]:
+        """Kills those that have not ended in time; their names. The time of the processes that are to serve on for a while
+        has not begun."""
         now = time.monotonic()
         if not self.due or now < self.next_look:
             return []
         self.next_look = now + PAUSE_SECONDS
         self.due = {worker: due for worker, due in self.due.items() if start_of(worker[0]) == worker[1]}
+        self.processes = {worker: numbers for worker, numbers in self.processes.items() if worker in self.due}
+        for worker, (name, _) in self.due.items():
+            if not self.processes.get(worker, {worker[0]}).isdisjoint(survivors):
+                self.due[worker] = name, now + self.seconds
         late = [worker for worker, (_, moment) in self.due.items() if moment <= now]
         return [self.due.pop(worker)[0] for worker in late if self.kill(*worker)]
 

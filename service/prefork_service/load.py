@@ -18,6 +18,7 @@ import time
 from typing import Any
 
 from . import VERSION
+from .addresses import host_and_port
 
 PATIENCE = 10.0
 ENDS = (signal.SIGINT, signal.SIGTERM)
@@ -164,7 +165,7 @@ def connected(address: str, patience: float) -> socket.socket:
         connection.settimeout(patience)
         connection.connect(address)
         return connection
-    host, _, port = address.rpartition(":")
+    host, port = host_and_port(address)
     return socket.create_connection((host, int(port)), patience)
 
 

@@ -1,29 +1,30 @@
 """The master of a service, `prefork supervise`: the blocks that it prints, and the questions that it asks."""
 import os
-import re
 import select
+import socket
 import subprocess
 import sys
 import time
 from collections.abc import Callable
 from typing import Any
 
+from . import places
+from .blocks import WORD, beat_of, ends_block, killed_in, logged, question_in
 from .burying import started
 from .folder import Folder
-from .limits import killed_by
-from .questions import ASKS, LOG
-from .words import ENDS
 
 # How long it may take to end once it has closed its output.
 END_SECONDS = 10.0
-BEAT = re.compile(r"word beat (\d+) (\d+)")
 
 
 class Master:
     """A master that runs. Each block that it prints is given to `keep`. Its standard error is read too, for what it
-    asks: `--verbose` says that there."""
+    asks: `--verbose` says that there.
 
-    def __init__(self, command: list[str], folder: Folder, keep: Callable[[str], None]):
+    One that is bound is killed when this process ends, and does not see the end of its input before that: it would tell its
+    workers to quit. So it has a copy of our end of its input."""
+
+    def __init__(self, command: list[str], folder: Folder, keep: Callable[[str], None], is_bound: bool = False):
         self.keep, self.unread = keep, ""
         # The lines of a block that is not complete yet.
         self.block: list[str] = []
@@ -34,16 +35,26 @@ class Master:
         # What was read of a line of its standard error, and whether that has ended.
         self.unread_errors, self.is_silent = b"", False
         # In a session of its own: ^C in a terminal is a word to the service, and does not end its master.
-        pipes: dict[str, Any] = {"stdin": subprocess.PIPE, "stdout": subprocess.PIPE, "stderr": subprocess.PIPE}
-        self.process: Any = started(command, **pipes, start_new_session=True, pass_fds=[folder.lock])
+        self.input, theirs = socket.socketpair()
+        copies = [os.dup(self.input.fileno())] if is_bound else []
+        bound = [str(places.LAUNCH), "bound", str(os.getpid())] if is_bound else []
+        pipes: dict[str, Any] = {"stdin": theirs, "stdout": subprocess.PIPE, "stderr": subprocess.PIPE}
+        try:
+            self.process: Any = started([*bound, *command], **pipes, start_new_session=True, pass_fds=[folder.lock, *copies])
+        except OSError:
+            self.input.close()
+            raise
+        finally:
+            theirs.close()
+            for copy in copies:
+                os.close(copy)
         self.output, self.errors = self.process.stdout.fileno(), self.process.stderr.fileno()
         os.set_blocking(self.errors, False)
 
     def tell(self, word: str) -> None:
         try:
-            self.process.stdin.write(f"{word}\n".encode())
-            self.process.stdin.flush()
-        except BrokenPipeError:
+            self.input.sendall(f"{word}\n".encode())
+        except (BrokenPipeError, ConnectionResetError):
             # It has ended. Its output says so too.
             pass
 
@@ -58,14 +69,13 @@ class Master:
     def take(self, line: str) -> str | None:
         """Takes a line; the block that it completes, if it is not that of a beat."""
         self.block.append(line)
-        if line.split(" ", 1)[0] not in ENDS:
+        if not ends_block(line):
             return None
         block, self.block = self.block, []
         text = "".join(f"{line}\n" for line in block)
         self.keep(text)
-        beat = BEAT.fullmatch(block[0])
-        if beat:
-            self.beats[int(beat[1])] = int(beat[2])
+        if beat := beat_of(block[0].removeprefix(WORD)):
+            self.beats[beat[0]] = beat[1]
         return None if beat else text
 
     def hear_errors(self) -> list[int]:
@@ -74,15 +84,13 @@ class Master:
         while got := self.read_errors():
             *lines, self.unread_errors = (self.unread_errors + got).split(b"\n")
             for line in lines:
-                logged = LOG.fullmatch(line.decode("latin-1"))
-                asked = ASKS.fullmatch(logged[1]) if logged else None
-                ended = killed_by(logged[1]) if logged else None
-                if ended:
-                    self.killed[ended[0]] = ended[1]
-                if asked:
-                    found.append(int(asked[1]))
-                elif not logged:
+                said = logged(line.decode("latin-1"))
+                if said is None:
                     pass_on(line + b"\n")
+                elif ended := killed_in(said):
+                    self.killed[ended[0]] = ended[1]
+                elif asked := question_in(said):
+                    found.append(asked)
         return found
 
     def read_errors(self) -> bytes:
@@ -97,7 +105,7 @@ class Master:
     def finish(self, seconds: float | None = None) -> bool:
         """Waits for the end of a master that has been told to stop; whether it has ended within some seconds. Otherwise it
         is killed."""
-        self.process.stdin.close()
+        self.end_input()
         deadline, watched = time.monotonic() + (seconds or 0.0), select.poll()
         watched.register(self.output, select.POLLIN)
         is_over = False
@@ -111,9 +119,19 @@ class Master:
         self.close()
         return True
 
+    def end_input(self) -> None:
+        """Ends its input, for all copies of our end."""
+        try:
+            self.input.shutdown(socket.SHUT_WR)
+        except OSError:
+            # It has ended.
+            pass
+
     def close(self) -> int:
         """Its status, once it has ended; what it said last is passed on."""
+        self.end_input()
         status = self.ended()
+        self.input.close()
         self.hear_errors()
         pass_on(self.unread_errors)
         self.process.stdout.close()

@@ -1,9 +1,11 @@
 """The status of a service in the text format that Prometheus reads."""
 import os
 import pathlib
+import re
 from collections.abc import Iterator
 from typing import Any
 
+from .blocks import report_of
 from .folder import say
 from .state import MEANINGS
 
@@ -11,6 +13,10 @@ Status = dict[str, Any]
 KIND = "text/plain; version=0.0.4; charset=utf-8"
 # How ticks end; each has a line, so that an alert can be written before one has ended so.
 OUTCOMES = ("done", "nothing", "degraded")
+# How far the present word is.
+PROGRESS = {"prefork_word_seconds": "seconds", "prefork_word_new_workers": "new", "prefork_word_old_workers": "old"}
+# What follows the name of a histogram.
+OF_HISTOGRAM = re.compile("(?<=_seconds)_(bucket|sum|count)$")
 # What each metric means, and its type.
 METRICS = {
     "prefork_state": ("gauge", "Whether the service is in this state: serves, changes, short or stopped."),
@@ -23,6 +29,11 @@ METRICS = {
     "prefork_worker_last_beat_seconds": ("gauge", "How long ago a worker has beaten."),
     "prefork_worker_memory_bytes": ("gauge", "Memory of a worker and what it has started (PSS)."),
     "prefork_worker_processor_seconds_total": ("counter", "Processor time of a worker and what it has started."),
+    "prefork_requests_total": ("counter", "Requests that workers of --wsgi have answered, by their statuses."),
+    "prefork_request_seconds": ("histogram", "How long answers took, from the request's last byte on."),
+    "prefork_worker_threads": ("gauge", "Threads of a worker of --wsgi."),
+    "prefork_worker_threads_busy": ("gauge", "Threads of a worker of --wsgi that are at a request."),
+    "prefork_access_log_lost_total": ("counter", "Lines of the access log that could not be written."),
     "prefork_queue_length": ("gauge", "Connections that wait at an address to be accepted."),
     "prefork_queue_limit": ("gauge", "How many connections may wait at an address."),
     "prefork_queue_dropped_total": ("counter", "Connections that were dropped at an address, as its queue was full."),
@@ -35,6 +46,9 @@ METRICS = {
     "prefork_ticks_total": ("counter", "Ticks that masters have carried out, by how they ended."),
     "prefork_last_word_done": ("gauge", "Whether the last word was done."),
     "prefork_busy": ("gauge", "Whether a word is being carried out."),
+    "prefork_word_seconds": ("gauge", "For how long the present word has been carried out."),
+    "prefork_word_new_workers": ("gauge", "Workers that the present word has started, and that run."),
+    "prefork_word_old_workers": ("gauge", "Workers that run beside them."),
     "prefork_question": ("gauge", "The question that is asked, or 0."),
     "prefork_words_waiting": ("gauge", "Words that wait."),
     "prefork_file_has_changed": ("gauge", "Whether the configuration's file is another one than was accepted."),
@@ -52,6 +66,26 @@ def labelled(name: str, value: float, **labels: object) -> str:
     """A line of a metric."""
     told = ",".join(f"{key}={quoted(str(label))}" for key, label in labels.items())
     return f"{name}{{{told}}} {value}" if told else f"{name} {value}"
+
+
+def requests_of(status: Status) -> Iterator[tuple[str, float, dict[str, object]]]:
+    """What workers of --wsgi have answered."""
+    requests = status.get("requests")
+    if not requests:
+        return
+    for kind, count in requests["classes"].items():
+        yield "prefork_requests_total", count, {"class": kind}
+    for bucket in requests["buckets"]:
+        yield "prefork_request_seconds_bucket", bucket["count"], {"le": bucket["within"]}
+    yield "prefork_request_seconds_bucket", requests["count"], {"le": "+Inf"}
+    yield "prefork_request_seconds_sum", requests["seconds"], {}
+    yield "prefork_request_seconds_count", requests["count"], {}
+    for worker in status["workers"]:
+        if told := worker.get("requests"):
+            labels = {"generation": worker["generation"], "number": worker["number"]}
+            yield "prefork_worker_threads", told["threads"], labels
+            yield "prefork_worker_threads_busy", told["busy"], labels
+    yield "prefork_access_log_lost_total", requests["lost_lines"], {}
 
 
 def values_of(status: Status) -> Iterator[tuple[str, float, dict[str, object]]]:
@@ -75,6 +109,7 @@ def values_of(status: Status) -> Iterator[tuple[str, float, dict[str, object]]]:
             labels = {"generation": worker["generation"], "number": worker["number"]}
             yield "prefork_worker_memory_bytes", worker["memory"], labels
             yield "prefork_worker_processor_seconds_total", worker["processor_seconds"], labels
+    yield from requests_of(status)
     for queue in status["queues"]:
         labels = {"address": queue["address"]}
         yield "prefork_queue_length", queue["waiting"], labels
@@ -91,8 +126,11 @@ def values_of(status: Status) -> Iterator[tuple[str, float, dict[str, object]]]:
     for outcome in (*OUTCOMES, *sorted(set(status["tick_outcomes"]) - set(OUTCOMES))):
         yield "prefork_ticks_total", status["tick_outcomes"].get(outcome, 0), {"outcome": outcome}
     if last:
-        yield "prefork_last_word_done", int(last["report"].startswith(("done", "nothing"))), {"word": last["word"]}
+        yield "prefork_last_word_done", int(report_of(last["report"]).outcome in ("done", "nothing")), {"word": last["word"]}
     yield "prefork_busy", int(status["doing"] is not None), {}
+    progress = status.get("progress") or {}
+    for name, key in PROGRESS.items():
+        yield name, progress.get(key, 0), {}
     yield "prefork_question", status["question"], {}
     yield "prefork_words_waiting", status["waiting"], {}
     yield "prefork_file_has_changed", int(status["file_has_changed"]), {}
@@ -104,7 +142,7 @@ def metrics_of(status: Status) -> str:
     """The whole text, each metric's lines together."""
     lines: dict[str, list[str]] = {}
     for name, value, labels in values_of(status):
-        lines.setdefault(name, []).append(labelled(name, value, **labels))
+        lines.setdefault(OF_HISTOGRAM.sub("", name), []).append(labelled(name, value, **labels))
     found = []
     for name, (kind, meaning) in METRICS.items():
         if name in lines:

@@ -7,7 +7,8 @@ import dataclasses
 import os
 import pathlib
 import resource
-import tomllib
+
+from .named import groups_of
 
 # Descriptors beside those of workers: of the keeper and of prefork-serve with clients at their doors, and of a master.
 KEEPER_REST, SERVE_REST, MASTER_REST, PIPES = 80, 160, 24, 2
@@ -28,26 +29,6 @@ class Needs:
     master: int
     processes: int
     preloader: int = 0
-
-
-def groups_of(text: bytes) -> list[tuple[int, int]]:
-    """The workers and the listeners of each group; none where the master is to refuse the configuration."""
-    try:
-        found = tomllib.loads(text.decode())
-        groups = found.get("groups", [found])
-        return [(int(group["workers"]), len(group["listeners"])) for group in groups]
-    except (ValueError, KeyError, TypeError, RecursionError):
-        return []
-
-
-def addresses_of(text: bytes) -> list[str]:
-    """The addresses of a configuration; none where the master is to refuse it."""
-    try:
-        found = tomllib.loads(text.decode())
-        groups = found.get("groups", [found])
-        return [str(address) for group in groups for address in group["listeners"]]
-    except (ValueError, KeyError, TypeError, RecursionError):
-        return []
 
 
 def needs_of(text: bytes, processes_each: int, sites: int = 0, is_adapted: bool = False, is_forked: bool = False) -> Needs:

@@ -3,24 +3,31 @@ import argparse
 import difflib
 import errno
 import os
-import shutil
+import pathlib
 import subprocess
 import sys
+import tomllib
+from collections.abc import Iterable
 from typing import Any
 
 from . import VERSION, places
+from .folder import text_of
 from .hooks import EVENTS
 from .keeper import add_socket_options
+from .keys import OF_WSGI
 from .limits import seconds_of, seconds_said
+from .programs import fault_of
 from .quickly import fault_of_file
+from .recipes import Recipe, Runs, Told
+from .settings import WSGI_THREADS
 from .sites import fault_of_site, is_site
 
 USAGE = """prefork-serve [OPTIONS] CONFIG -- PROGRAM ARGUMENT..
        prefork-serve [OPTIONS] --wsgi MODULE:APP CONFIG
        prefork-serve [OPTIONS] --preload CONFIG -- PRELOADER ARGUMENT..
        prefork-serve [OPTIONS] CONFIG
-       prefork-serve [OPTIONS] --listen ADDRESS --workers N -- PROGRAM ARGUMENT.."""
-WSGI_THREADS = 4
+       prefork-serve [OPTIONS] --listen ADDRESS --workers N -- PROGRAM ARGUMENT..
+       prefork-serve --init [OPTIONS] [CONFIG] -- PROGRAM ARGUMENT.."""
 # What other servers call a number that is in the configuration here.
 WORKERS = ("-w", "--worker", "--processes")
 Options = dict[str, tuple[str | None, str]]
@@ -48,6 +55,8 @@ WSGI: Options = {
     "--timeout": ("SECONDS", "end a worker whose threads have all been at one request for this long (30)"),
     "--keep": ("SECONDS", "how long a kept connection may be idle (75)"),
     "--trusted-proxy": ("ADDRESS", "believe what this proxy says of its clients: an address, a network, or unix"),
+    "--access-log": ("FILE", "write a line for each answer to this file, which USR1 opens anew (none)"),
+    "--access-form": ("FORM", "the form of these lines: combined, or json (combined)"),
     "--warm": ("PATH", "ask it for PATH before it serves, or before the first fork"),
     "--after-fork": ("MODULE:NAME", "call this in each worker, with its name"),
 }
@@ -64,7 +73,7 @@ def parser() -> argparse.ArgumentParser:
     made.add_argument("--folder", default="run", help="where its sockets, its pid file and the blocks are (run)")
     made.add_argument("--prefork", default="prefork", help="the program of the master (prefork on the path)")
     answer = "kill a worker that owes its master an answer for SECONDS (60); 0 is without a limit"
-    made.add_argument("--answer-within", type=seconds_of, default=60, metavar="SECONDS", help=answer)
+    made.add_argument("--answer-within", type=seconds_of, metavar="SECONDS", help=answer)
     defer = "accept a TCP connection once its first bytes are there"
     made.add_argument("--defer-accept", action="store_true", help=defer)
     add_socket_options(made)
@@ -76,10 +85,14 @@ def parser() -> argparse.ArgumentParser:
     made.add_argument("--page", metavar="ADDRESS", help="show the service on a page at HOST:PORT, or at a Unix socket")
     public = "let --page and --metrics listen where others than this machine reach them; there is no password"
     made.add_argument("--public", action="store_true", help=public)
+    host = "a name by which visitors of --page and --metrics may ask for them, as a proxy passes it on; it may be given again"
+    made.add_argument("--host", action="append", default=[], metavar="NAME", help=host)
     for event, moment in EVENTS.items():
         made.add_argument(f"--{event}", metavar="PROGRAM", help=f"start this program {moment}, with JSON on its input")
     only = "say whether CONFIG, PROGRAM and the limits of the system fit, and start nothing"
     made.add_argument("--check", action="store_true", help=only)
+    begins = "write CONFIG (site.toml) for this command line, with comments, and start nothing"
+    made.add_argument("--init", action="store_true", help=begins)
     changes = "HUP once this file, or one in this folder, has changed; it may be given again"
     made.add_argument("--reload-on-change", action="append", type=existing, default=[], metavar="PATH", help=changes)
     again = "go on trying if no worker has started, in place of ending with status 1"
@@ -93,7 +106,7 @@ def parser() -> argparse.ArgumentParser:
     preload = "load the application once in each generation, and fork workers; PROGRAM is a preloader then"
     made.add_argument("--preload", action="store_true", help=preload)
     python = "the Python that runs it (that of prefork-serve)"
-    made.add_argument("--python", default=sys.executable, metavar="PROGRAM", help=python)
+    made.add_argument("--python", default="", metavar="PROGRAM", help=python)
     groups: dict[str, Options] = {"": SHARED | CHDIR | READY, " PROGRAM": PROGRAM, " MODULE:APP": WSGI, " MODULE:APP with --preload": PRELOADER}
     for title, options in groups.items():
         group = made.add_argument_group(f"options of a worker{title}")
@@ -144,7 +157,9 @@ def arguments(words: list[str]) -> argparse.Namespace:
     given.program = words[cut + 1 :]
     if cut < len(words) and not given.program:
         made.error("no PROGRAM after --")
-    if fault := fault_of_told(given) or fault_of_file(given):
+    if given.init and not given.wsgi and not given.program:
+        made.error("--init takes a PROGRAM or --wsgi, for which it writes CONFIG")
+    if fault := fault_of_told(given) or (None if given.init else fault_of_file(given)):
         made.error(fault)
     if given.wsgi and given.program:
         made.error("give --wsgi or a PROGRAM, not both")
@@ -152,15 +167,17 @@ def arguments(words: list[str]) -> argparse.Namespace:
     fault = fault or fault_of_folder(place_of(given))
     if fault:
         made.error(fault)
-    if given.preload and not given.wsgi and not given.program:
+    if given.preload and not given.wsgi and not given.program and not runs_in(given.config):
         made.error("--preload is an option of --wsgi or a PROGRAM, and there is none")
-    is_adapted, is_preloader = given.program and not given.preload, given.wsgi and given.preload
+    in_file = set() if given.init else runs_in(given.config)
+    is_adapted = given.program and not given.preload or Runs.PROGRAM in in_file
+    is_wsgi, is_preloader = given.wsgi or in_file & OF_WSGI, given.wsgi and given.preload or Runs.PRELOADED in in_file
     if given.wsgi and given.ready and (given.ready != ["probe"] or len(given.probe) != 1):
         made.error(f"argument --ready: of a MODULE:APP it takes probe PATH, not: {given.ready[-1]}")
     # An application is asked once, before it serves: its worker takes the path alone.
     given.asked, given.probe = given.probe, [] if given.wsgi and given.ready else given.probe
     for options, is_for, kind in [
-        (PROGRAM, is_adapted, "a PROGRAM"), (READY, is_adapted or given.wsgi, "a PROGRAM or --wsgi"), (WSGI, given.wsgi, "--wsgi"), (PRELOADER, is_preloader, "--wsgi with --preload")
+        (PROGRAM, is_adapted, "a PROGRAM"), (READY, is_adapted or is_wsgi, "a PROGRAM or --wsgi"), (WSGI, is_wsgi, "--wsgi"), (PRELOADER, is_preloader, "--wsgi with --preload")
     ]:
         strange = handed_on(given, options)
         if strange and not is_for:
@@ -179,6 +196,22 @@ def fault_of_strange(words: list[str], made: argparse.ArgumentParser, has_cut: b
     near = difflib.get_close_matches(name, known, 1, 0.75)
     hint = "the number of workers is in CONFIG: workers = 4, or without one --workers 4" if name in WORKERS else f"the nearest is {near[0]}" if near else "see --help"
     return f"{name} is no option: {hint}"
+
+
+def runs_in(config: str | None) -> set[Runs]:
+    """How workers are run by the table `service` of a file, as far as it can be read; none where it is missing."""
+    try:
+        found = tomllib.loads(text_of(pathlib.Path(config or "")).decode())
+        table = found["service"]
+        tables = [table, *table.get("groups", {}).values()]
+        runs = {
+            (Runs.PRELOADED if one.get("preload") else Runs.WSGI) if "wsgi" in one else
+            (Runs.PRELOADER if one.get("preload") else Runs.PROGRAM)
+            for one in tables if "wsgi" in one or "program" in one
+        }
+    except (OSError, ValueError, KeyError, TypeError, AttributeError, RecursionError):
+        return set()
+    return runs
 
 
 def hooks_of(given: argparse.Namespace) -> dict[str, str]:
@@ -238,10 +271,13 @@ def handed_on(given: argparse.Namespace, options: Options) -> list[str]:
 def worker_command(given: argparse.Namespace) -> list[str] | None:
     """What starts a worker, or the preloader that forks it, if the command line says it."""
     if given.wsgi:
+        # (by the folder of who types it, and not by that in which workers start)
+        given.access_log = [os.path.join(current_folder(), file) for file in given.access_log]
         options = handed_on(given, SHARED | WSGI | PRELOADER) + (["--preloader"] if given.preload else [])
         options += ["--probe", *given.asked] if given.ready else []
         # (a path, which is not that of the folder in which it starts)
-        python = os.path.join(current_folder(), given.python) if "/" in given.python else given.python
+        named = given.python or sys.executable
+        python = os.path.join(current_folder(), named) if "/" in named else named
         return checked([python, str(places.WSGI), *options], [given.wsgi], place_of(given))
     if given.preload:
         return given.program
@@ -251,33 +287,48 @@ def worker_command(given: argparse.Namespace) -> list[str] | None:
     return None
 
 
-def program_of(given: argparse.Namespace, command: list[str] | None) -> str | None:
-    """The program of workers, by the command of a configuration or by the command line, which is looked for before a
-    start; nothing if an option says where to look for it."""
-    if command:
-        return command[0]
+def told_of(given: argparse.Namespace) -> Told:
+    """What the command line says of workers."""
+    command = worker_command(given)
+    is_preloaded, threads = bool(given.preload), (int(given.threads[-1]) if given.threads else WSGI_THREADS) + bool(given.access_log)
+    runs = (Runs.PRELOADED if is_preloaded else Runs.WSGI) if given.wsgi else Runs.PRELOADER if is_preloaded else Runs.PROGRAM
+    of_wsgi = handed_on(given, SHARED | WSGI | PRELOADER) + (["--probe", *given.asked] if given.ready and given.wsgi else [])
+    return Told(
+        tuple(command) if command else None, runs if command else None, tuple(given.program), given.wsgi or "", given.python,
+        is_preloaded, given.chdir[-1] if given.chdir else "", place_of(given), tuple(handed_on(given, SHARED | READY | PROGRAM)),
+        tuple(of_wsgi), program_of(given) or "", seconds_given(given.ready_within), seconds_given(given.finish), threads if given.wsgi else 0,
+    )
+
+
+def seconds_given(texts: list[str]) -> float | None:
+    return seconds_said(texts[-1]) if texts else None
+
+
+def program_of(given: argparse.Namespace) -> str | None:
+    """The program of workers by the command line, which is looked for before a start; nothing if an option says where to look
+    for it."""
     if any(setting.startswith("PATH=") for setting in given.env):
         return None
     return given.program[0] if given.program else None
 
 
-def fault_of(program: str, folder: str = "") -> str | None:
-    """Why a program cannot be executed that is started in a folder, if that is so."""
-    if "/" not in program:
-        return None if shutil.which(program) else f"{program}: it is in no folder of PATH"
-    path = os.path.join(folder, program)
-    if not os.path.exists(path):
-        return f"{program}: {os.strerror(errno.ENOENT)}"
-    is_fit = os.access(path, os.X_OK) and not os.path.isdir(path)
-    return None if is_fit else f"{program}: {os.strerror(errno.EACCES)}"
+def fault_of_adapter(recipe: Recipe, folder: str) -> str | None:
+    """What the adapter itself says against its options, or lacks."""
+    if not recipe.runs or not recipe.runs.has_adapter:
+        return None
+    first = 2 if recipe.runs in OF_WSGI else 1
+    words, streams = [*recipe.words[:first], "--check", *recipe.words[first:]], {"stdin": subprocess.DEVNULL, "capture_output": True}
+    try:
+        found = subprocess.run(words, **streams, text=True, cwd=recipe.folder or folder or None)  # type: ignore[call-overload]
+    except OSError as fault:
+        return f"{fault.filename or words[0]}: {fault.strerror}"
+    return found.stderr.strip().splitlines()[-1].partition(": ")[2].removeprefix("error: ") if found.returncode else None
 
 
-def processes_each(given: argparse.Namespace) -> int:
+def processes_each(recipes: Iterable[Recipe]) -> int:
     """How many processes and threads a worker is at least: those of its adapter and of the application."""
-    threads = int(given.threads[-1]) if given.threads else WSGI_THREADS
-    each = 2 + threads if given.wsgi else 3 if given.program and not given.preload else 1
     # (and the process that reads what it says, and its shim)
-    return each + 1 + given.preload
+    return max((one.processes() + 1 + bool(one.runs and one.runs.is_forked) for one in recipes), default=2)
 
 
 def checked(adapter: list[str], program: list[str], folder: str) -> list[str]:

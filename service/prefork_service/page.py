@@ -7,9 +7,9 @@ import tempfile
 from collections.abc import Sequence
 from typing import Any
 
+from .blocks import block_of
 from .burying import started
-from .chronicle import Done
-from .reasons import is_plain
+from .done import Done
 from .rehearsing import rehearsal
 from .state import times
 from .status import LEFT_BEHIND
@@ -72,12 +72,12 @@ def masters_list(status: Status) -> str:
 
 def drawn(done: Done) -> str:
     """The calls of a word, one box each; those that went wrong are red, and the cause has a border."""
-    calls = [line for line in done.block.splitlines() if line[:1].isdigit()]
+    calls = block_of(done.block).calls
     boxes = []
     for call in calls[:MOST_CALLS]:
-        kinds = [*([] if is_plain(call) else ["wrong"]), *(["cause"] if call == done.cause else [])]
+        kinds = [*([] if call.is_plain else ["wrong"]), *(["cause"] if call.text == done.cause else [])]
         kind = f' class="{" ".join(kinds)}"' if kinds else ""
-        boxes.append(f'<i{kind} title="{text(call)}"></i>')
+        boxes.append(f'<i{kind} title="{text(call.text)}"></i>')
     more = f"<span>and {len(calls) - MOST_CALLS} more</span>" if len(calls) > MOST_CALLS else ""
     return f'<div class="calls">{"".join(boxes)}{more}</div>'
 

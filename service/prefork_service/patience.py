@@ -5,15 +5,15 @@ A word starts workers, and each start may take its time. So the time is counted 
 """
 import os
 import pathlib
-import re
 import signal
 import time
 
 from typing import TYPE_CHECKING
 
+from .blocks import block_of
 from .folder import files_in, say
-from .limits import ANSWER, end_seconds
-from .status import fields_of, masters_of
+from .bounds import ANSWER, end_seconds
+from .processes import fields_of, masters_of
 from .words import ATTENDED, STOPS
 
 if TYPE_CHECKING:
@@ -114,7 +114,7 @@ class Hanging:
 
     def lost_master(self, block: str, generation: str) -> str:
         """Says which new master a lost block tells of, if it runs no longer."""
-        named = [int(number) for number in re.findall(r"^\d+ m(\d+) ", block, re.M)] or [int(generation.split(".")[0] or 1)]
+        named = [call.image for call in block_of(block).calls] or [int(generation.split(".")[0] or 1)]
         first = self.service.master.process.pid
         return f"the new master m{max(named)} has ended" if len(masters_of(first)) < max(named) else ""
 
@@ -132,6 +132,7 @@ class Hanging:
         say(said)
         service.barrier.duty(service.chronicle.journal.note, said)
         kill_masters(service.master.process.pid)
+        service.survivors.kill_all()
         service.leaving.kill_all()
         service.is_stopped, service.status_of_end = True, 1
         if service.current:

@@ -1,4 +1,4 @@
-"""The preloaders of a service: the one of the generation that runs, and the one of a generation that is to follow.
+"""The preloaders of a service: those of the generation that runs, and those of a generation that is to follow.
 
 A preloader has a socket of its own from the start, to which shims connect. It is started by the first of them, so that
 no word that starts no worker loads an application. prefork-serve has a copy of the socket, so that those that wait outlive
@@ -13,6 +13,7 @@ from typing import Any
 from . import places
 from .burying import started
 from .folder import Folder, say
+from .recipes import Recipe
 
 QUEUE = 1024
 # How long a loaded preloader may let a shim wait at its socket, and fork nobody, before it is killed.
@@ -27,8 +28,8 @@ OF_SYSTEMD = ("LISTEN_", "NOTIFY_SOCKET", "WATCHDOG_")
 class KeptPreloader:
     """The socket of a preloader, and the preloader once a shim has come."""
 
-    def __init__(self, events: selectors.BaseSelector, folder: Folder, number: int, command: list[str], seconds: float):
-        self.events, self.command, self.seconds = events, command, seconds
+    def __init__(self, events: selectors.BaseSelector, folder: Folder, number: int, recipe: Recipe, seconds: float):
+        self.events, self.recipe, self.seconds = events, recipe, seconds
         self.path = folder.path / f"preloader.{number}"
         self.fork_socket = socket.socket(socket.AF_UNIX, socket.SOCK_SEQPACKET)
         new = folder.path / f".{os.getpid()}"
@@ -60,10 +61,16 @@ class KeptPreloader:
         if place := environment.get("PREFORK_PLACE"):
             # By its path: a symbolic link may lead elsewhere by now.
             given["cwd"] = environment["PWD"] = place
+        # (its settings, with secrets, are in memory alone)
+        section = os.memfd_create("section") if self.recipe.own_settings() else -1
+        command = [str(places.LAUNCH), "load", str(section)] if section >= 0 else [*self.recipe.words]
         try:
-            self.process = started(self.command, stdin=life, stdout=said, env=environment, **given)
+            if section >= 0:
+                os.write(section, self.recipe.loading())
+                given["pass_fds"].append(section)
+            self.process = started(command, stdin=life, stdout=said, env=environment, **given)
         except OSError as fault:
-            self.heard = f"failed {fault.filename or self.command[0]}: {fault.strerror}\n"
+            self.heard = f"failed {fault.filename or command[0]}: {fault.strerror}\n"
             self.close_pipes()
             self.refuse_all()
             self.events.register(self.fork_socket, selectors.EVENT_READ, self.begin)
@@ -71,6 +78,8 @@ class KeptPreloader:
         finally:
             os.close(life)
             os.close(said)
+            if section >= 0:
+                os.close(section)
         self.opened = os.pidfd_open(self.process.pid)
         self.events.register(self.said, selectors.EVENT_READ, self.hear)
         self.events.register(self.opened, selectors.EVENT_READ, self.bury)
@@ -184,48 +193,47 @@ class KeptPreloader:
 
 
 class Preloading:
-    """The preloader of what runs, and of what is to follow."""
+    """The preloaders of what runs, and of what is to follow: one for each group that has one, by its place among them."""
 
-    def __init__(self, events: selectors.BaseSelector, folder: Folder, command: list[str], seconds: float):
-        self.events, self.folder, self.command, self.seconds = events, folder, command, seconds
+    def __init__(self, events: selectors.BaseSelector, folder: Folder, seconds: float):
+        self.events, self.folder, self.seconds = events, folder, seconds
         self.count = 0
-        self.now: KeptPreloader | None = None
-        self.next: KeptPreloader | None = None
+        self.now: dict[int, KeptPreloader] = {}
+        self.next: dict[int, KeptPreloader] = {}
         # Those whose generation has ended, and that wait for its last worker.
         self.leaving: list[KeptPreloader] = []
 
-    def words(self, is_next: bool) -> list[str]:
-        """The command of a worker: of the generation that runs, or of another one, which has a new preloader."""
-        if is_next:
-            self.drop(self.next)
-            self.next = self.made()
-        else:
-            self.now = self.now or self.made()
-        one = self.next if is_next else self.now
-        return [str(places.SHIM), str(one.path if one else "")]
+    def renew(self) -> None:
+        """A generation is to follow, which has new preloaders."""
+        self.drop(self.next)
+        self.next = {}
 
-    def made(self) -> KeptPreloader:
-        self.count += 1
-        return KeptPreloader(self.events, self.folder, self.count, self.command, self.seconds)
+    def words(self, is_next: bool, at: int, recipe: Recipe) -> list[str]:
+        """The command of a worker of a group: in the generation that runs, or in the one that is to follow."""
+        kept = self.next if is_next else self.now
+        if at not in kept:
+            self.count += 1
+            kept[at] = KeptPreloader(self.events, self.folder, self.count, recipe, recipe.ready_within or self.seconds)
+        return [str(places.SHIM), str(kept[at].path)]
 
-    def drop(self, one: KeptPreloader | None) -> None:
-        if one:
+    def drop(self, kept: dict[int, KeptPreloader]) -> None:
+        for one in kept.values():
             one.end()
             self.leaving.append(one)
 
     def settle(self, has_changed: bool) -> None:
         """The new generation runs, or the old one does."""
         self.drop(self.now if has_changed else self.next)
-        self.now, self.next = self.next if has_changed else self.now, None
+        self.now, self.next = self.next if has_changed else self.now, {}
 
     def tend(self) -> None:
-        for one in filter(None, (self.now, self.next)):
+        for one in (*self.now.values(), *self.next.values()):
             one.tend()
         self.leaving = [one for one in self.leaving if one.process]
 
     def status(self) -> list[dict[str, Any]]:
         """The preloaders that run: the process, whether it has loaded, and whether its generation has ended."""
-        found = [one for one in (self.now, self.next, *self.leaving) if one and one.process]
+        found = [one for one in (*self.now.values(), *self.next.values(), *self.leaving) if one.process]
         return [
             {"process": one.process.pid, "is_loaded": one.is_loaded, "is_leaving": one.is_ended, "starts": one.starts}
             for one in found
@@ -234,4 +242,4 @@ class Preloading:
     def end(self) -> None:
         self.drop(self.now)
         self.drop(self.next)
-        self.now = self.next = None
+        self.now, self.next = {}, {}

@@ -6,7 +6,7 @@ import traceback
 from collections.abc import Callable
 from typing import Any
 
-from .convention import Unfit
+from .holding import Unfit
 
 # How often a probe is repeated that is answered with a fault of the server, and the pause before that.
 TRIES, PAUSE_SECONDS = 3, 0.2

@@ -42,6 +42,7 @@ class Proxies:
     def told(self, environ: dict[str, Any], is_unix: bool) -> None:
         """Corrects what an application is told of a request."""
         environ["wsgi.multiprocess"] = True
+        environ["SERVER_NAME"] = name_of(environ["SERVER_NAME"])
         if is_unix:
             environ["SERVER_NAME"], environ["SERVER_PORT"] = "localhost", PORTS["http"]
         if not (self.has_unix if is_unix else self.is_trusted(environ["REMOTE_ADDR"])):
@@ -56,7 +57,7 @@ class Proxies:
             environ["wsgi.url_scheme"] = scheme
         host = environ.get("HTTP_HOST", "")
         if host:
-            environ["SERVER_NAME"] = without_port(host)
+            environ["SERVER_NAME"] = name_of(without_port(host))
             port = host.rpartition(":")[2] if not host.endswith("]") and ":" in host else ""
             environ["SERVER_PORT"] = port if port.isdigit() else PORTS[environ["wsgi.url_scheme"]]
 
@@ -67,6 +68,11 @@ def without_port(text: str) -> str:
     if text.startswith("["):
         return text[1:].partition("]")[0]
     return text.partition(":")[0] if text.count(":") == 1 else text
+
+
+def name_of(host: str) -> str:
+    """The name of a server: an IPv6 address has brackets there (RFC 3875), as that of a client has none."""
+    return f"[{host}]" if ":" in host and not host.startswith("[") else host
 
 
 def corrected(application: Callable, trusted: Iterable[Network | str]) -> Callable:

@@ -1,9 +1,6 @@
 """The questions of an attended upgrade: how the master asks them, what answers them, and what its operator is told."""
-import re
+from .words import is_tick
 
-# A line of the master's log, and the one in which it asks.
-LOG = re.compile(r"\[[A-Z]+ +prefork\] (.*)")
-ASKS = re.compile(r"asks ([12]): .*")
 # What is told to the master for an answer. QUIT would go on too, and a moment later it would stop the service.
 ANSWERS = {"go": "WINCH", "back": "HUP"}
 # What prefork-ctl sends where it is given no word.
@@ -35,7 +32,7 @@ def state(question: int, word: str | None, waiting: int) -> str:
     wait."""
     if question:
         return line_of(question) + MORE[question] + NO_TICK + waits(waiting)
-    is_busy = word is not None and not word.startswith("tick ")
+    is_busy = word is not None and not is_tick(word)
     return (f"asks nothing: {word} is being carried out\n" if is_busy else "asks nothing\n") + waits(waiting)
 
 

@@ -2,11 +2,10 @@
 import argparse
 import json
 
+from .commands import GIVEN
 from .folder import Folder, say
 
 ADDRESS, WORKERS, TIMEOUT = "127.0.0.1:8080", 2, 60
-# That configuration, in the folder of commands.
-GIVEN = "given.toml"
 BOTH = "give CONFIG, or --listen and --workers in its place, not both"
 NOTHING = "give CONFIG, or a PROGRAM or --wsgi with --listen and --workers (127.0.0.1:8080 and 2)"
 

@@ -14,15 +14,13 @@ import pathlib
 import re
 import shutil
 
-from .words import CHANGES, ENDS
+from .blocks import WORD, beat_of, block_of
+from .words import CHANGES, is_tick
 from .writing import Writer
 
 # The bytes of a part at most, if the whole allows eight of them; how many masters have a folder.
 PART, PARTS, MOST_MASTERS = 1 << 20, 8, 64
 MEGABYTE = 1 << 20
-BEAT = re.compile(r"word beat (\d+) (\d+)\n")
-TICK = re.compile(r"word tick \d+\n")
-CENSUS = re.compile(r"\d+ m\d+ census \S+ : counted \S+")
 # What ends the name of a part before which blocks are lost.
 GAP = ".gap"
 # How the name of the mark begins that a new master had ended before a block.
@@ -30,11 +28,11 @@ LOST = "lost."
 OWN = re.compile(r"from\.toml|to\.\d+\.toml|lost\.\d+|blocks\.\d+(\.gap)?")
 
 
-def is_quiet(body: list[str]) -> bool:
-    """Whether the block of a tick, without its first line, says that nothing was missing."""
-    *calls, report = body
-    all_count = all(CENSUS.fullmatch(call) for call in calls)
-    return all_count and (report == "nothing" or report.startswith("done cause none "))
+def is_quiet(text: str) -> bool:
+    """Whether the block of a tick says that nothing was missing."""
+    block = block_of(text)
+    all_count = all(call.kind == "census" and call.is_plain for call in block.calls)
+    return all_count and block.report.outcome in ("nothing", "done") and block.report.cause is None
 
 
 class Records:
@@ -79,13 +77,14 @@ class Records:
 
     def add(self, block: str) -> None:
         """Takes a whole block."""
-        beat = BEAT.match(block)
-        if beat:
-            self.beats[int(beat[1])] = int(beat[2]), block
-        elif not self.count or not TICK.match(block):
+        first, *body = block.splitlines()
+        word = first.removeprefix(WORD)
+        if beat := beat_of(word):
+            self.beats[beat[0]] = beat[1], block
+        elif not self.count or not is_tick(word):
             self.ticks = []
             self.write(block)
-        elif not is_quiet(body := block.splitlines()[1:]) and self.ticks != [body, body]:
+        elif not is_quiet(block) and self.ticks != [body, body]:
             self.ticks = [*self.ticks[-1:], body]
             self.write(block)
 
@@ -94,7 +93,7 @@ class Records:
         beats = [text for _, text in sorted(self.beats.values(), key=lambda it: it[0])]
         self.beats.clear()
         self.count += len(beats) + 1
-        word = block.splitlines()[0].removeprefix("word ")
+        word = block.splitlines()[0].removeprefix(WORD)
         if word in CHANGES and self.proposed != self.target:
             self.target = self.proposed
             self.writer.add(self.folder() / f"to.{self.count}.toml", self.target)
@@ -167,14 +166,3 @@ def files_of(folder: pathlib.Path) -> list[pathlib.Path]:
     files = [file for file in folder.iterdir() if OWN.fullmatch(file.name)]
     parts = [file for file in files if file.name.startswith("blocks.")]
     return [*(file for file in files if file not in parts), *sorted(parts, key=part_number)]
-
-
-def blocks_of(text: str) -> list[str]:
-    """The blocks of a text, each with its lines. What is not complete at the end is left out."""
-    found, block = [], ""
-    for line in text.splitlines(keepends=True):
-        block += line
-        if line.split()[:1] and line.split()[0] in ENDS:
-            found.append(block)
-            block = ""
-    return found

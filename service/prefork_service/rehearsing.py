@@ -2,7 +2,7 @@
 import pathlib
 from typing import Any
 
-from .needs import groups_of
+from .named import groups_of
 from .words import CHANGES
 
 Status = dict[str, Any]

@@ -2,16 +2,15 @@
 import re
 from collections.abc import Sequence
 
-from .chronicle import Done
-from .words import START
+from .blocks import call_in, report_of
+from .done import Done
+from .words import is_routine, START
 
 NAMES = {
     "HUP": "reload", "USR2": "upgrade", "USR2 attended": "attended upgrade", "TTIN": "start of one worker more",
     "TTOU": "end of one worker", "WINCH": "end of all workers", "USR1": "opening of new logs", "QUIT": "stop", "INT": "stop",
     "TERM": "stop", START: "start",
 }
-# A reason of a call: the call, its answer, and why.
-WHY = re.compile(r"\d+ m\d+ .+? : [^:]+: (.+)")
 
 
 def clock(moment: str) -> str:
@@ -23,24 +22,18 @@ def clock(moment: str) -> str:
 def reason(done: Done) -> str:
     """Why a word did not do what was asked, in the words of who noted it."""
     for line in done.reasons:
-        found = WHY.fullmatch(line)
-        return found[1] if found else line
+        call = call_in(line)
+        return call.why if call and call.why else line
     return f"call {done.cause}" if done.cause else ""
-
-
-def short(report: str) -> int:
-    """How many workers a report lacks."""
-    words = report.split()
-    return sum(map(int, words[2].split(","))) if len(words) > 2 and words[0] == "degraded" else 0
 
 
 def sentence(done: Done) -> str:
     """What came of a word."""
-    word = "tick" if done.word.startswith("tick ") and done.word != START else done.word
+    word = "tick" if is_routine(done.word) else done.word
     subject = f"The {NAMES.get(word, word)} at {clock(done.began)}"
-    outcome, _, _ = done.report.partition(" ")
+    report = report_of(done.report)
     why = f": {reason(done)}" if reason(done) else ""
-    missing = short(done.report)
+    missing = sum(report.lacks)
     lacks = f"{missing} worker{'' if missing == 1 else 's'} {'is' if missing == 1 else 'are'} missing"
     endings = {
         "done": f"{subject} is done.", "nothing": f"{subject} had nothing to do.",
@@ -49,7 +42,7 @@ def sentence(done: Done) -> str:
         "refused": f"{subject} was refused{why}. Nothing has changed.",
         "lost": f"{subject} was lost{why}.",
     }
-    return endings.get(outcome, f"{subject}: {done.report}{why}.")
+    return endings.get(report.outcome, f"{subject}: {done.report}{why}.")
 
 
 def on_its_way(word: str) -> str:

@@ -17,7 +17,7 @@ itself.
 - `USR2 attended`, which prefork-ctl alone can send, asks its operator twice before it goes on: see prefork-ctl. While it
   asks, no tick is told and other words wait, those that stop the service too.
 - A master that ends without having been told to, or says that the new master of an upgrade is lost, is started again,
-  with the configuration that was accepted last. Meanwhile connections wait in the keeper's queues.
+  with the configuration that was accepted last. Until its workers are ready those of the dead one serve on.
 - A keeper that ends or hangs is started again, with the same sockets.
 - A start opens all addresses, and asks whether the limits allow a reload; if not, it ends with the reason.
 
@@ -28,51 +28,60 @@ certify` checks them. A second service in the same folder is refused. The status
 could not run.
 """
 import argparse
+import errno
 import os
 import pathlib
-import selectors
-import signal
 import socket
 import sys
 import tempfile
+import time
+from typing import Any
 
-from . import places
-from .barrier import Barrier, Broken
-from .burying import adopt_orphans
-from .changes import Changes
-from .chronicle import Chronicle
-from .commands import Commands, refusal_of
-from .convention import Unfit
+from . import beginning, places, programs
+from .bounds import ADAPTER_SECONDS, end_seconds
+from .claiming import ClaimedFolder
+from .commands import Commands
 from .errors import take_standard
 from .folder import Folder, say
-from .hooks import Hooks
 from .keeper import DEFER, socket_options
-from .keeping import Keeping
-from .limits import limits_of, ready_seconds
-from .needs import addresses_of, needs_of, shortages
-from .options import arguments, fault_of, hooks_of, place_of, processes_each, program_of, worker_command
-from .outcomes import fault_shown, refusal_shown
-from .preloading import Preloading
+from .inheriting import make_way, of_systemd
+from .limits import answer_seconds, known, limits_of
+from .named import addresses_of
+from .needs import needs_of, shortages
+from .options import arguments, fault_of, fault_of_adapter, hooks_of, place_of, processes_each, told_of
+from .outcomes import refusal_shown
 from .quickly import configured
+from .recipes import Runs
 from .records import MEGABYTE
-from .service import Service
+from .refusing import refusal_of
+from .sites import is_site
+from .starting import become_core, take_signals
 from .state import workers_in
-from .systemd import has_journal, inherited, notify
+from .systemd import has_journal
 from .titles import set_title
-from .words import STOPS
+from .web import opened
 
 
 def commands_of(given: argparse.Namespace, folder: Folder) -> Commands | None:
     """What starts workers; nothing if the configuration can't be served, and why was said."""
     given.config = given.config or configured(given, folder)
-    commands = Commands(folder, given.config, worker_command(given))
-    if is_fit(given, commands) or (commands.is_kept() and is_fit(given, commands)):
+    commands = Commands(folder, given.config, told_of(given))
+    if check_fit(given, commands) or (commands.fall_back() and check_fit(given, commands)):
+        if overridden := overridden_of(given, commands):
+            say(f"the command line overrides {', '.join(overridden)} of {given.config}, as long as this service runs")
         return commands
     commands.clear()
     return None
 
 
-def is_fit(given: argparse.Namespace, commands: Commands) -> bool:
+def overridden_of(given: argparse.Namespace, commands: Commands) -> list[str]:
+    """The keys of the file that the command line overrides."""
+    found = [f"hooks.{event}" for event in hooks_of(given) if event in commands.current.hooks]
+    within = ["answer_within"] if given.answer_within is not None and commands.current.answer_within is not None else []
+    return [*commands.current.overridden, *within, *found]
+
+
+def check_fit(given: argparse.Namespace, commands: Commands) -> bool:
     """Whether the configuration can be served; why not is said."""
     if fault := fault_of(given.prefork):
         say(f"--prefork: {fault}")
@@ -81,116 +90,163 @@ def is_fit(given: argparse.Namespace, commands: Commands) -> bool:
         # It could not be read, and that was said.
         return False
     refusal, text = refusal_of(given.prefork, commands.source()), commands.now.read_bytes()
-    is_adapted, sites = commands.has_adapter(), bool(given.page) + bool(given.metrics)
-    is_forked = given.preload and is_adapted
+    recipes, sites = commands.current.recipes, bool(given.page) + bool(given.metrics)
     if refusal:
         say(refusal_shown(given.config, refusal))
-    faults = [] if refusal else shortages(needs_of(text, processes_each(given), sites, is_adapted, is_forked))
+    is_forked = any(one.runs and one.runs.is_forked for one in recipes)
+    needs = needs_of(text, processes_each(recipes), sites, bool(recipes) and commands.has_adapter(), is_forked)
+    faults = [] if refusal else [f"{given.config}: {fault}" for fault in shortages(needs)]
     own = commands.fault()
-    faults += [own[1]] if own else []
-    for fault in faults:
-        say(f"{given.config}: {fault}")
-    program = program_of(given, None if is_adapted else commands.current)
-    # A service that was killed starts again without it: the program may be back before long.
-    missing = fault_of(program, place_of(given)) if program and not refusal and not commands.accepted.exists() else None
-    if missing:
-        say(f"{'PROGRAM' if is_adapted else given.config}: {missing}")
-    return bool(commands.current) and not refusal and not faults and not missing
+    found = commands.faults()
+    faults += found or ([f"{given.config}: {own[1]}"] if own else [])
+    # A service that was killed starts again without its program: that may be back before long.
+    missing = [] if refusal or commands.accepted.exists() else missing_of(given, commands)
+    for fault in [*faults, *missing]:
+        say(fault)
+    return bool(recipes) and not refusal and not faults and not missing
 
 
-def serve(given: argparse.Namespace, folder: Folder, commands: Commands, stored: dict[str, socket.socket]) -> int:
-    """Serves until the service is told to stop; the status."""
+def missing_of(given: argparse.Namespace, commands: Commands) -> list[str]:
+    """What workers need that is missing: a program, a folder, a file with a secret, what an adapter needs."""
+    found, told = [], commands.told
+    for one in commands.current.recipes:
+        folder = one.folder or told.place
+        is_told = one.runs is not Runs.COMMAND and not commands.has_table()
+        where = "PROGRAM" if is_told else f"{given.config}: group {one.name}" if one.name else given.config
+        texts = [fault_of(one.program, folder) if one.program else None]
+        if one.folder and not os.path.isdir(one.folder):
+            texts = [f"folder: {one.folder}: {os.strerror(errno.ENOENT)}"]
+        texts += [f"{name}: {fault}" for name, path in one.secrets if (fault := unread(path))]
+        texts += [] if is_told or any(texts) else [fault_of_adapter(one, told.place)]
+        found += [f"{where}: {text}" for text in texts if text]
+    return found
+
+
+def unread(path: str) -> str | None:
+    """Why a file with the value of a variable can't be read."""
+    try:
+        with open(path, "rb"):
+            return None
+    except OSError as fault:
+        return f"{path}: {fault.strerror}"
+
+
+def limits_for(given: argparse.Namespace, commands: Commands) -> list[str]:
+    """The limits of masters."""
+    recipes, within = commands.current.recipes, answer_seconds(given.answer_within, commands.current.answer_within)
+    has_adapter = any(one.runs and one.runs.has_adapter for one in recipes)
+    return limits_of(within, max(one.seconds() for one in recipes), has_adapter)
+
+
+def settings_of(given: argparse.Namespace, folder: ClaimedFolder, commands: Commands, stored: dict[str, socket.socket]) -> dict[str, Any]:
+    """What the core is told."""
     configurations = ["--from", commands.now, "--to", commands.next]
     supervise = [given.prefork, "supervise", "--verbose", "--program", places.LAUNCH, *configurations]
-    of_keeper = [*([DEFER] if given.defer_accept else []), *socket_options(given)]
-    place, ends = pathlib.Path(given.records or folder.path).absolute(), [commands.clear, folder.clear]
-    try:
-        keeping = Keeping(selectors.DefaultSelector(), folder, of_keeper, stored)
-        ends.insert(0, keeping.end)
-        chronicle = Chronicle(folder, place, int(given.records_size * MEGABYTE))
-        ends.insert(1, chronicle.end)
-        keeping.hold(addresses_of(commands.now.read_bytes()))
-        adopt_orphans()
-        if given.preload and commands.default:
-            commands.preloading = Preloading(keeping.events, folder, commands.default, ready_seconds(given))
-            ends.insert(0, commands.preloading.end)
-        service = Service(keeping, supervise, commands, chronicle, limits_of(given))
-        ends.insert(0, service.telling.end)
-        service.telling.open(keeping.events, given.metrics, given.page)
-        commands.ready_seconds = ready_seconds(given)
-        if given.reload_on_change:
-            service.changes = Changes(keeping.events, given.reload_on_change, [folder.path, place])
-        service.keeps_trying, service.telling.hooks = given.keep_trying, Hooks(hooks_of(given))
-        status = service.run()
-        if service.failure:
-            sys.exit(f"prefork-serve: {service.failure}")
-        return status
-    except Broken as fault:
-        # As if it were killed: the next start finds workers and sockets as systemd has them.
-        say(f"{fault}; it ends, and leaves everything as it is")
-        sys.stderr.flush()
-        os._exit(1)
-    except (OSError, Unfit) as fault:
-        sys.exit(f"prefork-serve: {fault_shown(str(fault))}")
-    finally:
-        notify("STOPPING=1")
-        for end in ends:
-            Barrier(say).duty(end)
+    place, limits = pathlib.Path(given.records or folder.path).absolute(), known(given.prefork, limits_for(given, commands))
+    return {
+        "folder": str(folder.path), "lock": folder.lock, "config": str(given.config), "text": commands.text.decode("latin-1"),
+        "supervise": [str(word) for word in supervise], "limits": limits, "most_seconds": end_seconds(limits),
+        "hooks": hooks_of(given),
+        "of_keeper": [*([DEFER] if given.defer_accept else []), *socket_options(given)],
+        "place": str(place), "records_bytes": int(given.records_size * MEGABYTE),
+        "stored": {address: one.fileno() for address, one in stored.items()}, "heir": folder.heritage.heir(),
+        "inherited": {address: one.fileno() for address, one in folder.heritage.sockets.items()},
+        "watched": given.reload_on_change, "keeps_trying": given.keep_trying,
+        "told": told_once(given, folder, place, commands),
+    }
+
+
+def told_once(given: argparse.Namespace, folder: Folder, place: pathlib.Path, commands: Commands) -> dict[str, Any]:
+    """What prefork-watch is told of the service once."""
+    return {
+        "process": os.getpid(), "began": time.monotonic(), "folder": str(folder.path), "file": os.path.abspath(given.config),
+        "prefork": str(given.prefork), "records": str(place / "records"), "journal": str(place / "journal"),
+        "metrics": given.metrics, "page": given.page, "hosts": given.host,
+        "told": commands.told.as_json(), "ready_seconds": commands.told.ready_within or ADAPTER_SECONDS,
+    }
+
+
+def fault_of_sites(given: argparse.Namespace) -> str | None:
+    """Why an address of a page, or of metrics, can't be had, if that is so. prefork-watch opens it."""
+    for address in [address for address in (given.page, given.metrics) if address]:
+        if not is_site(address) and address != given.page:
+            continue
+        try:
+            opened(address).close()
+        except OSError as fault:
+            return str(fault)
+        if address.startswith("/"):
+            os.unlink(address)
+    return None
 
 
 def check(given: argparse.Namespace) -> int:
     """Says whether the service could be started, and starts nothing; the status."""
     with tempfile.TemporaryDirectory(prefix="prefork-check-") as room:
-        commands = commands_of(given, Folder(f"{room}/run"))
+        folder = ClaimedFolder(f"{room}/run")
+        folder.claim()
+        commands = commands_of(given, folder)
         if commands:
             commands.clear()
-            print(f"{given.config}: fits: {len(addresses_of(commands.proposed_text))} addresses, {workers_in(commands.proposed_text)} workers")
+            addresses, workers = len(addresses_of(commands.proposed_text)), workers_in(commands.proposed_text)
+            print(f"{given.config}: fits: {addresses} addresses, {workers} workers")
         return 0 if commands else 1
 
 
-def end_early(number: int, _: object) -> None:
-    """A signal that stops the service before it has begun to hear words."""
-    sys.exit(f"prefork-serve: {signal.Signals(number).name} has stopped the start")
+def folder_of(given: argparse.Namespace) -> ClaimedFolder:
+    """The folder of the service, which is still to be taken. Ends the process if it is not fit."""
+    try:
+        return ClaimedFolder(given.folder)
+    except FileExistsError:
+        sys.exit(f"prefork-serve: {given.folder} is a file, and --folder takes a folder")
+    except OSError as fault:
+        sys.exit(f"prefork-serve: {fault.filename or given.folder}: {fault.strerror}")
 
 
-def take_signals() -> None:
-    """Those that were blocked or ignored by what has started this process come too."""
-    signal.pthread_sigmask(signal.SIG_SETMASK, ())
-    signal.signal(signal.SIGCHLD, signal.SIG_DFL)
-    for name in STOPS:
-        signal.signal(signal.Signals[f"SIG{name}"], end_early)
+def start(given: argparse.Namespace, folder: ClaimedFolder, stored: dict[str, socket.socket]) -> int:
+    """Looks whether the service can be started, and becomes its core; the status if it can't."""
+    try:
+        commands = commands_of(given, folder)
+    except OSError as fault:
+        sys.exit(f"prefork-serve: {fault}")
+    if not commands:
+        return 1
+    if why := fault_of_sites(given):
+        say(why)
+        commands.clear()
+        return 1
+    addresses = addresses_of(commands.now_text)
+    kept = [*stored, *folder.heritage.take(addresses, stored)]
+    make_way(folder, [address for address in addresses if address not in kept])
+    descriptors = [*(one.fileno() for one in stored.values()), *folder.heritage.descriptors()]
+    become_core(settings_of(given, folder, commands, stored), [folder.lock, *descriptors])
+    return 1
 
 
 def main() -> int:
     take_standard()
     given = arguments(sys.argv[1:])
+    if given.init:
+        fault = beginning.write(given)
+        return sys.exit(f"prefork-serve: {fault}") if fault else 0
     if given.check:
-        places.check()
+        programs.check()
         return check(given)
     set_title("prefork-serve")
-    places.check()
+    programs.check()
     take_signals()
-    stored = inherited()
-    try:
-        folder = Folder(given.folder)
-    except FileExistsError:
-        sys.exit(f"prefork-serve: {given.folder} is a file, and --folder takes a folder")
-    except OSError as fault:
-        sys.exit(f"prefork-serve: {fault.filename or given.folder}: {fault.strerror}")
+    stored, folder = of_systemd(), folder_of(given)
     os.environ |= {
         "PREFORK_KEEPER": str(folder.keeper), "PREFORK_PROGRAM": str(given.prefork), "PREFORK_FOLDER": str(folder.path),
         "PREFORK_PLACE": place_of(given),
         "PREFORK_LOG": "plain" if given.plain_log else "named" if has_journal() else "timed",
     }
     try:
-        commands = commands_of(given, folder)
+        # (a stop may come at any moment from here on)
+        folder.claim()
+        return start(given, folder, stored)
     except OSError as fault:
+        sys.exit(f"prefork-serve: {fault.filename or given.folder}: {fault.strerror}")
+    finally:
+        # (a start that becomes the core does not come back)
         folder.clear()
-        sys.exit(f"prefork-serve: {fault}")
-    except SystemExit:
-        folder.clear()
-        raise
-    if not commands:
-        folder.clear()
-        return 1
-    return serve(given, folder, commands, stored)

@@ -3,43 +3,52 @@ import selectors
 import sys
 import time
 from collections.abc import Callable
-from typing import Any
+from typing import TYPE_CHECKING, Any
 
 from .asking import Asking
 from .barrier import Barrier
+from .blocks import NEW_MASTER, block_of, report_of
 from .burying import await_holders, bury_orphans
-from .changes import Changes
 from .chronicle import Chronicle
-from .commands import Commands, mistake_of, refusal_of
+from .commands import Commands
+from .feed import NOTES, Feed
 from .folder import say
+from .journal import wall_clock
 from .keeping import Keeping
 from .leaving import Leaving
-from .limits import end_seconds, known
+from .bounds import end_seconds
 from .master import Master
-from .needs import addresses_of
-from .outcomes import NOBODY_SERVES, OLD_SERVES, PRELOADER_SERVES, is_broken
-from .patience import Hanging
+from .named import addresses_of, groups_of
+from .patience import UPGRADES, Hanging
+from .processes import masters_of
 from .questions import line_of
-from .reasons import NEW_MASTER
 from .state import workers_in
 from .summary import Summary
-from .systemd import notify
+from .surviving import Survivors, counted, running
+from .systemd import may_store, notify
 from .telling import Telling
 from .ticks import Ticks, timeout_of
 from .watching import Watching
-from .words import CHANGES, NOTE, START, STOPS, TICK, Queue, Word
+from .words import CHANGES, NOTE, START, STOPS, TICK, Queue, Word, is_routine, is_tick
+
+if TYPE_CHECKING:
+    from .changes import Changes
 
 # What comes of a tick comes in many small pieces, and nobody waits for it: what came in this time is read together.
 TOGETHER_SECONDS = 0.01
 # The longest pause of the loop, and that while no master runs.
 PAUSE, SHORT_PAUSE = 1.0, 0.1
 TOO_MANY, NOT_READ = "refused too-many-wait", "refused not-read"
+NOT_TOLD = "why is told by prefork-watch, which does not answer just now"
 
 
 class Service:
     """A master that is kept running, and the words that wait for it."""
 
-    def __init__(self, keeping: Keeping, command: list[str], commands: Commands, chronicle: Chronicle, limits: list[str]):
+    def __init__(
+        self, keeping: Keeping, command: list[str], commands: Commands, chronicle: Chronicle, limits: list[str], told: dict[str, Any],
+    ):
+        """What is told prefork-watch of the service once is `told`."""
         self.keeping, self.folder, self.events = keeping, keeping.folder, keeping.events
         self.barrier = Barrier(say)
         self.command, self.commands, self.chronicle, self.limits = command, commands, chronicle, limits
@@ -49,20 +58,24 @@ class Service:
         self.current: Word | None = None
         # The question that the current word asks, or 0.
         self.question, self.asked = 0, 0.0
+        self.word_began = 0.0
         self.begun, self.ticks, self.is_stopped = 0.0, Ticks(), False
         self.has_heard, self.is_ready = False, False
+        # Whether the program of the master may be an older one by now, which has no limits.
+        self.is_old = False
         self.watching, self.began, self.starts = Watching(keeping.folder), time.monotonic(), 0
         self.record = self.watching.record
         # Why the service ends that could not start, and whether it goes on trying in place of that.
         self.failure, self.keeps_trying = "", False
         # The files whose changes reload it, if there are some.
-        self.changes: Changes | None = None
-        # What is to be done about files whose version has not started, while the one before runs.
-        self.of_files: str | None = None
+        self.changes: "Changes | None" = None
         self.leaving = Leaving(self.folder.path, end_seconds(limits))
+        self.survivors = Survivors(self.folder.survivors, self.leaving)
+        self.survivors.open()
         self.hanging, self.status_of_end = Hanging(self), 0
         self.summary = Summary(self)
-        self.telling = Telling(self.summary, chronicle)
+        self.feed = Feed(self.events, told, self.summary.state, notify)
+        self.telling = Telling(self, self.feed)
         self.asking = Asking(self)
 
     def run(self) -> int:
@@ -87,15 +100,16 @@ class Service:
                 return
         preloading = [self.commands.preloading.tend] if self.commands.preloading else []
         preloading += [self.changes.tend] if self.changes else []
+        preloading += [self.keeping.listeners.tend] if self.keeping.listeners else []
         tends: list[Callable] = [self.commands.mend, self.keeping.mend, self.asking.tend, self.keeping.tend, *preloading, self.hurry]
-        tends += [bury_orphans, self.hanging.tend, self.end_late]
+        tends += [bury_orphans, self.hanging.tend, self.tend_survivors, self.end_late]
         tends += [self.chronicle.tend, self.telling.tend, sys.stderr.flush]
         for tend in tends:
             duty(tend)
 
     def hurry(self) -> None:
         """Where a worker may have ended, the next tick is due."""
-        is_lost = self.keeping.has_lost()
+        is_lost = self.keeping.take_lost()
         if is_lost:
             self.ticks.hurry()
         self.watching.look(is_lost)
@@ -108,15 +122,30 @@ class Service:
 
     def end_late(self) -> None:
         """Kills workers that should have ended, and says so."""
-        for name in self.leaving.tend():
-            late = f"worker {name} has not ended within {self.leaving.seconds:g} s, and is killed"
-            say(late)
-            self.chronicle.journal.note(late)
+        for name in self.leaving.tend([one.process for one in self.survivors.now]):
+            self.note(f"worker {name} has not ended within {self.leaving.seconds:g} s, and is killed")
+
+    def tend_survivors(self) -> None:
+        masters = running(masters_of(self.master.process.pid)) if self.master and self.survivors.now else []
+        self.survivors.tend(masters, self.record.wanted)
+        self.watching.survivors = len(self.survivors.now)
+
+    def settle_survivors(self, report: str) -> None:
+        """Where others serve in their place, workers that have survived their master finish."""
+        sizes = [workers for workers, _ in groups_of(self.commands.now_text)]
+        if count := self.survivors.settle(report, self.record, sizes):
+            self.note(f"{counted(count)} of a master that has died: told to finish, since others serve")
+
+    def note(self, text: str) -> None:
+        say(text)
+        self.chronicle.journal.note(text)
 
     def pause(self) -> float:
         """How long the loop may wait for something to happen."""
         moments = [None if self.current else self.ticks.seconds(), self.asking.door.seconds(), PAUSE if self.master else SHORT_PAUSE, self.telling.seconds()]
         moments += [self.changes.seconds()] if self.changes else []
+        # (the new master of an upgrade that ends waits for its workers, which are told to finish soon)
+        moments += [SHORT_PAUSE] if self.survivors.now or self.current and self.current.text in UPGRADES else []
         return min(moment for moment in moments if moment is not None)
 
     def begin_master(self) -> None:
@@ -126,9 +155,10 @@ class Service:
         self.begun = time.monotonic()
         try:
             self.commands.begin()
-            limits = known(self.command[0], self.limits)
+            limits = [] if self.is_old else self.limits
             command = [*self.command, *limits]
-            master = Master(command, self.folder, lambda block: self.barrier.duty(self.chronicle.records.add, block))
+            keep = lambda block: self.barrier.duty(self.chronicle.records.add, block)
+            master = Master(command, self.folder, keep, may_store())
             self.hanging.patience.take_limits(limits)
             try:
                 self.take_master(master)
@@ -155,7 +185,7 @@ class Service:
         self.begin_word(self.current)
 
     def begin_word(self, word: Word) -> None:
-        self.current = word
+        self.current, self.word_began = word, time.monotonic()
         if word.text != START:
             # What workers of the word before were refused, and have asked for since, explains nothing of this one.
             self.keeping.refusals.clear()
@@ -168,6 +198,8 @@ class Service:
             self.barrier.duty(self.keeping.seal)
         if word.text == "QUIT":
             self.barrier.duty(self.keeping.drain)
+        if word.text in STOPS:
+            self.barrier.duty(self.survivors.close)
 
     def tell_next(self) -> None:
         """Tells the word that is due, once the master has done the one before."""
@@ -187,19 +219,21 @@ class Service:
         else:
             return
         try:
-            if self.current and (self.current.text not in CHANGES or self.has_read()):
+            if self.current and (self.current.text not in CHANGES or self.read_again()):
                 self.master.tell(self.current.text)
         except Exception as fault:
             # Nobody would answer a word that was not told.
             self.refuse(NOT_READ, f"it is not told to the master: {fault}")
             raise
 
-    def has_read(self) -> bool:
+    def read_again(self) -> bool:
         """Reads the configuration again for the current word, which is refused if the copy for the master can't be
-        written."""
+        written; whether the word is still to be told."""
         try:
             self.commands.change(self.record.generation)
             self.chronicle.records.proposed = self.commands.next_text()
+            if wanted := self.keeping.wanted(self.commands.next_text()):
+                wanted.propose(self.commands.next_text())
             self.keeping.renew()
         except OSError as fault:
             self.refuse(NOT_READ, f"the configuration is not read: {fault}")
@@ -214,9 +248,15 @@ class Service:
         self.barrier.duty(self.telling.end_word)
         if word:
             say(f"{word.text}: {reason}")
-            self.barrier.duty(self.commands.settle, report)
+            self.barrier.duty(self.settle_options, report)
             self.barrier.duty(self.chronicle.refuse_word, word.text, report, reason)
-            word.answer(f"{NOTE}{reason}\nword {word.text}\n{report}\n")
+            block = f"word {word.text}\n{report}\n"
+            word.answer(f"{NOTE}{reason}\n{block}")
+            self.barrier.duty(self.tell_refused, word, block, reason)
+
+    def tell_refused(self, word: Word, block: str, reason: str) -> None:
+        told = {"word": word.text, "began": wall_clock(), "seconds": 0.0, "block": block, "noted": {}, "errors": {}, "is_noted": False}
+        self.feed.tell_word({**told, **self.told_beside([], [reason])}, True)
 
     def hear_master(self, _: int) -> None:
         blocks = self.master.hear()
@@ -258,56 +298,92 @@ class Service:
         if word is None:
             return
         report, self.has_heard = block.splitlines()[-1], True
-        self.barrier.duty(self.commands.settle, report)
+        ended = report_of(report)
+        self.barrier.duty(self.settle_options, report)
         reasons = self.barrier.duty(self.chronicle.take_reasons, block) or {}
         self.barrier.duty(self.watching.end, word.text, block, reasons)
         self.barrier.duty(self.leaving.note, block)
-        self.barrier.duty(self.tell_of, word, block)
+        self.barrier.duty(self.settle_survivors, report)
+        self.barrier.duty(self.settle, word, block)
         # (what ticks leave missing is told once, by the state of the whole)
-        if not word.text.startswith("tick ") or not report.startswith(("done", "degraded")):
+        if not is_tick(word.text) or ended.outcome not in ("done", "degraded"):
             say(f"{'start' if word.text == START else word.text}: {report}")
         try:
             self.conclude(word, report, block)
         finally:
-            word.answer(block)
-        has_failed = word.text == START and report.startswith("degraded") and not self.record.workers
+            # The block is certain to come. Why calls failed is told by another process, which nobody waits for.
+            word.tell(block)
+            self.barrier.duty(self.explain, word, block)
+            word.close()
+        has_failed = word.text == START and ended.outcome == "degraded" and not self.record.workers
         if has_failed and not self.is_ready and not self.keeps_trying:
             # It would try for ever what its operator has to mend.
             self.failure = f"no worker has started: {self.watching.why()}"
             self.waiting.take(Word("INT"))
-        if (report.startswith("done") or self.record.workers) and not self.is_ready:
+        # (a stop is done too, and what it ends was perhaps never ready)
+        if (ended.outcome == "done" or self.record.workers) and not self.is_ready and word.text not in STOPS:
             self.is_ready = True
             notify("READY=1")
 
-    def tell_of(self, word: Word, block: str) -> None:
-        """Tells of a block, and settles what rests on it: those that asked, the keeper, metrics."""
-        report = block.splitlines()[-1]
+    def settle_options(self, report: str) -> None:
+        """The configuration that runs is certain, and with it the options of listeners."""
+        self.commands.settle(report)
+        if wanted := self.keeping.wanted(self.commands.now_text):
+            wanted.settle(self.commands.now_text)
+
+    def settle(self, word: Word, block: str) -> None:
+        """Settles what rests on a block: the configuration, the keeper, and systemd."""
+        duty, runs = self.barrier.duty, block_of(block).report.runs
         if word.text == START:
-            self.barrier.duty(self.commands.accept)
-            self.barrier.duty(self.keeping.release)
-        if word.text in (*CHANGES, START) and report.startswith(("done", "degraded target")):
-            self.barrier.duty(self.keeping.settle)
-        if word.text in CHANGES and report.startswith(("done", "degraded target")):
-            self.barrier.duty(self.keeping.drop_others, addresses_of(self.commands.now_text))
-        for note in self.barrier.duty(self.notes, word, block) or ():
-            word.tell(f"{NOTE}{note}\n")
-        self.barrier.duty(self.telling.end_word)
-        if not word.text.startswith("tick ") or word.text == START:
-            self.barrier.duty(self.telling.write)
+            duty(self.commands.accept)
+            duty(self.keeping.release)
+        if word.text in (*CHANGES, START) and runs:
+            duty(self.keeping.settle)
+        if word.text in CHANGES and runs:
+            duty(self.keeping.drop_others, addresses_of(self.commands.now_text))
+        duty(self.telling.end_word)
+
+    def explain(self, word: Word, block: str) -> None:
+        """Has prefork-watch tell those that wait why calls of a block failed."""
+        told = self.chronicle.end_word(word.text, block)
+        refusals = list(dict.fromkeys(self.keeping.refusals))
+        self.keeping.refusals.clear()
+        if not told:
+            return
+        refused = self.refused_file(word, block)
+        mistakes = [] if refused or not self.is_unread(word, block) else [f"{self.commands.config} could not be read"]
+        number = self.feed.tell_word({**told, **self.told_beside(refusals, mistakes), "refused": refused, "of_file": self.of_file(word, block)}, not self.is_tick(word))
+        if word.askers and not self.feed.hand_over(word.askers, NOTES, number):
+            word.tell(f"{NOTE}{NOT_TOLD}\n")
+
+    def of_file(self, word: Word, block: str) -> list[str]:
+        """What is to be said of the configuration that a word has gone over to, or back from."""
+        notes = self.keeping.listeners.take_notes() if self.keeping.listeners else []
+        return [*self.commands.notes(block), *notes] if word.text in CHANGES else notes
+
+    def told_beside(self, refusals: list[str], mistakes: list[str]) -> dict[str, Any]:
+        """What else is to be known of a word that has ended."""
+        return {
+            "refusals": refusals, "mistakes": mistakes, "refused": "", "is_forked": self.commands.is_forked(),
+            "wanted": self.record.wanted, "of_file": [],
+        }
 
     def conclude(self, word: Word, report: str, block: str) -> None:
         """Ends the service after a stop, and a master that is of no further use."""
         # The new master of an upgrade has gone, and its workers with it. The old one, which passed
         # words on to it, is of no further use.
-        is_lost = report.startswith("lost ") or report == "refused V1"
+        ended = report_of(report)
+        is_lost = ended.outcome == "lost" or report == "refused V1"
         if is_lost:
             self.barrier.duty(self.mark_lost, block)
             self.master.process.kill()
-        self.is_stopped = word.text in STOPS and (is_lost or report.startswith("done"))
+        self.is_stopped = word.text in STOPS and (is_lost or ended.outcome == "done")
         if word.text in STOPS and not self.is_stopped:
             self.barrier.duty(self.keeping.open_again)
+            self.barrier.duty(self.survivors.open)
         if self.is_stopped:
             self.barrier.duty(self.hanging.finish)
+            self.barrier.duty(self.survivors.await_end)
             self.barrier.duty(await_holders)
         elif is_lost:
             self.end_master()
@@ -318,31 +394,13 @@ class Service:
             say(why)
             self.chronicle.records.mark_lost(why)
 
-    def notes(self, word: Word, block: str) -> list[str]:
-        """What is said to people of a block: why addresses were not opened, and what workers are started from."""
-        refusals = list(dict.fromkeys(self.keeping.refusals))
-        self.keeping.refusals.clear()
-        found = [*self.chronicle.end_word(word.text, block, refusals, self.mistake(word, block))]
-        if is_broken(word.text, block) and not refusals:
-            self.of_files = PRELOADER_SERVES if self.commands.is_forked() else OLD_SERVES
-            say(self.of_files)
-            found.append(self.of_files)
-        elif word.text in CHANGES and block.splitlines()[-1].startswith(("done", "degraded target")):
-            self.of_files = None
-        if word.text not in (START, *STOPS) and not word.text.startswith("tick "):
-            found.append(f"runs now: {self.summary.runs_now()}")
-            if word.text in ("TTOU", "WINCH") and not self.record.wanted:
-                found.append(NOBODY_SERVES)
-        return found
+    def is_unread(self, word: Word, block: str) -> bool:
+        """Whether the master has refused the configuration of a word."""
+        return word.text in CHANGES and block_of(block).report.is_of_file
 
-    def mistake(self, word: Word, block: str) -> list[str]:
-        """What is wrong with the configuration, if the master has refused it for that."""
-        if word.text not in CHANGES or not block.splitlines()[-1].startswith(("refused C", "refused W4")):
-            return []
-        if not self.commands.next.exists():
-            return [f"{self.commands.config} could not be read"]
-        refusal = refusal_of(str(self.command[0]), self.commands.source())
-        return [mistake_of(refusal)] if refusal else []
+    def refused_file(self, word: Word, block: str) -> str:
+        """The file with the configuration that the master has refused, if there is one."""
+        return str(self.commands.source()) if self.is_unread(word, block) and self.commands.next.exists() else ""
 
     def end_master(self) -> None:
         """The master has ended without having been told to."""
@@ -354,23 +412,31 @@ class Service:
         word, self.current = self.current, None
         duty = self.barrier.duty
         duty(self.leaving.take_all)
+        duty(self.survivors.open)
+        duty(self.survivors.note_death)
         if word:
             duty(self.chronicle.cut_word, word.text, master.block)
         if not self.has_heard:
             sys.exit(f"prefork-serve: {self.command[0]} does not start as the master: it has ended with status {status} "
                      "before its first block. Is it the program prefork, in this version?")
+        # One that has ended before its first block was perhaps told options that it does not know.
+        self.is_old = not self.is_old and word is not None and word.text == START and not master.block
         duty(self.keeping.open_again)
         duty(self.telling.end_word)
-        duty(self.commands.settle, "lost")
+        duty(self.settle_options, "lost")
         say(f"the master has ended with status {status}, and is started again with the configuration that was accepted")
         if self.commands.has_changed():
             say(f"{self.commands.config} has changed since: HUP reads it")
         if word:
             word.answer("lost: the master has ended\n")
 
+    def is_tick(self, word: Word) -> bool:
+        """Whether a word is a tick, and not the start of a master."""
+        return is_routine(word.text)
+
     def is_ticking(self) -> bool:
-        """Whether a tick is being carried out, and not the start of a master."""
-        return self.current is not None and self.current.text.startswith("tick ") and self.current.text != START
+        """Whether a tick is being carried out."""
+        return self.current is not None and self.is_tick(self.current)
 
     def doing(self) -> str | None:
         """The word that is being carried out, if it is no tick."""

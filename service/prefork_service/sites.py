@@ -1,6 +1,8 @@
 """The addresses of pages and of metrics, as options name them."""
 import ipaddress
 
+from .addresses import host_and_port
+
 LOCAL = "127.0.0.1"
 
 
@@ -9,7 +11,7 @@ def fault_of_site(option: str, text: str, is_public: bool) -> str | None:
     so one that is not of this machine alone has to be wanted."""
     if text.startswith("/"):
         return None
-    host, _, port = text.rpartition(":")
+    host, port = host_and_port(text)
     if not host:
         return f"{option} {text}: name a host too: {LOCAL}:{port or 8099} is for this machine alone"
     if not port.isdigit() or not 1 <= int(port) <= 65535:

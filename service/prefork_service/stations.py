@@ -1,11 +1,7 @@
 """The stations of a word that changes the service: what its plan does one after another, and where it is."""
-import re
 from collections.abc import Iterator, Sequence
 
-from .reasons import is_plain
-
-# A line of a block that is a call: its master, and the name of the call.
-CALL = re.compile(r"\d+ (m\d+) ([a-z0-9-]+).* : .+")
+from .blocks import calls_in
 
 DONE, NOW, NEXT = "done", "now", "next"
 # A station: its name, and the calls that belong to it. A call of the new master of an upgrade begins with a star.
@@ -43,12 +39,9 @@ PLANS: dict[str, Stations] = {
 def called(lines: Sequence[str]) -> Iterator[str]:
     """The calls of a block that is not complete; those of a master that was started on the way with a star."""
     first = ""
-    for line in lines:
-        found = CALL.fullmatch(line)
-        if not found:
-            continue
-        first = first or found[1]
-        yield found[2] if found[1] == first else f"*{found[2]}"
+    for call in calls_in(lines):
+        first = first or call.master
+        yield call.kind if call.master == first else f"*{call.kind}"
 
 
 def place(plan: Stations, lines: Sequence[str]) -> int:
@@ -68,6 +61,6 @@ def shown_stations(word: str | None, lines: Sequence[str], question: int) -> lis
     if question:
         asks = [number for number, (_, calls) in enumerate(plan) if "ask" in calls]
         at = asks[min(question, len(asks)) - 1] if asks else at
-    if not all(map(is_plain, lines)):
+    if not all(call.is_plain for call in calls_in(lines)):
         return [*((name, DONE) for name, _ in plan[:at + 1]), (BACK, NOW)]
     return [(name, DONE if number < at else NOW if number == at else NEXT) for number, (name, _) in enumerate(plan)]

@@ -1,59 +1,17 @@
 """The status of a service: who runs, what was done last, and what is being done now."""
 import os
-import pathlib
-import re
 import time
 from typing import Any
 
-from .folder import files_in
+from .blocks import calls_in
+from .counted import Record
+from .processes import fields_of
 from .questions import line_of
 from .state import times
 
-CENSUS = re.compile(r" census (\d+\.\d+) : counted (\S+)$", re.M)
-# How a block ends that says how many workers are wanted: all that were counted, or more by what each group lacks.
-WANTED = re.compile(r"(?:done|degraded target ([\d,]+)) cause ")
 TICKS = os.sysconf("SC_CLK_TCK")
 Status = dict[str, Any]
 LEFT_BEHIND = "an upgrade has left it; it passes words on. QUIT and a new start of the service end it"
-
-
-def numbers_of(counted: str) -> list[int]:
-    """The workers that a census has counted: `0-2,5` are four."""
-    found: list[int] = []
-    for part in counted.split(","):
-        first, _, last = part.partition("-")
-        if first.isdigit():
-            found += range(int(first), int(last or first) + 1)
-    return found
-
-
-class Record:
-    """What blocks have told: which workers there are, and how many are wanted."""
-
-    def __init__(self) -> None:
-        self.generation, self.workers, self.wanted = "", list[int](), 0
-
-    def forget_workers(self) -> None:
-        """A master has been started, and has counted nobody yet. Those of the one before are not its own."""
-        self.generation, self.workers = "", []
-
-    def note(self, block: str) -> None:
-        counted = CENSUS.findall(block)
-        if not counted:
-            return
-        self.generation, self.workers = counted[-1][0], numbers_of(counted[-1][1])
-        # (USR1 counts those that it has told, and leaves the number that is wanted as it was)
-        found = WANTED.match(block.splitlines()[-1])
-        if found and not block.startswith("word USR1\n"):
-            self.wanted = len(self.workers) + sum(map(int, (found[1] or "0").split(",")))
-
-
-def fields_of(process: int) -> list[str]:
-    """What the system says of a process after its name; nothing if it has ended."""
-    try:
-        return pathlib.Path(f"/proc/{process}/stat").read_text().rpartition(")")[2].split()
-    except OSError:
-        return []
 
 
 def age_of(process: int) -> int:
@@ -64,73 +22,6 @@ def age_of(process: int) -> int:
 def exact_age_of(process: int) -> float:
     fields = fields_of(process)
     return max(0.0, time.clock_gettime(time.CLOCK_BOOTTIME) - int(fields[19]) / TICKS) if fields else 0.0
-
-
-def descends(process: int, ancestor: int) -> bool:
-    """Whether a process runs that this one has started, or one that it has started."""
-    while process > 1:
-        fields = fields_of(process)
-        if not fields or fields[0] == "Z":
-            return False
-        process = int(fields[1])
-        if process == ancestor:
-            return True
-    return False
-
-
-def started_workers(place: pathlib.Path) -> dict[tuple[str, int], int]:
-    """The processes of workers, by generation and number. The files of those that have ended are removed."""
-    found = {}
-    for file in files_in(place):
-        try:
-            text = file.read_text()
-        except (OSError, ValueError):
-            continue
-        numbers, (generation, _, number) = text.split(), file.name.rpartition(".")
-        # The process that the master has started, and the one that serves, where it is another one.
-        if number.isdigit() and numbers and numbers[0].isdigit() and descends(int(numbers[0]), os.getpid()):
-            found[generation, int(number)] = int(numbers[-1])
-        elif numbers:
-            forget(file, text)
-    return found
-
-
-def forget(file: pathlib.Path, text: str) -> None:
-    """Removes the file of a worker that has ended. A worker that is started in its place has a file of the same name, and
-    may write it at this very moment: that one stays, or comes back."""
-    aside = file.with_name(f"{file.name}.ended")
-    try:
-        file.rename(aside)
-        if aside.read_text() == text:
-            aside.unlink()
-        else:
-            aside.rename(file)
-    except (OSError, ValueError):
-        pass
-
-
-def masters_of(first: int) -> list[int]:
-    """The master that the service has started, and the new ones of upgrades, each started by the one before."""
-    found, is_more = [first], True
-    while is_more:
-        is_more = False
-        for child in children_of(found[-1]):
-            try:
-                words = pathlib.Path(f"/proc/{child}/cmdline").read_bytes().split(b"\0")
-            except OSError:
-                continue
-            if words[1:2] == [b"adopt"]:
-                found.append(child)
-                is_more = True
-                break
-    return found
-
-
-def children_of(process: int) -> list[int]:
-    try:
-        return [int(word) for word in pathlib.Path(f"/proc/{process}/task/{process}/children").read_text().split()]
-    except OSError:
-        return []
 
 
 def workers_of(record: Record, running: dict[tuple[str, int], int], beats: dict[int, int]) -> list[Status]:
@@ -149,17 +40,16 @@ def workers_of(record: Record, running: dict[tuple[str, int], int], beats: dict[
     return found
 
 
-# A call of a worker, and what it does then.
-OF_WORKER = re.compile(r"\d+ m\d+ (fork|await-ready|quit|kill) (\d+\.\d+) (\d+).* : (\S+)")
+# What a worker does after a call of it.
 STATES = {("fork", "forked"): "starts", ("await-ready", "ready"): "is ready", ("quit", "ok"): "finishes", ("kill", "ok"): "ends"}
 
 
 def states_in(lines: list[str]) -> dict[tuple[str, int], str]:
     """What workers do, as the lines of a block say that is not complete."""
     found = {}
-    for call in filter(None, map(OF_WORKER.fullmatch, lines)):
-        if state := STATES.get((call[1], call[4])):
-            found[call[2], int(call[3])] = state
+    for call in calls_in(lines):
+        if call.worker is not None and (state := STATES.get((call.kind, call.answer))):
+            found[call.generation, call.worker] = state
     return found
 
 
@@ -188,7 +78,9 @@ def shown(status: Status) -> str:
         f"generation  {status['generation'] or 'none'}, {workers(len(status['workers']))}",
         *map(shown_worker, status["workers"]),
         *map(shown_other, status["others"]),
+        *shown_survivors(status.get("survivors", [])),
         *map(shown_queue, status.get("queues", [])),
+        *shown_requests(status.get("requests")),
         *shown_masters(status["masters"], status["master_restarts"]),
         f"keeper      process {keeper['process'] or 'none'}, started again {times(keeper['restarts'])}",
         *map(shown_preloader, status.get("preloaders", [])),
@@ -203,6 +95,20 @@ def shown(status: Status) -> str:
     return "".join(f"{line}\n" for line in lines)
 
 
+def shown_brief(status: Status) -> str:
+    """A status in short in words."""
+    service = status["service"]
+    return "".join(f"{line}\n" for line in (
+        f"service     process {service['process']}, for {service['seconds']} s, in {service['folder']}",
+        f"state       {status['line']}",
+        f"addresses   {' '.join(status['addresses']) or 'none'}",
+        f"generation  {status['generation'] or 'none'}, {workers(len(status['workers']))}",
+        f"master      process {status['master'] or 'none'}, started again {times(status['master_restarts'])}",
+        f"keeper      process {status['keeper']['process'] or 'none'}, started again {times(status['keeper']['restarts'])}",
+        f"now         {'carries out ' + status['doing'] if status['doing'] else 'waits for words'}, {status['waiting']} more wait",
+    ))
+
+
 def shown_preloader(preloader: Status) -> str:
     state = "its last workers finish" if preloader["is_leaving"] else "has loaded" if preloader["is_loaded"] else "loads"
     return f"preloader   process {preloader['process']}, {state}"
@@ -214,7 +120,22 @@ def shown_worker(worker: Status) -> str:
     beat = worker["last_beat_seconds"]
     told = f"beat {beat} s ago" if beat is not None else "no beat yet"
     memory = f", {worker['memory'] / 1e6:.0f} MB" if worker.get("memory") else ""
-    return f"worker {worker['number']:<4} process {worker['process']}, for {worker['seconds']} s, {told}{memory}"
+    told += f"{memory}{shown_threads(worker.get('requests'))}"
+    return f"worker {worker['number']:<4} process {worker['process']}, for {worker['seconds']} s, {told}"
+
+
+def shown_threads(requests: Status | None) -> str:
+    return f", {requests['busy']} of {requests['threads']} threads busy" if requests else ""
+
+
+def shown_requests(requests: Status | None) -> list[str]:
+    """What workers of --wsgi have answered."""
+    if not requests:
+        return []
+    count, failed = requests["count"], requests["classes"]["5xx"]
+    mean = f", {1000 * requests['seconds'] / count:.0f} ms on average" if count else ""
+    lost = f", {requests['lost_lines']} lines of the access log are lost" if requests["lost_lines"] else ""
+    return [f"requests    {count} answered, {failed} of them with 5xx{mean}, {requests['busy']} of {requests['threads']} threads busy{lost}"]
 
 
 def shown_queue(queue: Status) -> str:
@@ -224,6 +145,12 @@ def shown_queue(queue: Status) -> str:
 
 def shown_other(worker: Status) -> str:
     return f"worker {worker['generation']}.{worker['number']} process {worker['process']}, for {worker['seconds']} s, {worker['state']}"
+
+
+def shown_survivors(survivors: list[Status]) -> list[str]:
+    """How many workers of a dead master serve on."""
+    named = ", ".join(f"process {one['process']}" for one in survivors)
+    return [f"survivors   {workers(len(survivors))} of a master that has died: {named}, until others are ready"] if survivors else []
 
 
 def shown_failing(one: Status) -> str:
@@ -237,7 +164,8 @@ def shown_masters(masters: list[int], restarts: int) -> list[str]:
 
 
 def shown_doing(status: Status) -> str:
-    doing = f"carries out {status['doing']}" if status["doing"] else "waits for words"
+    progress = status.get("progress")
+    doing = f"carries out {progress['line'] if progress else status['doing']}" if status["doing"] else "waits for words"
     asks = f", {asked(status)}" if status["question"] else ""
     return f"{doing}{asks}, {status['waiting']} more wait" if status["waiting"] else f"{doing}{asks}"
 

@@ -1,15 +1,11 @@
-"""What systemd is told, if it has started the service, and the sockets that it has for it."""
-import errno
+"""What systemd is told, if it has started the service."""
 import os
 import socket
 import time
 from collections.abc import Iterable
 
-from .folder import say
-
 # What the system may take to accept a message.
 SECONDS = 1.0
-FIRST = 3
 # A watchdog that is not there; and one is told a little before half its time is over.
 LONG, SOON = 1e9, 0.9
 
@@ -26,6 +22,11 @@ def notify(text: str, sockets: Iterable[socket.socket] = ()) -> None:
             socket.send_fds(told, [text.encode()], [one.fileno() for one in sockets])
     except OSError:
         pass
+
+
+def may_store() -> bool:
+    """Whether there is a systemd that may store the sockets, so that they outlive this process."""
+    return bool(os.environ.get("NOTIFY_SOCKET"))
 
 
 def has_journal() -> bool:
@@ -64,31 +65,3 @@ def store(address: str, one: socket.socket) -> None:
 
 def unstore(address: str) -> None:
     notify(f"FDSTOREREMOVE=1\nFDNAME={name_of(address)}")
-
-
-def inherited() -> dict[str, socket.socket]:
-    """The listening sockets that systemd has for this process, by their addresses."""
-    count = os.environ.pop("LISTEN_FDS", "0")
-    is_ours = os.environ.pop("LISTEN_PID", "") == str(os.getpid())
-    os.environ.pop("LISTEN_FDNAMES", None)
-    found: dict[str, socket.socket] = {}
-    if not is_ours or not count.isdigit():
-        return found
-    for number in range(FIRST, FIRST + int(count)):
-        try:
-            one = socket.socket(fileno=number)
-        except OSError as fault:
-            say(f"descriptor {number} of systemd is not used: {fault.strerror}")
-            if fault.errno == errno.EBADF:
-                break
-            continue
-        one.set_inheritable(False)
-        place = one.getsockname()
-        is_new = one.getsockopt(socket.SOL_SOCKET, socket.SO_ACCEPTCONN)
-        address = place if isinstance(place, str) else f"{place[0]}:{place[1]}"
-        if not is_new or address in found:
-            one.close()
-            continue
-        one.setblocking(False)
-        found[address] = one
-    return found

@@ -4,6 +4,8 @@ import time
 from collections.abc import Callable
 from typing import Any
 
+from .guarding import put
+
 Status = dict[str, Any]
 CLEAR, SECONDS = "\033[H\033[2J", 1.0
 
@@ -23,16 +25,24 @@ def shares(status: Status, before: Status | None) -> dict[int, float]:
 
 def drawn(status: Status, parts: dict[int, float]) -> str:
     """A status as a table."""
-    lines = [status["line"], f"{'worker':<10}{'process':>9}{'age, s':>9}{'cpu, %':>9}{'MB':>9}"]
+    counts = f"{'busy':>9}{'answered':>10}" if status.get("requests") else ""
+    lines = [status["line"], f"{'worker':<10}{'process':>9}{'age, s':>9}{'cpu, %':>9}{'MB':>9}{counts}"]
     for worker in [*status["workers"], *status["others"]]:
         name, process = f"{worker['generation']}.{worker['number']}", worker["process"]
         part = f"{100 * parts[process]:.1f}" if process in parts else "-"
         memory = f"{worker['memory'] / 1e6:.0f}" if worker.get("memory") else "-"
         state = worker.get("state", "" if process else "has ended")
-        lines.append(f"{name:<10}{process or '-':>9}{worker['seconds'] or 0:>9}{part:>9}{memory:>9}  {state}".rstrip())
+        answered = answered_by(worker) if counts else ""
+        lines.append(f"{name:<10}{process or '-':>9}{worker['seconds'] or 0:>9}{part:>9}{memory:>9}{answered}  {state}".rstrip())
     for queue in status["queues"]:
         lines.append(f"{queue['address']}: {queue['waiting']} of {queue['most']} wait, {queue['dropped']} dropped")
     return "".join(f"{line}\n" for line in lines)
+
+
+def answered_by(worker: Status) -> str:
+    """How many threads of a worker are busy, and how many requests it has answered."""
+    requests = worker.get("requests")
+    return f"{requests['busy']:>4} of {requests['threads']:>1}{requests['count']:>10}" if requests else f"{'-':>9}{'-':>10}"
 
 
 def show(ask: Callable[[], Status]) -> int:
@@ -44,8 +54,9 @@ def show(ask: Callable[[], Status]) -> int:
             status = ask()
             if measured is None or status["measured"] != measured["measured"]:
                 parts, measured = shares(status, measured), status
-            print((CLEAR if sys.stdout.isatty() else "") + drawn(status, parts), end="", flush=True)
-            if not sys.stdout.isatty():
+            is_terminal = sys.stdout is not None and sys.stdout.isatty()
+            put((CLEAR if is_terminal else "") + drawn(status, parts))
+            if not is_terminal:
                 return 0
             time.sleep(SECONDS)
     except KeyboardInterrupt:

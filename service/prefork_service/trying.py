@@ -3,7 +3,8 @@
 A tick has the master start all workers that are missing, and some of them again and again. So prefork-launch is told
 which of them wait: the folder `waiting` has a file for each, named by the worker's number. Such a worker is not started,
 unless there is a file `NUMBER.once` too, which allows one start. Workers that fail for the same reason are tried by one of
-them; once that is ready, the others follow at the next tick. A word of an operator tries all at once.
+them; once that is ready, the others follow at the next tick. All that fail have few tries together, also where each has a
+reason of its own. A word of an operator tries all at once.
 """
 import dataclasses
 import pathlib
@@ -12,14 +13,33 @@ import re
 import shutil
 from typing import Any
 
-from .reasons import CALL
+from .blocks import block_of
 from .state import times
 from .ticks import IN_TIMEOUT
 
 FIRST_SECONDS, MOST_SECONDS, JITTER = 1.0, 60.0, 0.25
+# How many tries all workers together have in a row, and how often there is another one: 48 in ten minutes.
+MOST_TRIES, EACH_SECONDS = 8.0, 15.0
 # How many workers are named that fail.
 MOST_NAMED = 3
-NUMBERS = re.compile(r"\d+")
+NUMBERS = re.compile(r"0x[0-9a-fA-F]+|\d+")
+
+
+class Budget:
+    """The tries that are left. They come back by and by."""
+
+    def __init__(self) -> None:
+        self.left, self.moment = MOST_TRIES, 0.0
+
+    def renew(self, now: float) -> None:
+        """(more than that were given to workers of which one was ready by then)"""
+        self.left = max(self.left, min(MOST_TRIES, self.left + (now - self.moment) / EACH_SECONDS))
+        self.moment = now
+
+    def seconds(self, now: float) -> float:
+        """How long until there is one."""
+        self.renew(now)
+        return max(0.0, 1.0 - self.left) * EACH_SECONDS
 
 
 def seconds_after(tries: int, chance: float) -> float:
@@ -53,6 +73,7 @@ class Trying:
         self.tries: dict[str, int] = {}
         self.allowed: dict[int, int] = {}
         self.total, self.is_marked = 0, False
+        self.budget = Budget()
 
     # Ticks.
 
@@ -61,17 +82,22 @@ class Trying:
         has ended, or one that fails is due, or the beats of the others have not been asked for too long."""
         if not self.failing or is_lost or missing > len(self.failing):
             return True
-        return any(one.due <= now for one in self.failing.values()) or since_tick >= timeout / IN_TIMEOUT
+        is_due = any(one.due <= now for one in self.failing.values()) and not self.budget.seconds(now)
+        return is_due or since_tick >= timeout / IN_TIMEOUT
 
     def begin_tick(self, now: float) -> None:
         """Marks the workers that wait, and allows one start of each that is tried."""
         due = sorted((one.tried, number) for number, one in self.failing.items() if one.due <= now)
         chosen: set[int] = set()
+        self.budget.renew(now)
         for _, number in due:
+            if self.budget.left < 1:
+                break
             # All, if one of them was ready since the last of them has failed; or else the one that has waited longest.
             kind = self.failing[number].kind
             if kind not in self.tries or kind not in {self.failing[other].kind for other in chosen}:
                 chosen.add(number)
+                self.budget.left -= 1
         self.allowed = {number: int(number in chosen) for number in self.failing}
         self.mark()
 
@@ -86,6 +112,11 @@ class Trying:
         for one in self.failing.values():
             one.due = now
         self.tries.clear()
+        self.give_all()
+
+    def give_all(self) -> None:
+        """Somebody mends what fails: each worker may be tried."""
+        self.budget.left = max(MOST_TRIES, self.budget.left, len(self.failing))
 
     def mark(self) -> None:
         """Tells prefork-launch. Where that can't be written the master starts what it wants to."""
@@ -114,17 +145,16 @@ class Trying:
         """Takes the block of a tick, or of a start: which workers have failed to start in it, and which have not."""
         tried: set[str] = set()
         left = dict(self.allowed)
-        for line in block.splitlines():
-            call = CALL.fullmatch(line)
-            if not call or call[2] not in ("fork", "await-ready") or not call[4]:
+        for call in block_of(block).calls:
+            number = call.worker
+            if call.kind not in ("fork", "await-ready") or number is None:
                 continue
-            number = int(call[4])
-            if call[5] == "ready":
+            if call.answer == "ready":
                 self.succeed(number, now)
-            elif call[5] != "forked" and left.get(number, 1):
+            elif not call.is_plain and left.get(number, 1):
                 if number in left:
                     left[number] -= 1
-                tried.add(self.fail(number, reasons.get(f"{call[3]}.{number}", f"{call[2]}: {call[5]}"), now))
+                tried.add(self.fail(number, reasons.get(call.name, f"{call.kind}: {call.answer}"), now))
         for kind in tried:
             self.put_off(kind, now)
 
@@ -152,6 +182,7 @@ class Trying:
         if not before:
             return
         self.tries.pop(before.kind, None)
+        self.give_all()
         for one in self.failing.values():
             if one.kind == before.kind:
                 one.due = now
@@ -181,7 +212,9 @@ class Trying:
         return "; ".join(found)
 
     def as_json(self, now: float) -> list[dict[str, Any]]:
+        """The workers that fail, each with the moment of its next try."""
+        least = self.budget.seconds(now)
         return [
-            {"worker": number, "failed": one.failed, "reason": one.reason, "next_try_seconds": round(max(0.0, one.due - now), 1)}
+            {"worker": number, "failed": one.failed, "reason": one.reason, "due": round(max(now + least if least else 0.0, one.due), 1)}
             for number, one in sorted(self.failing.items())
         ]

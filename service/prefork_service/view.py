@@ -4,12 +4,12 @@ import pathlib
 from collections.abc import Sequence
 
 from . import live
-from .chronicle import Done
+from .done import Done
 from .page import drawn, masters_list, said, text, workers_table
 from .sentences import newest, on_its_way, sentence
 from .state import CHANGES, SERVES, SHORT, STOPPED
 from .stations import shown_stations
-from .status import Status, asked, shown_doing, workers
+from .status import Status, asked, shown_doing, shown_requests, workers
 from .words import START
 
 # The cells of a generation that are drawn.
@@ -128,7 +128,9 @@ def stations(status: Status, calls: Sequence[str]) -> str:
     if not found:
         return ""
     rows = "".join(f'<li class="{kind}"{MARK if kind == "now" else ""}>{text(name)}</li>' for name, kind in found)
-    return f'<section><h2>{text(status["doing"])}, on its way</h2><ol class="stations">{rows}</ol></section>'
+    progress = status.get("progress")
+    far = f'<p class="soft">{text(progress["line"])}</p>' if progress else ""
+    return f'<section><h2>{text(status["doing"])}, on its way</h2><ol class="stations">{rows}</ol>{far}</section>'
 
 
 def word_row(done: Done) -> str:
@@ -149,7 +151,7 @@ def last_words(words: Sequence[Done]) -> str:
 
 
 def queues(status: Status) -> str:
-    """The connections that wait at each address, and the memory of all workers."""
+    """The connections that wait at each address, the memory of all workers, and what they have answered."""
     rows = []
     for queue in status.get("queues", []):
         address, waiting, most = queue["address"], queue["waiting"], queue["most"]
@@ -160,6 +162,7 @@ def queues(status: Status) -> str:
     memory = sum(worker.get("memory") or 0 for worker in status["workers"])
     if memory:
         rows.append(f"<li>memory of all workers: {memory / 1e6:.0f} MB</li>")
+    rows += [f"<li>requests: {text(line.partition(' ')[2].strip())}</li>" for line in shown_requests(status.get("requests"))]
     return f'<section><h2>Load</h2><ul>{"".join(rows)}</ul></section>' if rows else ""
 
 

@@ -1,14 +1,13 @@
 """What is wanted of a service beside what runs: looked at all the while, and told where it has changed."""
 import time
-from typing import Any
 
 from .changed import Changed
 from .folder import Folder
 from .state import News, Whole, whole_of
-from .status import Record, started_workers
+from .counted import Record, started_workers
 from .ticks import pause_of
 from .trying import Trying
-from .words import START
+from .words import is_routine, is_tick
 
 
 class Watching:
@@ -20,6 +19,8 @@ class Watching:
         # How many of the workers that were counted run, how many have ended since, and when it is looked again.
         self.running, self.lost, self.next_look = 0, 0, 0.0
         self.is_started, self.timeout = False, 60
+        # How many workers of a master that has died serve on.
+        self.survivors = 0
 
     def begin_master(self, wanted: int, timeout: int) -> None:
         """A master is started, which has counted nobody yet."""
@@ -29,7 +30,7 @@ class Watching:
 
     def begin(self, word: str) -> None:
         """A word is told to the master."""
-        if word.startswith("tick ") and word != START:
+        if is_routine(word):
             self.trying.begin_tick(time.monotonic())
         else:
             self.trying.begin_word(time.monotonic())
@@ -38,7 +39,7 @@ class Watching:
         """Takes a block, and why workers have ended in it."""
         self.record.note(block)
         self.is_started, self.next_look = True, 0.0
-        if word.startswith("tick "):
+        if is_tick(word):
             self.trying.note(block, reasons, time.monotonic())
         self.trying.forget_others(self.record.wanted, self.record.workers)
         # What a start that fails writes itself, such as a log, is no news.
@@ -78,14 +79,13 @@ class Watching:
     def why(self) -> str:
         """Why fewer workers run than are wanted."""
         if self.trying.failing:
-            return self.trying.why()
+            return self.trying.why() + (f"; {self.serving_on()}" if self.survivors else "")
+        if self.survivors:
+            return self.serving_on()
         return f"{self.lost} of {len(self.record.workers)} workers ended" if self.lost else ""
 
-    def as_json(self, word: str | None) -> dict[str, Any]:
-        now = time.monotonic()
-        return {
-            **self.whole(word).as_json(), "failing": self.trying.as_json(now), "failed_starts": self.trying.total,
-        }
+    def serving_on(self) -> str:
+        return f"{self.survivors} of a master that has died serve on"
 
     def end_all(self) -> None:
         self.trying.unmark()

@@ -5,16 +5,20 @@ import os
 import selectors
 import socket
 import time
-from collections.abc import Callable
+from collections.abc import Callable, Sequence
 
+from .addresses import endpoint_of, socket_for, text_of
 from .door import Door
-from .folder import say
-from .sockets import file_of, remove_stale
+from .folder import plain, say
+from .socket_files import make_place
+from .sockets import file_of, is_tcp
 
 # How long a visit may take, and how long a question may be. How many visits there may be, and how many that say nothing.
 SECONDS, LONGEST, MOST_VISITS, MOST_SILENT = 10.0, 8192, 16, 16
 QUEUE = 32
-REASONS = {200: "OK", 400: "Bad Request", 404: "Not Found", 405: "Method Not Allowed"}
+REASONS = {200: "OK", 400: "Bad Request", 404: "Not Found", 405: "Method Not Allowed", 421: "Misdirected Request"}
+# What is said to a visitor that asks for another host: a page of another site may have a name that leads here.
+ELSEWHERE = "this page is not that of {}. Ask for {}, or name the other one to prefork-serve: --host NAME\n"
 # What a page may do: show itself, and run and ask the scripts and paths of its own address.
 POLICY = "default-src 'none'; style-src 'unsafe-inline'; script-src 'self'; connect-src 'self'; base-uri 'none'; " \
     "form-action 'none'; frame-ancestors 'none'"
@@ -24,20 +28,31 @@ Pages = dict[str, Callable[[], tuple[str, str]]]
 
 def opened(address: str) -> socket.socket:
     """Listens at HOST:PORT, or at the path of a Unix socket. Raises OSError."""
-    host, _, port = address.rpartition(":")
-    one = socket.socket(socket.AF_UNIX if address.startswith("/") else socket.AF_INET)
+    one = socket_for(address)
     try:
         if address.startswith("/"):
-            remove_stale(address)
+            make_place(address)
             one.bind(address)
         else:
             one.setsockopt(socket.SOL_SOCKET, socket.SO_REUSEADDR, 1)
-            one.bind((host, int(port)))
+            one.bind(endpoint_of(address))
         one.listen(QUEUE)
     except (OSError, ValueError, OverflowError) as fault:
         one.close()
         raise OSError(f"{address}: {getattr(fault, 'strerror', None) or fault}") from fault
     return one
+
+
+def door_of(client: socket.socket) -> str:
+    """Where a visitor has come in, HOST:PORT; nothing at a Unix socket, which no browser reaches by a name."""
+    return text_of(client.getsockname()) if is_tcp(client) else ""
+
+
+def hosts_in(heard: bytes) -> list[str]:
+    """The hosts that a question is for. One of HTTP/1.0 may have none, and no browser asks such."""
+    head = heard.replace(b"\r\n", b"\n").partition(b"\n\n")[0].decode("latin-1").split("\n")[1:]
+    fields = [line.partition(":") for line in head]
+    return [value.strip().lower() for name, _, value in fields if name.strip().lower() == "host"]
 
 
 class Visit:
@@ -51,8 +66,9 @@ class Visit:
 class Site:
     """Pages at an address."""
 
-    def __init__(self, events: selectors.BaseSelector, address: str, pages: Pages):
-        self.events, self.pages = events, pages
+    def __init__(self, events: selectors.BaseSelector, address: str, pages: Pages, hosts: Sequence[str] = ()):
+        """Beside its address `hosts` are names by which visitors may ask for it."""
+        self.events, self.pages, self.hosts = events, pages, [name.lower() for name in hosts]
         self.visits: dict[socket.socket, Visit] = {}
         self.address, self.listener = address, opened(address)
         # What tells its Unix socket from others.
@@ -87,15 +103,19 @@ class Site:
         if not got or visit.is_answered and len(visit.heard) > LONGEST:
             self.drop(visit)
         elif not visit.is_answered and (b"\r\n\r\n" in visit.heard or b"\n\n" in visit.heard or len(visit.heard) > LONGEST):
-            visit.is_answered, visit.unsaid = True, self.answer(visit.heard)
+            visit.is_answered, visit.unsaid = True, self.answer(visit.heard, door_of(client))
             self.events.modify(client, selectors.EVENT_WRITE, self.say_more)
 
-    def answer(self, heard: bytes) -> bytes:
+    def answer(self, heard: bytes, place: str = "") -> bytes:
+        """The answer to a question that has come at a place, HOST:PORT."""
         words = heard.split(b"\r\n", 1)[0].decode("latin-1").split(" ")
         path = words[1].partition("?")[0] if len(words) == 3 else ""
         status, kind, text = 200, "text/plain; charset=utf-8", ""
-        if len(words) != 3 or not words[2].startswith("HTTP/1."):
+        asked = hosts_in(heard)
+        if len(words) != 3 or not words[2].startswith("HTTP/1.") or len(asked) > 1 or len(heard) > LONGEST:
             status, text = 400, "not a question\n"
+        elif place and asked and not self.is_own(asked[0], place):
+            status, text = 421, ELSEWHERE.format(plain(asked[0]), place)
         elif words[0] not in ("GET", "HEAD"):
             status, text = 405, "this page is only read\n"
         elif path not in self.pages:
@@ -107,6 +127,14 @@ class Site:
             f"Cache-Control: no-store\r\nContent-Security-Policy: {POLICY}\r\n" \
             "X-Content-Type-Options: nosniff\r\nConnection: close\r\n\r\n"
         return head.encode() + (b"" if words[0] == "HEAD" else body)
+
+    def is_own(self, host: str, place: str) -> bool:
+        """Whether a host is one of this page: the place where the question has come, localhost there, or a name that was
+        given, at any port."""
+        address, _, port = place.rpartition(":")
+        own = [f"{name}:{port}" for name in (address, "localhost")]
+        own += [address, "localhost"] if port == "80" else []
+        return host in own or host.partition(":")[0] in self.hosts or host in self.hosts
 
     def say_more(self, client: socket.socket) -> None:
         visit = self.visits.get(client)

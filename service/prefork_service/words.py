@@ -1,6 +1,7 @@
 """Control words, and who waits for what comes of them."""
 import collections
 import socket
+import time
 
 STOPS = ("QUIT", "INT", "TERM")
 # Words that a signal says too.
@@ -9,6 +10,8 @@ ATTENDED = "USR2 attended"
 WORDS = (*SIGNALS, ATTENDED)
 # Asked in place of a word: what runs.
 STATUS = "status"
+# The same in short, by prefork-serve itself.
+BRIEF = "status brief"
 # Said by an operator: a tick now, which tries again what has failed.
 TICK = "tick"
 # Said by an operator: one worker of the next version is started away from the sockets, and ended.
@@ -19,15 +22,22 @@ TOP = "top"
 START = "tick 0"
 # Words at which the configuration is read again.
 CHANGES = ("HUP", "USR2", ATTENDED)
-# How the last line of a block begins.
-ENDS = ("done", "rolled-back", "degraded", "lost", "refused", "unread", "nothing")
-
 # How a line begins that is for people, before a block.
 NOTE = "note "
 # How many words may wait, and how many askers of them.
 MOST_WAITING = 64
-# What an asker that reads nothing may delay the service.
+# What all askers of a word that read nothing may delay the service together.
 TELL_SECONDS = 1.0
+
+
+def is_tick(word: str) -> bool:
+    """Whether a word is a tick of the clock, or the start of a master, which is one too."""
+    return word.startswith(f"{TICK} ")
+
+
+def is_routine(word: str) -> bool:
+    """Whether a word is a tick of the clock alone."""
+    return is_tick(word) and word != START
 
 
 class Word:
@@ -35,17 +45,17 @@ class Word:
 
     def __init__(self, text: str, asker: socket.socket | None = None):
         self.text, self.askers = text, [asker] if asker else []
-        if asker:
-            asker.settimeout(TELL_SECONDS)
 
     def join(self, other: "Word") -> None:
         """Stands for another word too, which is the same."""
         self.askers += other.askers
 
     def tell(self, text: str) -> None:
-        """Says something before the block is there."""
+        """Says something. All together that read nothing may take this time."""
+        until = time.monotonic() + TELL_SECONDS
         for asker in self.askers:
             try:
+                asker.settimeout(max(0.0, until - time.monotonic()))
                 asker.sendall(text.encode())
             except OSError:
                 # The asker has gone.
@@ -53,6 +63,10 @@ class Word:
 
     def answer(self, text: str) -> None:
         self.tell(text)
+        self.close()
+
+    def close(self) -> None:
+        """Says nothing more."""
         for asker in self.askers:
             asker.close()
         self.askers = []

@@ -12,27 +12,53 @@ With --preloader it is no worker but the preloader of its generation: it loads t
 """
 import argparse
 import faulthandler
+import grp
 import importlib
 import importlib.util
 import logging
 import os
+import pwd
 import socket
 import sys
 import threading
 import time
 import traceback
 from collections.abc import Callable
-from typing import Any
+from typing import Any, Protocol
 
-from . import VERSION, convention
-from .convention import Hold, Pipes, Unfit, clear_environment, is_known_late, note_late, warn
+from . import VERSION, access_log, convention
+from .access_log import AccessLog
+from .convention import SURVIVAL_LOOK, Pipes, Survival, clear_environment, is_known_late, note_late, open_files, warn
+from .holding import Hold, Unfit
 from .probing import probe, warm
 from .proxies import corrected, proxy_of
 from .preloader import Preloader, Lifeline
 from .titles import set_title
+from .traffic import Counter
 
 # The lifeline of a worker that was forked by a preloader.
 lifeline: Lifeline | None = None
+
+
+class Serving(Protocol):
+    """A server that serves, as the thread sees it that hears the master: waitress's, and that of a preloader for another."""
+
+    is_told_to_finish: bool
+
+    def close(self, address: str) -> None:
+        """Accept no more at an address."""
+
+    def finish(self) -> None:
+        """Accept no more, and end once all is answered."""
+
+    def is_stuck(self, timeout: float) -> bool:
+        """Whether it has answered nothing for so long."""
+
+    def reopen(self) -> None:
+        """Open its log files anew."""
+
+    def settle(self) -> None:
+        """Write down what was answered. The process ends."""
 
 
 class Worker:
@@ -41,9 +67,11 @@ class Worker:
     def __init__(self, given: argparse.Namespace, pipes: Pipes):
         self.given, self.pipes, self.start, self.title = given, pipes, "", "worker"
         # The server, once the application is loaded.
-        self.server: Any = None
+        self.server: Serving | None = None
         self.sockets: dict[str, socket.socket] = {}
         self.hold = Hold()
+        # What counts its answers, where it had to be opened before the worker became another user.
+        self.counter: Counter | None = None
         self.going, self.ready_by, self.was_told_to_quit = threading.Event(), 0.0, False
 
     def converse(self) -> None:
@@ -52,13 +80,32 @@ class Worker:
             while (lines := self.pipes.read(1.0)) is not None:
                 for words in lines:
                     self.obey(*words)
-                self.end_if_stuck()
-                if lifeline and lifeline.is_broken():
-                    leave(1)
+                self.end_if_broken()
+            self.outlive_master()
         except (Unfit, TypeError, IndexError) as fault:
             warn(f"ends: {fault}")
             leave(1)
+        except Exception:
+            # (a worker that no longer hears its master would serve on without one)
+            traceback.print_exc()
+            leave(1)
         self.finish()
+
+    def outlive_master(self) -> None:
+        """Serves on after the death of the master, as long as the service wants it. A worker that finishes, or has not
+        loaded, does not."""
+        survival = Survival(self.given.finish)
+        if not self.server or self.server.is_told_to_finish or not survival.begins():
+            return
+        while not survival.is_over():
+            time.sleep(SURVIVAL_LOOK)
+            self.end_if_broken()
+
+    def end_if_broken(self) -> None:
+        """Ends where the worker no longer serves, or what represents it to its master has ended."""
+        self.end_if_stuck()
+        if lifeline and lifeline.is_broken():
+            leave(1)
 
     def obey(self, word: str, *rest: str) -> None:
         if word == "worker" and len(rest) == 3:
@@ -82,6 +129,8 @@ class Worker:
             self.finish()
         elif word == "usr1":
             reopen_logs()
+            if self.server:
+                self.server.reopen()
         else:
             raise Unfit(f"a line that no master says: {word[:100]}")
 
@@ -106,20 +155,30 @@ class Worker:
         else:
             return
         faulthandler.dump_traceback(all_threads=True)
+        self.settle()
         leave(1)
 
     def serve(self, application: Callable) -> None:
         """Serves up to the end."""
-        from .wsgi_server import Server
+        from .wsgi_server import Requests, Server
 
         if self.pipes.has_master():
-            told = corrected(application, self.given.trusted_proxy)
-            self.server = Server(told, self.sockets, self.given.threads, self.given.keep)
+            given, name = self.given, convention.NAME or ""
+            log = AccessLog(given.access_log, given.access_form) if given.access_log else None
+            requests = Requests(self.counter or Counter(given.threads, convention.FOLDER, name), log, name)
+            told = corrected(application, given.trusted_proxy)
+            server = self.server = Server(told, self.sockets, given.threads, given.keep, requests)
             self.pipes.say("ready")
-            self.server.run(self.given.idle, self.given.finish)
+            server.run(self.given.idle, self.given.finish)
         self.leave()
 
+    def settle(self) -> None:
+        """Writes down what was answered."""
+        if self.server:
+            self.server.settle()
+
     def leave(self) -> None:
+        self.settle()
         if self.was_told_to_quit:
             self.pipes.say("gone")
         leave(0)
@@ -171,11 +230,17 @@ def arguments() -> argparse.Namespace:
     parser.add_argument("--probe", metavar="PATH", type=path_of, help=text)
     text = "believe what this proxy says of its clients: an address, a network, or unix (none)"
     parser.add_argument("--trusted-proxy", action="append", default=[], type=trusted_of, metavar="ADDRESS", help=text)
+    text = "write a line for each answer to this file, which USR1 opens anew (none)"
+    parser.add_argument("--access-log", metavar="FILE", type=path_from_here, help=text)
+    forms, text = access_log.FORMS, "the form of these lines: combined, as of other web servers, or json (combined)"
+    parser.add_argument("--access-form", choices=forms, default=access_log.COMBINED, metavar="FORM", help=text)
     for option, text in (
         ("--after-load", "is called in the preloader, before the first fork"),
         ("--after-fork", "is called in each worker, with its name, such as 1.2.0"),
     ):
         parser.add_argument(option, action="append", default=[], metavar="MODULE:NAME", help=text)
+    parser.add_argument("--user", metavar="NAME", help="who runs the application, once it has its sockets (the same)")
+    parser.add_argument("--group", metavar="NAME", help="its group (that of --user)")
     parser.add_argument("--check", action="store_true", help="only look at the command line, and for waitress")
     parser.add_argument("application", metavar="MODULE:APP")
     given = parser.parse_args()
@@ -183,6 +248,9 @@ def arguments() -> argparse.Namespace:
         parser.error(f"{sys.executable} has no waitress; install python3-waitress, or name another --python")
     if given.threads < 1:
         parser.error("--threads takes a number from 1 on")
+    # (a worker that starts later serves without its log)
+    if given.check and given.access_log and (fault := access_log.fault_of(given.access_log)):
+        parser.error(f"argument --access-log: {fault}")
     return given
 
 
@@ -193,12 +261,33 @@ def path_of(text: str) -> str:
     return text
 
 
+def path_from_here(text: str) -> str:
+    """The path of a file, as it leads from here: the worker changes its folder."""
+    return os.path.abspath(text)
+
+
 def trusted_of(text: str) -> Any:
     """A proxy that is trusted."""
     try:
         return proxy_of(text)
     except ValueError as fault:
         raise argparse.ArgumentTypeError(f"it takes an address, a network or unix: {fault}") from fault
+
+
+def become(user: str | None, group: str | None) -> None:
+    """Becomes another user, before the application is loaded."""
+    found = pwd.getpwnam(user) if user else None
+    if found and found.pw_uid == os.geteuid() and not group:
+        return
+    number = grp.getgrnam(group).gr_gid if group else found.pw_gid if found else os.getgid()
+    open_files()
+    if found:
+        os.initgroups(found.pw_name, number)
+    else:
+        os.setgroups([number])
+    os.setgid(number)
+    if found:
+        os.setuid(found.pw_uid)
 
 
 def prepare(folder: str) -> None:
@@ -264,6 +353,9 @@ def main() -> int:
     clear_environment()
     try:
         if not application:
+            if given.user or given.group:
+                worker.counter = Counter(given.threads, convention.FOLDER, convention.NAME or "")
+                become(given.user, given.group)
             prepare(given.chdir)
             application = loaded(given.application)
             ask(given, application)

@@ -14,9 +14,12 @@ from collections.abc import Callable
 from typing import Any
 
 from waitress import wasyncore
-from waitress.channel import HTTPChannel
+from waitress.channel import ClientDisconnected, HTTPChannel
 from waitress.server import create_server
 from waitress.task import ErrorTask, WSGITask
+
+from .access_log import AccessLog, Answer
+from .traffic import Counter
 
 BACKLOG = 1024
 MOST_CONNECTIONS = 1000
@@ -26,14 +29,19 @@ OF_APPLICATION = 64
 SILENT_SECONDS, NEARLY = 30.0, 0.9
 # The longest pause of the loop, in service and while it finishes.
 PAUSE, SHORT_PAUSE = 1.0, 0.1
+# How long the last lines of an access log may take.
+LOG_SECONDS = 1.0
+# What a client gets that has gone before its answer had begun: nothing. nginx names it so.
+CLIENT_HAS_GONE = 499
 
 
 class Requests:
-    """The requests that are being answered, with the times of their beginnings."""
+    """The requests that are being answered, with the times of their beginnings; and what was answered."""
 
-    def __init__(self):
+    def __init__(self, counter: Counter, log: AccessLog | None, name: str):
         self.begun: dict[int, tuple[float, HTTPChannel]] = {}
         self.is_finishing = False
+        self.counter, self.log, self.name = counter, log, name
 
     def oldest_if_all(self, threads: int) -> float | None:
         """If every thread is at a request: since when the last of them is, or its client has taken something of the answer.
@@ -41,6 +49,30 @@ class Requests:
         all_begun = list(self.begun.values())
         begun = [max(moment, last_sent(channel)) for moment, channel in all_begun if not waits_for_client(channel)]
         return max(begun) if len(begun) >= threads else None
+
+    def note(self, task: Any, request: Any, status: int, size: int, came: float) -> None:
+        """Counts an answer, and has it logged."""
+        seconds = time.monotonic() - came
+        self.counter.note(status, seconds)
+        if not self.log:
+            return
+        known: dict[str, Any] = getattr(task, "environ", None) or {}
+        target = getattr(request, "request_uri", "") or getattr(request, "path", "")
+        self.log.note(Answer(
+            client=known.get("REMOTE_ADDR") or client_of(task.channel), user=str(known.get("REMOTE_USER") or ""),
+            method=getattr(request, "command", None) or "", target=target, version=request.version, status=status,
+            size=size, referer=request.headers.get("REFERER", ""),
+            agent=request.headers.get("USER_AGENT", ""), seconds=seconds, moment=time.time(), worker=self.name,
+        ))
+
+    def write(self, is_last: bool = False) -> None:
+        """Lets the service know what was counted."""
+        self.counter.write(len(self.begun), self.log.lost if self.log else 0, is_last)
+
+
+def client_of(channel: HTTPChannel) -> str:
+    """The address of a client; at a Unix socket it has none."""
+    return str(channel.addr[0]) if isinstance(channel.addr, tuple) else "unix"
 
 
 def channel_of(requests: Requests) -> type:
@@ -50,22 +82,59 @@ def channel_of(requests: Requests) -> type:
         # It is mixed into tasks of waitress, which have the rest.
         request: Any
         channel: Any
+        status: str
+        wrote_header: bool
+        size_of_header = 0
 
         def service(self) -> None:
-            requests.begun[id(self)] = time.monotonic(), self.channel
+            began, before = time.monotonic(), self.channel.sent
+            requests.begun[id(self)] = began, self.channel
+            # (after an application that has failed waitress answers in its place, and knows no request of it)
+            request, came = self.channel.__dict__.pop("failed", (self.request, getattr(self.request, "came", began)))
+            status = 500
             try:
                 super().service()  # type: ignore[misc]
+                status = int(self.status[:3])
+            except ClientDisconnected:
+                status = int(self.status[:3]) if self.wrote_header else CLIENT_HAS_GONE
+                raise
+            except Exception:
+                if not self.wrote_header:
+                    self.channel.failed = request, came
+                raise
             finally:
                 del requests.begun[id(self)]
                 self.channel.has_asked = time.monotonic()
+                if not hasattr(self.channel, "failed"):
+                    size = self.channel.sent - before - self.size_of_header
+                    requests.note(self, request, status, max(0, size), came)
 
         def build_response_header(self) -> bytes:
             if requests.is_finishing:
                 self.request.headers["CONNECTION"] = "close"
-            return super().build_response_header()  # type: ignore[misc]
+            header = super().build_response_header()  # type: ignore[misc]
+            self.size_of_header = len(header)
+            return header
+
+    class Timed(HTTPChannel):
+        """A channel that knows when its requests were there, and how much was answered."""
+
+        sent = 0
+
+        def write_soon(self, data: Any) -> int:
+            size = super().write_soon(data)
+            self.sent += size
+            return size
+
+        def received(self, data: bytes) -> bool:
+            is_heard = super().received(data)
+            now = time.monotonic()
+            for request in list(self.requests):
+                request.__dict__.setdefault("came", now)
+            return is_heard
 
     task, fault = type("Task", (Noted, WSGITask), {}), type("Fault", (Noted, ErrorTask), {})
-    return type("Channel", (HTTPChannel,), {"task_class": task, "error_task_class": fault})
+    return type("Channel", (Timed,), {"task_class": task, "error_task_class": fault})
 
 
 def waits_for_client(channel: HTTPChannel) -> bool:
@@ -87,8 +156,8 @@ def most_connections() -> int:
 class Server:
     """The loop of the main thread. Other threads call `close`, `finish` and `is_stuck`."""
 
-    def __init__(self, application: Callable, sockets: dict[str, socket.socket], threads: int, keep: int):
-        self.requests, self.threads, self.turned = Requests(), threads, time.monotonic()
+    def __init__(self, application: Callable, sockets: dict[str, socket.socket], threads: int, keep: int, requests: Requests):
+        self.requests, self.threads, self.turned = requests, threads, time.monotonic()
         self.lock, self.is_told_to_finish = threading.Lock(), False
         self.map: dict[int, Any] = {}
         self.wanted: list[str] = []
@@ -113,6 +182,7 @@ class Server:
             self.turned = time.monotonic()
             self.act()
             self.drop_slow()
+            self.requests.write()
             if self.is_told_to_finish:
                 deadline = deadline or self.turned + finish
                 if self.has_finished(idle) or self.turned > deadline:
@@ -157,6 +227,15 @@ class Server:
         with self.lock:
             self.wanted += list(self.doors)
         self.trigger.pull_trigger()
+
+    def reopen(self) -> None:
+        if self.requests.log:
+            self.requests.log.reopen()
+
+    def settle(self) -> None:
+        self.requests.write(is_last=True)
+        if self.requests.log:
+            self.requests.log.finish(LOG_SECONDS)
 
     def has_finished(self, idle: float) -> bool:
         """Closes connections that are idle; whether none is open."""

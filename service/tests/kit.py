@@ -2,6 +2,7 @@
 import os
 import pathlib
 import random
+import shutil
 import signal
 import socket
 import subprocess
@@ -47,11 +48,21 @@ def free_address() -> str:
             return "127.0.0.1:%d" % probe.getsockname()[1]
 
 
+def has_ipv6() -> bool:
+    """Whether this machine has an IPv6 loopback."""
+    try:
+        with socket.socket(socket.AF_INET6) as probe:
+            probe.bind(("::1", 0))
+        return True
+    except OSError:
+        return False
+
+
 def is_open(address: str) -> bool:
     """Whether somebody listens at an address."""
     host, _, port = address.rpartition(":")
     try:
-        socket.create_connection((host, int(port)), 5).close()
+        socket.create_connection((host.strip("[]"), int(port)), 5).close()
         return True
     except ConnectionRefusedError:
         return False
@@ -76,18 +87,30 @@ def answer_of(address: str, path: str = "/", seconds: float = 60.0) -> str:
     """The text of an answer, on a connection of its own."""
     host, _, port = address.rpartition(":")
     with socket.create_connection((host, int(port)), seconds) as connection:
-        connection.sendall(f"GET {path} HTTP/1.1\r\nHost: test\r\nConnection: close\r\n\r\n".encode())
+        connection.sendall(f"GET {path} HTTP/1.1\r\nHost: {address}\r\nConnection: close\r\n\r\n".encode())
         with connection.makefile("rb") as got:
             return got.read().decode().partition("\r\n\r\n")[2]
 
 
 def built() -> None:
-    """Compiles the C programs if they are not there, and that of the tests if it is not there or has changed."""
+    """Compiles the C programs if they are not there, and those of the tests if they are not there or have changed; that
+    in Go where the machine has what compiles it."""
     if not (OUT / "prefork-activate").exists():
         subprocess.run([SERVICE / "build"], check=True)
-    page, source = OUT / "page", PROGRAMS / "page.c"
-    if not page.exists() or page.stat().st_mtime < source.stat().st_mtime:
-        subprocess.run(["cc", "-std=gnu11", "-O2", "-o", page, source], check=True)
+    compile_page("page", "page.c", ["cc", "-std=gnu11", "-O2", "-o"])
+    if shutil.which("go"):
+        compile_page("page-go", "page.go", ["go", "build", "-o"])
+
+
+def compile_page(name: str, source: str, compiler: list[str]) -> None:
+    """Compiles a program of the tests if it is not there or older than its source. It is replaced as a whole: others may
+    run it."""
+    page, text = OUT / name, PROGRAMS / source
+    if page.exists() and page.stat().st_mtime >= text.stat().st_mtime:
+        return
+    new, environment = OUT / f".{name}-{os.getpid()}", {**os.environ, "GOCACHE": str(OUT / "go-cache"), "GO111MODULE": "off"}
+    subprocess.run([*compiler, new, text], check=True, env=environment)
+    new.replace(page)
 
 
 class WorkerTest(unittest.TestCase):

@@ -13,7 +13,7 @@ def app(environ, start_response):
     if environ["PATH_INFO"] == "/slow":
         time.sleep(1)
     text = b"version @VERSION@ process %d\\n" % os.getpid()
-    start_response("200 OK", [("Content-Type", "text/plain"), ("Content-Length", str(len(text)))])
+    start_response("@CODE@ Told", [("Content-Type", "text/plain"), ("Content-Length", str(len(text)))])
     return [text]
 """
 FLASK = """import os, time
@@ -21,7 +21,7 @@ from flask import Flask
 app = Flask(__name__)
 @app.get("/")
 def page():
-    return f"version @VERSION@ process {os.getpid()}\\n"
+    return f"version @VERSION@ process {os.getpid()}\\n", @CODE@
 @app.get("/slow")
 def slow():
     time.sleep(1)
@@ -39,12 +39,12 @@ async def app(scope, receive, send):
         await asyncio.sleep(1)
     text = b"version @VERSION@ process %d\\n" % os.getpid()
     headers = [(b"content-type", b"text/plain"), (b"content-length", str(len(text)).encode())]
-    await send({"type": "http.response.start", "status": 200, "headers": headers})
+    await send({"type": "http.response.start", "status": @CODE@, "headers": headers})
     await send({"type": "http.response.body", "body": text})
 """
 # uvicorn closes a connection unheard that it has just accepted when it is told to finish: that has five seconds here,
 # longer than a client may halt.
-UVICORN = """import asyncio, sys
+UVICORN = """import asyncio, os, socket, sys
 import uvicorn
 
 class Server(uvicorn.Server):
@@ -55,30 +55,34 @@ class Server(uvicorn.Server):
         await super().shutdown(sockets)
 
 sys.path.insert(0, "@SITE@")
-Server(uvicorn.Config("app:app", fd=int(sys.argv[1]), log_level="error")).run()
+given = [socket.socket(fileno=3 + at) for at in range(int(os.environ["LISTEN_FDS"]))]
+Server(uvicorn.Config("app:app", log_level="error")).run(sockets=given)
 """
 RACK = """run lambda { |env|
   sleep 1 if env["PATH_INFO"] == "/slow"
-  [200, {"Content-Type" => "text/plain"}, ["version @VERSION@ process #{$$}\\n"]]
+  [@CODE@, {"Content-Type" => "text/plain"}, ["version @VERSION@ process #{$$}\\n"]]
 }
 """
 NODE = """const http = require("http");
-const server = http.createServer((request, response) => {
+let leaving = false;
+const page = (request, response) => {
   const answer = () => {
-    if (server.leaving) response.setHeader("Connection", "close");
+    if (leaving) response.setHeader("Connection", "close");
+    response.statusCode = @CODE@;
     response.end(`version @VERSION@ process ${process.pid}\\n`);
   };
   request.url === "/slow" ? setTimeout(answer, 1000) : answer();
-});
-server.listen({ fd: 3, backlog: 1024 });
-process.on("SIGTERM", () => { server.leaving = true; server.close(() => process.exit(0)); });
+};
+const numbers = [...Array(Number(process.env.LISTEN_FDS)).keys()];
+const servers = numbers.map((at) => http.createServer(page).listen({ fd: 3 + at, backlog: 1024 }));
+process.on("SIGTERM", () => { leaving = true; servers.forEach((server) => server.close()); });
 """
 # Started by root, nginx has another user for its workers, who can't read a temporary folder.
 NGINX = ("user root;\n" if os.geteuid() == 0 else "") + """daemon off; worker_processes 1; pid @ROOM@/nginx.pid; error_log stderr crit;
 events { worker_connections 512; }
 http { access_log off; client_body_temp_path @ROOM@/b; proxy_temp_path @ROOM@/p; fastcgi_temp_path @ROOM@/f;
   uwsgi_temp_path @ROOM@/u; scgi_temp_path @ROOM@/s;
-  server { listen @ADDRESS@; root @SITE@; location = /slow { limit_rate 32k; } } }
+  server { listen @ADDRESS@;@MORE@ root @SITE@; location = /slow { limit_rate 32k; } } }
 """
 LIGHTTPD = """server.document-root = "@SITE@"
 server.port = 1
@@ -87,6 +91,42 @@ index-file.names = ("index.html")
 server.feature-flags = ("server.graceful-shutdown-timeout" => 20)
 $HTTP["url"] == "/slow" { connection.kbytes-per-second = 32 }
 """
+# A pool for each address. Started by root, it keeps that user, who can read a temporary folder. The page says the version
+# of the process that answers, whatever the file has by then.
+FPM_POOL = """[@NAME@]
+listen = @ADDRESS@
+user = root
+pm = static
+pm.max_children = 4
+clear_env = no
+"""
+FPM = "[global]\nerror_log = /dev/null\ndaemonize = no\nprocess_control_timeout = 20\n"
+PHP = """<?php if ($_SERVER["REQUEST_URI"] === "/slow") sleep(1);
+echo "version ", getenv("VERSION"), " process ", getmypid(), "\\n";
+"""
+# A bind for each address is added by the script that starts it. At its stop signal it closes idle connections, as HTTP
+# allows: a client asks again.
+HAPROXY = """global
+  hard-stop-after 25s
+  lua-load @SITE@/page.lua
+defaults
+  mode http
+  timeout connect 5s
+  timeout client 30s
+  timeout server 30s
+frontend site
+  http-request use-service lua.page
+"""
+HAPROXY_PAGE = """core.register_service("page", "http", function(applet)
+  if applet.path == "/slow" then core.msleep(1000) end
+  local text = "version @VERSION@ slow\\n"
+  applet:set_status(@CODE@)
+  applet:add_header("content-length", string.len(text))
+  applet:start_response()
+  applet:send(text)
+end)
+"""
+AFTER, FROM_START = "after", "from the start"
 # A page that takes a second or two at 32 KB a second.
 SLOW_PAGE = "version 1 slow\n" + "x" * 65536
 
@@ -104,19 +144,28 @@ class Setup:
     needed: str
     is_there: Callable[[], bool] = lambda: True
     # Whether it serves each address that it is given, and not the first one alone.
-    takes_all: bool = False
+    takes_all: bool = True
+    # Whether it speaks FastCGI, and not HTTP; the page is app.php then.
+    is_fastcgi: bool = False
+    # When it accepts connections if it is probed: after its probe, or from its start. Nothing if it has no page to probe.
+    probed: str = ""
 
-    def write(self, site: pathlib.Path, version: int) -> None:
-        """Writes the application in a version, each file by a rename."""
-        given = "# $1: {fd}, $2: {address}, $3: {room}"
-        start = f"#!/bin/sh\n{given}\nVERSION=@VERSION@; export VERSION\nexec {self.start}\n"
+    def write(self, site: pathlib.Path, version: int, place: str = "", code: int = 200) -> None:
+        """Writes the application in a version, each file by a rename. It finds its files at a place: the folder itself,
+        if no other one is said. It answers with this status."""
+        given = "# $1: {fd}, $2: {address}, $3: {room}, $4: {address1}, which is empty for one address"
+        start = f"#!/bin/sh\n{given}\nVERSION=@VERSION@ CODE=@CODE@; export VERSION CODE\nexec {self.start}\n"
+        values = {"@VERSION@": str(version), "@CODE@": str(code), "@SITE@": place or str(site)}
         for name, text in {"start": start, **self.files}.items():
-            put(site / name, text.replace("@VERSION@", str(version)).replace("@SITE@", str(site)))
+            for key, value in values.items():
+                text = text.replace(key, value)
+            put(site / name, text)
 
-    def arguments(self, site: pathlib.Path) -> list[str]:
+    def arguments(self, site: pathlib.Path, place: str = "") -> list[str]:
         """The arguments of prefork-serve, without those of the service itself."""
         options = [word.replace("@SITE@", str(site)) for word in self.options]
-        program = ["--", str(site / "start"), "{fd}", "{address}", "{room}"] if self.start else []
+        start = f"{place or site}/start"
+        program = ["--", start, "{fd}", "{address}", "{room}", "{address1}"] if self.start else []
         return [*options, "site.toml", *program]
 
 
@@ -147,43 +196,65 @@ def python_with(*modules: str) -> str | None:
 FLASK_PYTHON, UVICORN_PYTHON = python_with("waitress", "flask"), python_with("uvicorn")
 FLASK_OPTIONS = ["--python", FLASK_PYTHON or "", "--chdir", "@SITE@", "--wsgi", "app:app"]
 GUNICORN_START = "gunicorn --chdir @SITE@ -w 1 -k gthread --threads 4 --log-level error app:app"
-# (nginx.conf is filled in by the script itself: $1 is the address then, and $2 the room)
-NGINX_FILLED = 'sed "s,@ADDRESS@,$1,;s,@ROOM@,$2,g" @SITE@/nginx.conf >"$2/nginx.conf"'
-NGINX_START = f"""sh -c '{NGINX_FILLED} && exec nginx -e stderr -c "$2/nginx.conf"' sh "$2" "$3\""""
+# The socket of a probe is in the room, if there is a probe.
+UNICORN_START = """unicorn -E none -c @SITE@/unicorn.rb -l "$2" ${4:+-l "$4"} $(test -S "$3/probe" && echo "-l $3/probe") \\
+    @SITE@/app.ru"""
+PAGE_START = '@SITE@/page "$1" $(test -S "$3/probe" && echo $(($1 + 1)))'
+PUMA_START = "puma --bind-to-activated-sockets only -q -t 4:4 -e production @SITE@/app.ru"
+# (configurations are filled in by the script itself. nginx finds a folder `.` from where it starts)
+NGINX_START = """sh -c 'sed "s,@ADDRESS@,$1,;s,@MORE@,${3:+ listen $3;},;s,@ROOM@,$2,g" @SITE@/nginx.conf >"$2/nginx.conf" &&
+    exec nginx -p "$(pwd -P)" -e stderr -c "$2/nginx.conf"' sh "$2" "$3" "$4\""""
+FPM_START = """sh -c 'cat @SITE@/fpm.conf >"$2/fpm.conf"; at=0; for address in $1 $3; do at=$((at + 1))
+    sed "s,@NAME@,pool$at,;s,@ADDRESS@,$address," @SITE@/pool.conf >>"$2/fpm.conf"; done
+    exec php-fpm8.2 -R -y "$2/fpm.conf"' sh "$2" "$3" "$4\""""
+HAPROXY_START = """sh -c 'cat @SITE@/haproxy.cfg >"$0/haproxy.cfg"; at=3; while [ $at -lt $((3 + LISTEN_FDS)) ]; do
+    echo "  bind fd@$at" >>"$0/haproxy.cfg"; at=$((at + 1)); done; exec haproxy -db -f "$0/haproxy.cfg"' "$3\""""
+UWSGI_START = """sh -c 'exec uwsgi --plugin python3 --master --need-app --processes 2 --disable-logging --http-socket "fd://3" \\
+    ${2:+--http-socket fd://4} --hook-master-start "unix_signal:15 gracefully_kill_them_all" --chdir "$(pwd -P)/@SITE@" \\
+    --module app:app' sh "$2" "$4\""""
 SETUPS = [
-    Setup("wsgi", FLASK_OPTIONS, "", {"app.py": FLASK}, "app.py", lambda: FLASK_PYTHON is not None, True),
-    Setup("own program, by number", [], f'@SITE@/page "$1"', {}, "page"),
-    Setup("own program, by LISTEN_FDS", ["--ready", "notify"], f"{PYTHON} @SITE@/page.py", {}, "page.py", takes_all=True),
-    Setup("gunicorn", [], GUNICORN_START, {"app.py": WSGI}, "app.py", has("gunicorn"), True),
-    Setup("uvicorn", [], f'{UVICORN_PYTHON} @SITE@/server.py "$1"', {"app.py": ASGI, "server.py": UVICORN}, "app.py",
-          lambda: UVICORN_PYTHON is not None),
-    Setup("unicorn", ["--stop", "QUIT"], 'unicorn -E none -c @SITE@/unicorn.rb -l "$2" @SITE@/app.ru',
-          {"app.ru": RACK, "unicorn.rb": 'worker_processes 2\nlogger Logger.new(File::NULL)\n'}, "app.ru", has("unicorn")),
-    # It closes such a connection too: it is given none.
-    Setup("puma", ["--defer-accept"], "puma --bind-to-activated-sockets only -q -t 4:4 -e production @SITE@/app.ru",
-          {"app.ru": RACK}, "app.ru", has("puma"), True),
-    Setup("node", [], "node @SITE@/app.js", {"app.js": NODE}, "app.js", has("node")),
+    Setup("wsgi", FLASK_OPTIONS, "", {"app.py": FLASK}, "app.py", lambda: FLASK_PYTHON is not None,
+          probed=AFTER),
+    Setup("own program, by number", [], PAGE_START, {}, "page", takes_all=False, probed=AFTER),
+    Setup("own program, by LISTEN_FDS", ["--ready", "notify"], f"{PYTHON} @SITE@/page.py", {}, "page.py"),
+    Setup("gunicorn", [], GUNICORN_START, {"app.py": WSGI}, "app.py", has("gunicorn"), probed=AFTER),
+    Setup("uvicorn", [], f"{UVICORN_PYTHON} @SITE@/server.py", {"app.py": ASGI, "server.py": UVICORN}, "app.py",
+          lambda: UVICORN_PYTHON is not None, probed=AFTER),
+    Setup("unicorn", ["--stop", "QUIT"], UNICORN_START,
+          {"app.ru": RACK, "unicorn.rb": 'worker_processes 2\nlogger Logger.new(File::NULL)\n'}, "app.ru", has("unicorn"),
+          probed=AFTER),
+    # It closes connections that it has not heard from: it is given none.
+    Setup("puma", ["--defer-accept"], PUMA_START, {"app.ru": RACK}, "app.ru", has("puma"), probed=AFTER),
+    Setup("node", [], "node @SITE@/app.js", {"app.js": NODE}, "app.js", has("node"), probed=AFTER),
+    # (it calls the system by itself, so no library can hold it back)
+    Setup("go", [], "@SITE@/page-go", {}, "page-go", has("go"), probed=FROM_START),
     Setup("nginx", ["--stop", "QUIT", "--no-listen-fds", "--env", "NGINX={fds}"],
           NGINX_START, {"nginx.conf": NGINX, "index.html": "version @VERSION@\n", "slow": SLOW_PAGE}, "nginx.conf", has("nginx")),
-    Setup("lighttpd", ["--stop", "INT"], "lighttpd -D -f @SITE@/lighttpd.conf",
-          {"lighttpd.conf": LIGHTTPD, "index.html": "version @VERSION@\n", "slow": SLOW_PAGE}, "lighttpd.conf", has("lighttpd"), True),
+    Setup("php-fpm", ["--stop", "QUIT", "--blocking", "--no-listen-fds", "--env", "FPM_SOCKETS={fpm}"],
+          FPM_START, {"fpm.conf": FPM, "pool.conf": FPM_POOL, "app.php": PHP}, "fpm.conf", has("php-fpm8.2"), is_fastcgi=True),
+    Setup("lighttpd", ["--stop", "INT"], "sh -c 'cd @SITE@ && exec lighttpd -D -f lighttpd.conf'",
+          {"lighttpd.conf": LIGHTTPD.replace('"@SITE@"', 'var.CWD + "/"'), "index.html": "version @VERSION@\n", "slow": SLOW_PAGE},
+          "lighttpd.conf", has("lighttpd")),
+    Setup("haproxy", ["--stop", "USR1"], HAPROXY_START, {"haproxy.cfg": HAPROXY, "page.lua": HAPROXY_PAGE}, "haproxy.cfg",
+          has("haproxy"), probed=AFTER),
+    Setup("uwsgi", ["--no-listen-fds"], UWSGI_START, {"app.py": WSGI}, "app.py", has("uwsgi")),
 ]
 # What guides alone need.
-OTHERS = {"haproxy": has("haproxy"), "uwsgi": has("uwsgi"), "django": lambda: python_with("waitress", "django") is not None}
+OTHERS = {"django": lambda: python_with("waitress", "django") is not None}
 PACKAGES = [
     "python3-waitress", "python3-flask", "gunicorn", "uvicorn", "unicorn", "puma", "nodejs", "nginx-light", "lighttpd",
-    "python3-django", "haproxy", "uwsgi", "uwsgi-plugin-python3",
+    "python3-django", "haproxy", "uwsgi", "uwsgi-plugin-python3", "golang-go", "php-fpm", "openssl",
 ]
 
 
-def lay_out(setup: Setup, site: pathlib.Path, version: int) -> None:
+def lay_out(setup: Setup, site: pathlib.Path, version: int, place: str = "", code: int = 200) -> None:
     """Writes the files of a set-up, those of the repository's own programs too."""
-    site.mkdir(exist_ok=True)
-    for own in (OUT / "page", PROGRAMS / "page.py"):
+    site.mkdir(parents=True, exist_ok=True)
+    for own in (OUT / "page", OUT / "page-go", PROGRAMS / "page.py"):
         if own.name == setup.needed:
             shutil.copy(own, site / ".new")
             (site / ".new").replace(site / own.name)
-    setup.write(site, version)
+    setup.write(site, version, place, code)
 
 
 def break_it(setup: Setup, site: pathlib.Path, how: str) -> None:

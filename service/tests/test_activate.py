@@ -6,7 +6,7 @@ import socket
 import threading
 import unittest
 
-from kit import OUT, PROGRAMS, PYTHON, SERVICE, WorkerTest, answer_of, free_address, is_open, marked, until
+from kit import OUT, PROGRAMS, PYTHON, SERVICE, WorkerTest, answer_of, free_address, has_ipv6, is_open, marked, until
 from prefork_service.conversation import END, NOTHING, Conversation
 
 ACTIVATE, PAGE = OUT / "prefork-activate", OUT / "page"
@@ -91,6 +91,15 @@ class ReadyTest(WorkerTest):
         script = 'test "$A" = "%s 3;4; %s=3,%s=4 {other} $R" -a -d "$R" && exec %s 3 4' % (two, one, two, PAGE)
         values = ("--env", "A={address1} {fds} {fpm} {other} {room}", "--env", "R={room}")
         talk = self.started(ACTIVATE, *values, "--", "sh", "-c", script, addresses=(one, two))
+        self.assertEqual(talk.hear(), "ready")
+
+    @unittest.skipUnless(has_ipv6(), "this machine has no IPv6")
+    def test_php_fpm_has_no_brackets_around_an_ipv6_host(self) -> None:
+        """It knows the socket of `listen = [::1]:80` as ::1:80, and would open another one."""
+        one = free_address()
+        six = f"[::1]:{one.rpartition(':')[2]}"
+        script = 'test "$A" = "%s=3,%s=4 %s" && exec %s 3 4' % (one, six.replace("[", "").replace("]", ""), six, PAGE)
+        talk = self.started(ACTIVATE, "--env", "A={fpm} {address1}", "--", "sh", "-c", script, addresses=(one, six))
         self.assertEqual(talk.hear(), "ready")
 
     def test_a_program_has_the_addresses_of_its_configuration_in_its_order(self) -> None:
@@ -321,10 +330,30 @@ class ProbeTest(WorkerTest):
             pass
 
     def test_an_application_that_answers_with_errors_is_not_ready(self) -> None:
-        script = f"exec {PYTHON} -c \"exec(open('{PROGRAMS / 'page.py'}').read().replace('200 OK', '500 Wrong'))\""
-        talk = self.started(ACTIVATE, "--ready", "probe", "--probe", "/", "--", "sh", "-c", script, addresses=(free_address(),))
+        options = ("--ready", "probe", "--probe", "/", "--env", "CODE=500")
+        talk = self.started(ACTIVATE, *options, "--", *SCRIPT, addresses=(free_address(),))
         # (after three of them, and not when its time is over)
         self.assertEqual((talk.hear(), talk.wait()), (END, 1))
+
+    def test_a_program_accepts_nothing_before_its_probe_is_answered(self) -> None:
+        """The probe waits as long as a file is there. A client that has come before it is answered after it."""
+        held, address, answers = self.room / "held", free_address(), list[str]()
+        options = ("--ready", "probe", "--probe", "/held", "--probe-within", "60")
+        talk = self.started(ACTIVATE, *options, "--", *SCRIPT, addresses=(address,), HELD=str(held))
+        self.assertTrue(until(held.exists))
+        client = threading.Thread(target=lambda: answers.append(answer_of(address)))
+        client.start()
+        self.assertEqual((talk.hear(1.0), answers), (NOTHING, []))
+        held.unlink()
+        self.assertEqual(talk.hear(), "ready")
+        client.join()
+        self.assertTrue(answers[0].startswith("version 1 "), answers)
+        # One whose --env says what it loads is not held back.
+        address = free_address()
+        self.started(ACTIVATE, *options, "--env", "LD_PRELOAD=", "--", *SCRIPT, addresses=(address,), HELD=str(held))
+        self.assertTrue(until(held.exists))
+        self.assertIn("version 1 ", answer_of(address))
+        held.unlink()
 
     def test_a_version_that_was_late_is_not_waited_for_again(self) -> None:
         """A master that upgrades starts several workers, one after another, before it goes back."""

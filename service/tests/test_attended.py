@@ -6,7 +6,7 @@ import time
 import unittest
 
 from kit import BIN, PROGRAMS, built, until
-from prefork_service.questions import ASKS, LOG, state
+from prefork_service.questions import state
 
 UPGRADE = "USR2 attended"
 # Longer than the time between two ticks.
@@ -67,7 +67,9 @@ class AttendedTest(unittest.TestCase):
         self.assertEqual(self.heard("go"), (0, "word go\nanswered 2 go\n"))
         block, asked = sent.communicate(timeout=SECONDS)
         self.assertEqual((sent.returncode, block), (0, f"word {UPGRADE}\ndone cause none pid no-file\n"))
-        self.assertEqual([line.split(": ")[1] for line in asked.splitlines()], ["it asks 1", "it asks 2", "runs now"])
+        # (on a busy machine it tells how far it is, too)
+        told = [line.split(": ")[1] for line in asked.splitlines() if f": {UPGRADE}, for " not in line]
+        self.assertEqual(told, ["it asks 1", "it asks 2", "runs now"])
         self.assertTrue(self.answered().startswith("WINCH\nWINCH\n"))
         self.assertTrue(self.heard()[1].startswith("asks nothing"))
 
@@ -123,12 +125,6 @@ class AttendedTest(unittest.TestCase):
 
 
 class QuestionTest(unittest.TestCase):
-    def test_lines_of_the_log(self) -> None:
-        logged = LOG.fullmatch("[INFO  prefork] asks 2: WINCH or QUIT goes on, HUP goes back")
-        self.assertEqual(ASKS.fullmatch(logged[1])[1], "2")
-        for other in ("asks 3: ..", "asks 1", "HUP: done", "USR2 attended: rolled-back"):
-            self.assertIsNone(ASKS.fullmatch(other))
-
     def test_what_is_said_of_a_service(self) -> None:
         self.assertEqual(state(0, None, 0), "asks nothing\n")
         self.assertEqual(state(0, "tick 7", 0), "asks nothing\n")

@@ -11,7 +11,7 @@ from kit import BIN
 PROGRAM = """
 import os, subprocess, time
 from prefork_service.burying import adopt_orphans, bury_orphans, started
-from prefork_service.status import fields_of
+from prefork_service.processes import fields_of
 def has_ended(process):
     fields = fields_of(process)
     return not fields or fields[0] == "Z"

@@ -1,6 +1,7 @@
 """Commands of generations, and what a worker's launcher does with them."""
 import os
 import pathlib
+import resource
 import selectors
 import subprocess
 import tempfile
@@ -11,10 +12,12 @@ from typing import Any
 
 from kit import BIN, OUT, built, until
 from prefork_service.commands import (
-    EMPTY, HAS_KEYS, HAS_PID, NO_LISTENERS, PID_OF_MASTER, Commands, mistake_of, parted, refusal_of,
+    EMPTY, HAS_KEYS, HAS_PID, NO_LISTENERS, PID_OF_MASTER, Commands, parted,
 )
 from prefork_service.places import SHIM
 from prefork_service.preloading import Preloading
+from prefork_service.recipes import Recipe, Runs, Told, file_of, setup_of
+from prefork_service.refusing import mistake_of, refusal_of
 
 
 def words_of(file: pathlib.Path) -> list[str]:
@@ -24,24 +27,44 @@ def words_of(file: pathlib.Path) -> list[str]:
 class PartedTest(unittest.TestCase):
     def test_the_command_is_taken_out(self) -> None:
         text = 'command = ["a b", "\\"é\\u007f"] # x\nworkers = 2\n[[groups]]\nlisteners = ["127.0.0.1:1"]\nworkers = 1\n'
-        rest, command = parted(text.encode())
-        self.assertEqual(command, ["a b", '"é\x7f'])
+        rest, found = parted(text.encode()), setup_of(text.encode(), Told())
+        self.assertEqual([*found.recipes[0].words], ["a b", '"é\x7f'])
         wanted = tomllib.loads(text)
         del wanted["command"]
         self.assertEqual(tomllib.loads(rest.decode()), wanted)
 
     def test_texts_stay_the_same_text(self) -> None:
         text = b'command = ["a"]\npid = "/tmp/\\u0001\\\\\\"\\u007f\\U0001f600"\n'
-        self.assertEqual(tomllib.loads(parted(text)[0].decode())["pid"], '/tmp/\x01\\"\x7f\U0001f600')
+        self.assertEqual(tomllib.loads(parted(text).decode())["pid"], '/tmp/\x01\\"\x7f\U0001f600')
 
     def test_what_the_master_is_to_refuse_stays_as_it_is(self) -> None:
         wrong = [
-            b"\xff", b"workers =", b"workers = 1", b"command = []", b"command = 1", b'command = [""]',
-            b'command = ["a", 1]', b'command = ["a"]\nworkers = 1.5', b'command = ["a"]\nworkers = 2026-01-01',
+            b"\xff", b"workers =", b"workers = 1", b"command = []", b"command = 1", b'command = [""]', b'command = ["a", 1]',
             b'command = ["\\u0000"]', b'command = ["%s"]' % (b"x" * 256), b"command = [%s]" % b", ".join([b'"a"'] * 17),
+            b"command = " + b"[" * 5000, b"\0", b"\xef\xbb\xbf[[[",
         ]
         for text in wrong:
-            self.assertEqual(parted(text), (text, None), text)
+            self.assertEqual((parted(text), setup_of(text, Told()).recipes), (text, ()), text)
+
+    def test_what_the_master_is_to_refuse_is_refused_without_the_command_too(self) -> None:
+        for text in ('workers = 1.5', 'workers = 2026-01-01', 'workers = 07:30:00', 'workers = [inf, -0.25]'):
+            rest = parted(f'{text}\ncommand = ["a"]\n'.encode()).decode()
+            self.assertEqual(tomllib.loads(rest), tomllib.loads(text), text)
+
+    def test_what_is_for_the_service_is_for_nobody_else(self) -> None:
+        for text in (
+            'workers = 2\n[service]\nwsgi = "a:b"\nready_within = 0.5\n[service.environment]\nKEY = "hunter2"\n',
+            'workers = 2\nservice = { environment = { KEY = "hunter2" } }\n',
+            'workers = 2\n[service]\nwsgi = "a:b"\nenvironment.KEY = "hunter2\n', 'service.environment.KEY = "hunter2\n',
+            '["service"]\nenvironment = { KEY = "hunter2", KEY = "hunter2" }\n', "[service.x\nhunter2",
+        ):
+            rest = parted(text.encode())
+            self.assertNotIn(b"hunter2", rest)
+            try:
+                self.assertEqual(tomllib.loads(rest.decode()), {"workers": 2})
+            except tomllib.TOMLDecodeError:
+                self.assertRaises(tomllib.TOMLDecodeError, tomllib.loads, text)
+        self.assertEqual(parted(b'service = "x"\n'), b'service = "x"\n')
 
 
 class CommandsTest(unittest.TestCase):
@@ -54,8 +77,9 @@ class CommandsTest(unittest.TestCase):
         self.commands = self.made()
         self.commands.begin()
 
-    def made(self, default: list[str] | None = None) -> Commands:
-        return Commands(types.SimpleNamespace(path=self.room), str(self.config), default)
+    def made(self, default: list[str] | None = None, runs: Runs = Runs.PROGRAM) -> Commands:
+        told = Told(tuple(default), runs, tuple(default)) if default else Told()
+        return Commands(types.SimpleNamespace(path=self.room), str(self.config), told)
 
     def configure(self, text: str) -> None:
         self.config.write_text(text)
@@ -155,8 +179,8 @@ class CommandsTest(unittest.TestCase):
     def test_preloaders_have_names_of_their_own(self) -> None:
         """The name of a generation comes again after one that was rolled back. Its preloader does not."""
         self.configure("workers = 1\n")
-        commands = self.commands = self.made(["program"])
-        commands.preloading = Preloading(selectors.DefaultSelector(), types.SimpleNamespace(path=self.room), ["program"], 1.0)
+        commands = self.commands = self.made(["program"], Runs.PRELOADER)
+        commands.preloading = Preloading(selectors.DefaultSelector(), types.SimpleNamespace(path=self.room), 1.0)
         self.addCleanup(commands.preloading.end)
         commands.begin()
 
@@ -226,13 +250,13 @@ class CommandsTest(unittest.TestCase):
         self.commands.accept()
         self.configure("listeners = [")
         later = self.made()
-        self.assertIsNone(later.current)
-        self.assertTrue(later.is_kept())
-        self.assertEqual((later.current, later.now.read_text()), (["one"], '"workers" = 1\n'))
+        self.assertEqual(later.current.recipes, ())
+        self.assertTrue(later.fall_back())
+        self.assertEqual((list(later.current.recipes[0].words), later.now.read_text()), (["one"], '"workers" = 1\n'))
         later.accept()
         self.assertTrue(later.has_changed())
         later.clear()
-        self.assertFalse(self.made().is_kept())
+        self.assertFalse(self.made().fall_back())
 
     def test_a_copy_that_cannot_be_written_ends_nothing(self) -> None:
         self.commands.accepted.mkdir()
@@ -260,14 +284,16 @@ class CommandsTest(unittest.TestCase):
         self.commands.change("1.1")
         self.assertIsNone(self.commands.fault())
 
-    def test_a_key_that_nobody_reads_is_refused(self) -> None:
+    def test_a_key_of_the_service_that_is_wrong_is_refused(self) -> None:
         served = 'listeners = ["127.0.0.1:1"]\n'
-        self.configure(f'{served}[service]\nwsgi = "a:b"\n[service.environment]\nCOLOUR = "blue"\n')
+        self.configure(f'{served}[service]\nwsgi = "a:b"\nthreads = "8"\nthread = 1\n[service.environment]\nCOLOUR = 3\n')
         self.commands.change("1.1")
         report, why = self.commands.fault() or ("", "")
         self.assertEqual(report, HAS_KEYS)
-        self.assertIn("key environment", why)
-        for text in (served, f"{served}[service]\n"):
+        begin = f'{self.config}, line 4: service.threads is "8": a whole number from 1 to 1024 is allowed'
+        self.assertEqual(why, f"{begin}; and 2 more, which prefork-serve --check {self.config} says")
+        self.assertEqual(len(self.commands.faults()), 3)
+        for text in (served, f"{served}[service]\n", f'{served}[service]\nwsgi = "a:b"\n'):
             self.configure(text)
             self.commands.change("1.1")
             self.assertIsNone(self.commands.fault(), text)
@@ -293,6 +319,7 @@ class CommandsTest(unittest.TestCase):
         for refusal, wanted in (
             (f"prefork: config C2\n{file}  unknown key: workrs\n{codes}", "site.toml, line 4: workrs = 1: unknown key: workrs"),
             (f"prefork: config C5 0 A3\n{file}{codes}", "site.toml, line 4: workrs = 1: no port"),
+            (f"prefork: config C5 0 A3\n{file}    Write [::1]:80\n{codes}", "site.toml, line 4: workrs = 1: no port. Write [::1]:80"),
             ("prefork: config C1", ""), ("", ""),
         ):
             self.assertEqual(mistake_of(refusal), wanted)
@@ -345,6 +372,40 @@ class LaunchTest(unittest.TestCase):
             place.mkdir()
             (place / "next").write_bytes(b"PREFORK_ADDRESSES=a b\0sh\0-c\0echo $PREFORK_ADDRESSES $1\0sh\0A=b\0")
             self.assertEqual(self.launched(room, "child", "worker 1.1 0 7\n").stdout, "a b A=b\n")
+
+    def test_sections_are_for_the_workers_of_groups(self) -> None:
+        with tempfile.TemporaryDirectory() as folder:
+            room = pathlib.Path(folder)
+            (room / "commands").mkdir()
+            (room / "reasons").touch()
+            (room / "secret").write_text("hunter2\n\n")
+            said = 'echo "$0 $1|$A|$S|$PWD|$(nice)|$(ulimit -Sn) $(ulimit -Hn)|$PREFORK_ADDRESSES"'
+            recipes = [
+                Recipe(("sh", "-c", said, "one", "\1x"), last=1, variables=(("A", "b\nc"),)),
+                Recipe(("sh", "-c", said, "two", ""), folder=f"{room}/workers", variables=(("A", ""),),
+                       secrets=(("S", f"{room}/secret"),), nice=19, limits=((7, 55, 66),)),
+            ]
+            (room / "workers").mkdir()
+            (room / "commands" / "next").write_bytes(file_of(recipes, [one.words for one in recipes], ["PREFORK_ADDRESSES=a b"]))
+            limits, nice = f"{resource.getrlimit(7)[0]} {resource.getrlimit(7)[1]}", os.getpriority(os.PRIO_PROCESS, 0)
+            for number, wanted in (
+                (0, f"one \1x|b\nc||{os.getcwd()}|{nice}|{limits}|a b\n"), (1, f"one \1x|b\nc||{os.getcwd()}|{nice}|{limits}|a b\n"),
+                (2, f"two ||hunter2|{room}/workers|19|55 66|a b\n"), (1023, f"two ||hunter2|{room}/workers|19|55 66|a b\n"),
+            ):
+                found = self.launched(folder, "child", f"worker 1.1 {number} 7\n")
+                self.assertEqual(found.stdout, wanted, found.stderr)
+            (room / "secret").unlink()
+            self.assertEqual(self.launched(folder, "child", "worker 1.1 2 7\n").returncode, 1)
+            self.assertEqual((room / "reasons").read_text(), f"1.1.2 {room}/secret: No such file or directory\n")
+
+    def test_a_section_that_is_cut_starts_nothing(self) -> None:
+        whole = b"\1workers 4294967295\0\1set A=b\0\1command 2\0echo\0x\0"
+        for cut in (whole[: whole.index(b"echo")], whole[: whole.index(b"x\0")], b"\1workers 0\0\1command 1\0echo\0", b"\1set A=b\0"):
+            with tempfile.TemporaryDirectory() as room:
+                (pathlib.Path(room) / "commands").mkdir()
+                (pathlib.Path(room) / "commands" / "next").write_bytes(cut)
+                found = self.launched(room, "child", "worker 1.1 1 7\n")
+                self.assertEqual((found.returncode, found.stdout), (1, ""), (cut, found))
 
     def test_no_argument_of_a_command_is_cut(self) -> None:
         for words in ([str(number) for number in range(5000)], ["x" * 100_000, "y" * 100_000]):

@@ -16,11 +16,13 @@ SECONDS = 120
 # What raises, by what is done to have it called.
 CALLS = {
     "status": ["door.Door.admit", "door.Door.give", "asking.Asking.hear_asker", "asking.Asking.take_text",
-               "summary.Summary.status", "summary.Summary.looked", "summary.Summary.brief"],
+               "asking.Asking.hand_over", "feed.Feed.hand_over", "feed.Feed.is_behind"],
+    "brief": ["summary.Summary.brief"],
     "signal": ["asking.Asking.hear_signals", "asking.Asking.take_signal", "service.Service.take", "words.Queue.take",
                "words.Queue.next"],
-    "word": ["service.Service.tell_next", "service.Service.has_read", "service.Service.hear_master",
-             "service.Service.end_word", "service.Service.tell_of", "service.Service.notes", "service.Service.conclude",
+    "word": ["service.Service.tell_next", "service.Service.read_again", "service.Service.hear_master",
+             "service.Service.end_word", "service.Service.settle", "service.Service.explain", "service.Service.conclude",
+             "feed.Feed.tell_word", "feed.Feed.tell", "feed.Feed.put", "feed.Feed.flush", "feed.Feed.put_state", "feed.Feed.take",
              "service.Service.begin_word", "commands.Commands.change", "commands.Commands.settle", "commands.Commands.keep_now",
              "commands.Commands.accept", "commands.Commands.forget_others", "chronicle.Chronicle.begin_word",
              "chronicle.Chronicle.end_word", "records.Records.add", "records.Records.write", "keeping.Keeping.settle",
@@ -29,8 +31,9 @@ CALLS = {
     "rest": ["service.Service.pause", "service.Service.hurry", "service.Service.end_late", "door.Door.tend", "door.Door.seconds",
              "keeping.Keeping.hear", "keeping.Keeping.tend", "keeping.Keeping.tell", "chronicle.Chronicle.tend",
              "records.Records.tend", "telling.Telling.tend", "ticks.Ticks.is_due", "ticks.Ticks.tell", "leaving.Leaving.tend",
-             "web.Site.tend", "summary.Summary.line", "watching.Watching.look", "patience.Hanging.tend"],
-    "page": ["web.Site.welcome", "web.Site.hear", "web.Site.answer", "web.Site.say_more", "web.Site.drop"],
+             "summary.Summary.state", "summary.Summary.addresses", "watching.Watching.look", "patience.Hanging.tend", "feed.Feed.tend",
+             "feed.Feed.tell_state", "feed.Feed.hear"],
+    "watch": ["feed.Feed.bury", "feed.Feed.begin", "feed.Feed.tell_again", "feed.Feed.close"],
     "master": ["service.Service.end_master", "service.Service.begin_master", "service.Service.take_master",
                "master.Master.close", "commands.Commands.begin", "chronicle.Chronicle.begin_master",
                "records.Records.begin", "records.Records.forget_old",
@@ -102,6 +105,8 @@ class FaultyTest(unittest.TestCase):
         return found
 
     def killed(self, name: str, number: int = signal.SIGKILL) -> None:
+        """Signals the processes of this name, once there are some: one that has ended may be started again later."""
+        self.assertTrue(until(lambda: bool(self.children(name)), SECONDS), name)
         for process in self.children(name):
             os.kill(process, number)
 
@@ -114,7 +119,8 @@ class FaultsTest(FaultyTest):
         return {
             "status": self.ask_status, "word": lambda: self.asked("HUP"), "rest": lambda: None,
             "errors": lambda: ((self.blocks / "USR1").write_text("done\n"), self.asked("USR1")),
-            "signal": lambda: self.serve.send_signal(signal.SIGTTIN), "page": self.visit,
+            "signal": lambda: self.serve.send_signal(signal.SIGTTIN), "brief": lambda: self.asked("status brief"),
+            "watch": lambda: self.killed("prefork-watch"),
             "master": lambda: self.killed("supervise"), "keeper": lambda: self.killed("prefork-keeper"),
             "cut": self.cut,
         }
@@ -134,12 +140,6 @@ class FaultsTest(FaultyTest):
     def ask_status(self) -> None:
         """Asks until the call has raised: what was found out a moment ago is told again."""
         until(lambda: self.asked("status") == "?" or not (self.faults / "raise").exists(), SECONDS)
-
-    def visit(self) -> None:
-        try:
-            answer_of(self.page, "/metrics", SECONDS)
-        except OSError:
-            pass
 
     def has_raised(self, name: str) -> bool:
         """Waits until a call has raised, and that was told."""
@@ -169,19 +169,20 @@ class FaultsTest(FaultyTest):
         config = self.room / "run" / "config.toml"
         self.assertTrue(until(lambda: '"workers" = 7' in config.read_text(), SECONDS))
 
-    def test_a_visitor_that_fails_again_and_again_is_dropped(self) -> None:
+    def test_prefork_watch_whose_signs_raise_again_and_again_is_replaced(self) -> None:
+        first = self.children("prefork-watch")
         (self.faults / "always").touch()
-        (self.faults / "raise").write_text("web.Site.hear")
-        host, _, port = self.page.rpartition(":")
-        with socket.create_connection((host, int(port)), SECONDS) as client:
-            client.sendall(b"GET / HTTP/1.1\r\n\r\n")
-            try:
-                self.assertEqual(client.recv(100), b"")
-            except ConnectionResetError:
-                pass
-        self.assertTrue(until(lambda: "times at one source" in self.said.read_text(), SECONDS))
+        (self.faults / "raise").write_text("feed.Feed.hear")
+        self.assertTrue(until(lambda: "hear has failed 5 times" in self.said.read_text(), SECONDS))
         (self.faults / "raise").unlink()
-        self.assertIn("prefork_workers", answer_of(self.page, "/metrics", SECONDS))
+        self.assertTrue(until(lambda: self.children("prefork-watch") not in ([], first), SECONDS))
+        self.assertTrue(until(lambda: "prefork_workers" in self.visit(), SECONDS), self.said.read_text()[-4000:])
+
+    def visit(self) -> str:
+        try:
+            return answer_of(self.page, "/metrics", SECONDS)
+        except OSError:
+            return ""
 
     def test_a_master_whose_words_raise_again_and_again_is_replaced(self) -> None:
         first = self.children("supervise")

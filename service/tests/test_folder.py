@@ -4,8 +4,10 @@ import pathlib
 import subprocess
 import tempfile
 import unittest
+from unittest import mock
 
-from prefork_service.folder import LONGEST_PATH, MARK, Folder, plain, text_of
+from prefork_service.claiming import LONGEST_PATH, ClaimedFolder as Folder
+from prefork_service.folder import MARK, plain, text_of
 
 
 class FolderTest(unittest.TestCase):
@@ -17,6 +19,7 @@ class FolderTest(unittest.TestCase):
     def made(self) -> Folder:
         folder = Folder(str(self.path))
         self.addCleanup(lambda: os.close(folder.lock))
+        folder.claim()
         return folder
 
     def left(self) -> list[str]:
@@ -24,7 +27,9 @@ class FolderTest(unittest.TestCase):
 
     def refusal(self) -> str:
         with self.assertRaises(SystemExit) as refused:
-            Folder(str(self.path))
+            folder = Folder(str(self.path))
+            self.addCleanup(lambda: os.close(folder.lock))
+            folder.claim()
         return str(refused.exception)
 
     def test_a_folder_of_somebody_else_is_refused_and_stays_as_it_is(self) -> None:
@@ -40,11 +45,30 @@ class FolderTest(unittest.TestCase):
     def test_what_a_service_did_not_make_is_never_removed(self) -> None:
         folder = self.made()
         (self.path / "workers" / "__init__.py").write_text("")
-        (self.path / "workers" / "1.1.0").write_text("1\n")
+        for name in ("1.1.0", "1.1.1.ended"):
+            (self.path / "workers" / name).write_text("1\n")
         (self.path / "notes").write_text("")
         folder.clear()
         self.assertEqual(self.left(), [MARK, "notes", "workers"])
         self.assertEqual([file.name for file in folder.workers.iterdir()], ["__init__.py"])
+
+    def test_a_start_that_is_stopped_while_it_takes_the_folder_leaves_nothing(self) -> None:
+        with mock.patch.object(Folder, "write_own", side_effect=SystemExit):
+            folder = Folder(str(self.path))
+            self.addCleanup(lambda: os.close(folder.lock))
+            (self.path / "ctl.sock").touch()
+            (self.path / "workers").mkdir()
+            self.assertRaises(SystemExit, folder.claim)
+        folder.pid.write_text("1\n")
+        folder.clear()
+        self.assertEqual(self.left(), [MARK])
+
+    def test_what_another_service_has_in_its_folder_stays(self) -> None:
+        self.made()
+        other = Folder(str(self.path))
+        self.addCleanup(lambda: os.close(other.lock))
+        other.clear()
+        self.assertEqual(self.left(), [MARK, "serve.pid", "traffic", "workers"])
 
     def test_the_folder_of_an_earlier_version_is_taken(self) -> None:
         (self.path / "records" / "1").mkdir(parents=True)
@@ -56,6 +80,7 @@ class FolderTest(unittest.TestCase):
 
     def test_a_file_named_workers_is_refused(self) -> None:
         folder = Folder(str(self.path))
+        folder.claim()
         folder.clear()
         os.close(folder.lock)
         self.path.joinpath("workers").symlink_to("/")
@@ -70,7 +95,7 @@ class FolderTest(unittest.TestCase):
         self.assertFalse(folder.mend())
         subprocess.run(["rm", "-r", self.path], check=True)
         self.assertTrue(folder.mend())
-        self.assertEqual(self.left(), [MARK, "reasons", "serve.pid", "workers"])
+        self.assertEqual(self.left(), [MARK, "reasons", "serve.pid", "traffic", "workers"])
         self.assertEqual(self.path.stat().st_mode & 0o777, 0o700)
         self.assertFalse(Folder.is_claimed(type("Other", (), {"lock": os.open(self.path, os.O_RDONLY)})()))  # type: ignore
 

@@ -10,7 +10,7 @@ import unittest
 from typing import Any
 
 from kit import BIN, free_address, until
-from prefork_service.sockets import DEFER_SECONDS
+from prefork_service.opening import DEFER_SECONDS
 
 
 class KeeperTest(unittest.TestCase):

@@ -4,6 +4,7 @@ import pathlib
 import selectors
 import signal
 import socket
+import subprocess
 import tempfile
 import threading
 import time
@@ -13,8 +14,9 @@ from collections.abc import Callable
 from unittest import mock
 
 from kit import free_address
-from prefork_service import keeper, keeping
-from prefork_service.convention import Unfit
+from prefork_service import core, inheriting, keeper, keeping
+from prefork_service.holding import Unfit
+from prefork_service.inheriting import heritage_at
 from prefork_service.keeper import Kept
 from prefork_service.keeping import Keeping
 
@@ -43,15 +45,15 @@ class KeepingTest(unittest.TestCase):
         room = tempfile.TemporaryDirectory(prefix="keeping-")
         self.addCleanup(room.cleanup)
         self.room = pathlib.Path(room.name)
-        lock = os.open(self.room, os.O_RDONLY)
-        self.addCleanup(os.close, lock)
-        self.folder = types.SimpleNamespace(path=self.room, keeper=self.room / "keeper.sock", lock=lock)
+        self.folder = types.SimpleNamespace(path=self.room, keeper=self.room / "keeper.sock")
         self.events = selectors.DefaultSelector()
         self.addCleanup(self.events.close)
+        # What workers hold their sockets by.
+        self.holds: list[socket.socket] = []
         pauses = mock.patch.object(keeping, "PAUSE_SECONDS", 0.1)
         pauses.start()
         self.addCleanup(pauses.stop)
-        self.keeping = Keeping(self.events, self.folder, [], {})
+        self.keeping = Keeping(self.events, self.folder, [], {}, {})
         self.addCleanup(self.end)
 
     def end(self) -> None:
@@ -98,14 +100,15 @@ class KeepingTest(unittest.TestCase):
             hold.send(str(self.room / f"site{number}").encode())
             self.assertEqual(hold.recv(200), b"ok")
         self.assertTrue(self.turn(lambda: len(self.keeping.held) == 2))
-        self.assertFalse(self.keeping.has_lost())
+        self.assertFalse(self.keeping.take_lost())
         holds[0].close()
         self.assertTrue(self.turn(lambda: self.keeping.lost))
-        self.assertEqual([self.keeping.has_lost() for _ in range(2)], [True, False])
+        self.assertEqual([self.keeping.take_lost() for _ in range(2)], [True, False])
 
     def given(self, address: str) -> socket.socket:
         """The socket of an address, as a worker gets it."""
         hold = socket.socket(socket.AF_UNIX, socket.SOCK_SEQPACKET)
+        self.holds.append(hold)
         self.addCleanup(hold.close)
         hold.settimeout(60)
         hold.connect(str(self.folder.keeper))
@@ -154,7 +157,7 @@ class KeepingTest(unittest.TestCase):
         with socket.create_server(("127.0.0.1", 0)) as unit:
             address = "127.0.0.1:%d" % unit.getsockname()[1]
             self.keeping.end()
-            self.keeping = Keeping(self.events, self.folder, [], {address: unit.dup()})
+            self.keeping = Keeping(self.events, self.folder, [], {address: unit.dup()}, {})
             self.keeping.drop_others([])
             self.keeping.seal()
             connected(address).close()
@@ -219,6 +222,75 @@ class KeepingTest(unittest.TestCase):
             self.assertTrue(self.turn(lambda: self.is_another(process)))
             self.assertEqual([self.asked(place) for place in places], before)
 
+    def serve_is_killed(self) -> subprocess.Popen:
+        """prefork-serve goes without a word; the keeper that it leaves."""
+        self.assertTrue(self.turn(lambda: not self.keeping.owes))
+        self.events.unregister(self.keeping.channel)
+        self.keeping.channel.close()
+        for one in self.keeping.held.values():
+            one.close()
+        self.keeping.held.clear()
+        left, self.keeping.process = self.keeping.process, None
+        self.addCleanup(left.kill)
+        return left
+
+    def next_one(self, heritage: inheriting.Heritage) -> None:
+        """The keeping of the next prefork-serve, with what it was left."""
+        self.keeping = Keeping(self.events, self.folder, [], {}, heritage.sockets)
+        core.end_earlier(heritage.heir())
+        heritage.connection.detach()
+
+    def test_a_killed_service_leaves_its_sockets_to_the_next_one(self) -> None:
+        places = [free_address(), str(self.room / "site.sock")]
+        workers = [self.given(place) for place in places]
+        inodes = {place: os.fstat(one.fileno()).st_ino for place, one in zip(places, workers)}
+        self.assertTrue(self.turn(lambda: len(self.keeping.held) == 2))
+        # As long as it runs nobody else has them.
+        with mock.patch.object(inheriting, "SEEN_SECONDS", 0.0):
+            self.assertEqual(heritage_at(self.folder.keeper).sockets, {})
+        left = self.serve_is_killed()
+        # A start that fails takes nothing away, and no holder need be there while it has them.
+        failed = heritage_at(self.folder.keeper)
+        self.assertEqual(set(failed.sockets), set(places))
+        inheriting.close_all(failed.sockets)
+        failed.connection.close()
+        heritage = heritage_at(self.folder.keeper)
+        for hold in self.holds:
+            hold.close()
+        with connected(places[0]) as waits:
+            self.next_one(heritage)
+            self.assertEqual(left.wait(60), 0)
+            self.assertEqual({place: self.asked(place) for place in places}, {place: ("ok", inodes[place]) for place in places})
+            workers[0].accept()[0].close()
+            self.assertEqual(waits.recv(1), b"")
+
+    def test_the_keeper_of_a_killed_service_ends_with_the_last_worker(self) -> None:
+        path = str(self.room / "site.sock")
+        self.given(path)
+        self.assertTrue(self.turn(lambda: self.keeping.held))
+        left = self.serve_is_killed()
+        with self.assertRaises(subprocess.TimeoutExpired):
+            left.wait(1.0)
+        connected(path).close()
+        for hold in self.holds:
+            hold.close()
+        self.assertEqual((left.wait(60), os.path.exists(path)), (0, False))
+        self.keeping.door.close()
+        self.assertEqual(heritage_at(self.folder.keeper).sockets, {})
+
+    def test_an_address_that_the_next_service_does_not_name_refuses(self) -> None:
+        stays, dropped = free_address(), free_address()
+        listener = self.given(dropped)
+        self.given(stays)
+        self.assertTrue(self.turn(lambda: len(self.keeping.held) == 2))
+        self.serve_is_killed()
+        heritage = heritage_at(self.folder.keeper)
+        self.assertEqual(set(heritage.take([stays, "127.0.0.1:1"], [])), {stays})
+        self.assertRaises(ConnectionRefusedError, connected, dropped)
+        self.next_one(heritage)
+        connected(stays).close()
+        listener.close()
+
     def test_who_asks_while_no_keeper_runs_waits(self) -> None:
         place = free_address()
         before = self.asked(place)
@@ -278,12 +350,9 @@ class KeepingTest(unittest.TestCase):
         place = self.room / "site.sock"
         self.asked(str(place))
         self.assertTrue(self.turn(lambda: self.keeping.held))
-        process = self.keeping.process
-        self.events.unregister(self.keeping.channel)
-        self.keeping.channel.close()
-        self.assertEqual(process.wait(60), 0)
+        process = self.killed()
+        self.assertTrue(self.turn(lambda: self.is_another(process)))
         self.assertTrue(place.exists())
-        self.keeping.begin()
         self.keeping.end()
         self.assertFalse(place.exists())
 

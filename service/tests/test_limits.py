@@ -7,14 +7,18 @@ import unittest
 from unittest import mock
 
 from prefork_service import limits as told
-from prefork_service.limits import MOST, end_seconds, killed_by, known, limits_of
-from prefork_service.options import arguments
+from prefork_service.bounds import end_seconds
+from prefork_service.limits import MOST, answer_seconds, known, limits_of
+from prefork_service.options import arguments, seconds_given
+from prefork_service.recipes import Recipe, Runs
 
 
 class LimitsTest(unittest.TestCase):
-    def limits(self, *words: str) -> list[str]:
-        """Those of a service whose workers have an adapter."""
-        return limits_of(arguments([*words, "a.toml", "--", "p"]))
+    def limits(self, *words: str, runs: Runs = Runs.PROGRAM) -> list[str]:
+        """Those of a service whose workers have an adapter, or none."""
+        given = arguments([*words, "a.toml", *(["--", "p"] if runs is Runs.PROGRAM else [])])
+        recipe = Recipe(("p",), runs, ready_within=seconds_given(given.ready_within), finish=seconds_given(given.finish))
+        return limits_of(answer_seconds(given.answer_within, None), recipe.seconds(), runs.has_adapter)
 
     def test_what_a_master_is_told(self) -> None:
         self.assertEqual(self.limits(), ["--answer-within", "60"])
@@ -34,8 +38,12 @@ class LimitsTest(unittest.TestCase):
         for words, ready in (((), []), (("--ready-within", "3"), ["3"]), (("--finish", "0.5"), ["1"]),
                              (("--ready-within", "3", "--finish", "7.5"), ["8"]), (("--finish", "900"), ["900"])):
             wanted = ["--answer-within", "60", *(["--ready-within", *ready] if ready else [])]
-            self.assertEqual(limits_of(arguments([*words, "a.toml"])), wanted)
-        self.assertEqual(limits_of(arguments(["--answer-within", "0", "--finish", "7", "a.toml"])), [])
+            self.assertEqual(self.limits(*words, runs=Runs.COMMAND), wanted)
+        self.assertEqual(self.limits("--answer-within", "0", "--finish", "7", runs=Runs.COMMAND), [])
+
+    def test_the_command_line_goes_before_the_file(self) -> None:
+        for told, in_file, wanted in ((None, None, 60), (None, 9, 9), (0, 9, 0), (5, None, 5), (None, 0, 0)):
+            self.assertEqual(answer_seconds(told, in_file), wanted)
 
     def test_how_long_a_worker_may_take_to_end(self) -> None:
         for limits, wanted in (([], 0), (["--answer-within", "60"], 480), (["--answer-within", "2", "--ready-within", "5"], 5)):
@@ -61,13 +69,6 @@ class LimitsTest(unittest.TestCase):
                     self.assertEqual(known(str(program), limits), wanted, script)
                 self.assertEqual(known(str(program), []), [])
         self.assertEqual(known("/nonexistent", limits), [])
-
-    def test_whom_it_has_killed(self) -> None:
-        worker = "killed worker 1.2 3, process 45: no room in its input within 60 s"
-        self.assertEqual(killed_by(worker), ("1.2.3", "killed by its master: no room in its input within 60 s"))
-        master = "killed master 2, process 45: no answer within 3840 s"
-        self.assertEqual(killed_by(master), ("adopt", "killed by its master: no answer within 3840 s"))
-        self.assertIsNone(killed_by("HUP: done"))
 
 
 if __name__ == "__main__":

@@ -3,7 +3,8 @@ import unittest
 from unittest import mock
 
 from prefork_service import needs
-from prefork_service.needs import addresses_of, groups_of, needs_of, shortages
+from prefork_service.named import addresses_of, groups_of
+from prefork_service.needs import needs_of, shortages
 
 SITE = b'listeners = ["127.0.0.1:1", "127.0.0.1:2", "127.0.0.1:3", "127.0.0.1:4"]\nworkers = 200\n'
 

@@ -69,12 +69,28 @@ class OptionsTest(unittest.TestCase):
         said = self.refused("--ready", "notify", "a.toml")
         self.assertTrue(said.endswith("--ready is an option of a PROGRAM or --wsgi, and there is none"), said)
 
-    def test_the_program_that_is_looked_for(self) -> None:
-        for words, command, wanted in (
-            (["a.toml", "--", "p", "x"], None, "p"), (["a.toml", "--", "p"], ["own", "child"], "own"), (["a.toml"], None, None),
-            (["--env", "PATH=/x", "a.toml", "--", "p"], None, None), (["--env", "A=PATH=", "a.toml", "--", "p"], None, "p"),
+    @unittest.skipUnless(PYTHON_WITH_WAITRESS, "no Python with waitress")
+    def test_an_access_log(self) -> None:
+        """Its path is that of who types it, wherever workers start."""
+        start = ["--python", PYTHON_WITH_WAITRESS, "--wsgi", "m:a"]
+        given = self.command(*start, "--chdir", "/", "--access-log", "access.log", "--access-form", "json", "a.toml")
+        self.assertEqual(given[2:], ["--access-log", os.path.join(os.getcwd(), "access.log"), "--access-form", "json", "m:a"])
+        for wrong, why in (
+            (["--access-log", "/nonexist/a.log"], "argument --access-log: /nonexist: No such file or directory"),
+            (["--access-log", "/"], "argument --access-log: /: it is a folder"),
+            (["--access-form", "common"], "argument --access-form: invalid choice: 'common' (choose from 'combined', 'json')"),
         ):
-            self.assertEqual(program_of(arguments(words), command), wanted, words)
+            said = self.refused(*start, *wrong, "a.toml")
+            self.assertTrue(said.endswith(f"prefork-serve: error: {why}"), said)
+        said = self.refused("--access-log", "x", "a.toml", "--", "true")
+        self.assertTrue(said.endswith("--access-log is an option of --wsgi, and there is none"), said)
+
+    def test_the_program_that_is_looked_for(self) -> None:
+        for words, wanted in (
+            (["a.toml", "--", "p", "x"], "p"), (["a.toml"], None), (["--env", "PATH=/x", "a.toml", "--", "p"], None),
+            (["--env", "A=PATH=", "a.toml", "--", "p"], "p"),
+        ):
+            self.assertEqual(program_of(arguments(words)), wanted, words)
 
     def test_where_workers_start(self) -> None:
         with tempfile.TemporaryDirectory() as folder:

@@ -6,7 +6,7 @@ import time
 import unittest
 
 from kit import until
-from prefork_service.chronicle import Done
+from prefork_service.done import Done
 from prefork_service.page import MOST_LINES, NextPlan, drawn, masters_list, said, workers_table
 from test_metrics import STATUS
 

@@ -14,7 +14,7 @@ from kit import clock_ahead, until
 from prefork_service import patience
 from prefork_service.master import Master
 from prefork_service.patience import MARGIN, MOST_TURN, Patience
-from prefork_service.records import blocks_of
+from prefork_service.certifying import blocks_of
 from test_faults import SECONDS, FaultyTest
 
 LIMITS = ["--answer-within", "3", "--ready-within", "60"]

@@ -14,8 +14,9 @@ from typing import Any
 
 from kit import BIN, WorkerTest, answer_of, free_address, until
 from prefork_service.conversation import END
-from prefork_service.status import fields_of
 from prefork_service.preloading import Preloading
+from prefork_service.processes import fields_of
+from prefork_service.recipes import Recipe, Runs
 from test_wsgi import PYTHON
 
 APPLICATION = """import os, time
@@ -45,10 +46,11 @@ class PreloadingTest(WorkerTest):
         self.ends, self.preloading = False, None  # type: ignore[assignment]
 
     def begun(self, *options: str, application: str = "app") -> None:
-        command = [str(PYTHON), str(BIN / "prefork-wsgi"), "--chdir", str(self.room), *options, "--preloader", application]
+        command = (str(PYTHON), str(BIN / "prefork-wsgi"), "--chdir", str(self.room), *options, "--preloader", application)
         events = selectors.DefaultSelector()
-        self.preloading = Preloading(events, types.SimpleNamespace(path=self.room), command, 5.0 if options[:1] == ("--ready-within",) else 30.0)
-        self.word = self.preloading.words(False)
+        seconds = 5.0 if options[:1] == ("--ready-within",) else 30.0
+        self.preloading = Preloading(events, types.SimpleNamespace(path=self.room), seconds)
+        self.word = self.preloading.words(False, 0, Recipe(command, Runs.PRELOADED))
         waked, self.wake = os.pipe()
         events.register(waked, selectors.EVENT_READ, lambda number: os.read(number, 1))
         self.thread = threading.Thread(target=self.loop, args=(events,))
@@ -81,10 +83,10 @@ class PreloadingTest(WorkerTest):
         self.begun()
         talks = [self.worker(number) for number in range(4)]
         self.assertEqual([talk.hear() for talk, _ in talks], ["ready"] * 4)
-        preloader = self.preloading.now.process.pid
+        preloader = self.preloading.now[0].process.pid
         processes = [self.process_at(address) for _, address in talks]
         self.assertEqual({int(fields_of(process)[1]) for process in processes}, {preloader})
-        self.assertEqual(self.preloading.now.starts, 1)
+        self.assertEqual(self.preloading.now[0].starts, 1)
         # (they are all told the same first line)
         for process in processes:
             self.assertEqual(pathlib.Path(f"/proc/{process}/comm").read_text(), "worker 1.1.0\n")
@@ -120,14 +122,14 @@ class PreloadingTest(WorkerTest):
         self.begun()
         talk, address = self.worker()
         self.assertEqual(talk.hear(), "ready")
-        process, preloader = self.process_at(address), self.preloading.now.process.pid
+        process, preloader = self.process_at(address), self.preloading.now[0].process.pid
         os.kill(preloader, signal.SIGKILL)
         self.assertTrue(until(lambda: not runs(preloader)))
         talk.say("ping")
         self.assertEqual((talk.hear(), self.process_at(address)), ("pong", process))
         other, other_address = self.worker(1)
         self.assertEqual(other.hear(), "ready")
-        self.assertNotEqual(self.preloading.now.process.pid, preloader)
+        self.assertNotEqual(self.preloading.now[0].process.pid, preloader)
         self.assertNotEqual(self.process_at(other_address), process)
         # The worker that has lost its preloader still ends with its shim, and its shim with it.
         talk.process.kill()
@@ -137,11 +139,11 @@ class PreloadingTest(WorkerTest):
         self.begun()
         talk, _ = self.worker()
         self.assertEqual(talk.hear(), "ready")
-        preloader = self.preloading.now.process.pid
+        preloader = self.preloading.now[0].process.pid
         os.kill(preloader, signal.SIGSTOP)
         other, _ = self.worker(1)
         self.assertEqual(other.hear(30), "ready")
-        self.assertNotEqual(self.preloading.now.process.pid, preloader)
+        self.assertNotEqual(self.preloading.now[0].process.pid, preloader)
 
     def test_an_application_that_does_not_load(self) -> None:
         (self.room / "app.py").write_text("1 / 0")
@@ -151,7 +153,7 @@ class PreloadingTest(WorkerTest):
         self.assertEqual([talk.wait() for talk in talks], [1] * 3)
         for number in range(3):
             self.assertIn(f"1.1.{number} app: ZeroDivisionError: division by zero\n", self.reasons())
-        self.assertEqual(self.preloading.now.starts, 1)
+        self.assertEqual(self.preloading.now[0].starts, 1)
         # Mended, the next worker has it loaded.
         (self.room / "app.py").write_text(APPLICATION)
         talk, _ = self.worker()
@@ -183,7 +185,7 @@ class PreloadingTest(WorkerTest):
         self.begun()
         talk, address = self.worker()
         self.assertEqual(talk.hear(), "ready")
-        old, process = self.preloading.now, self.process_at(address)
+        old, process = self.preloading.now[0], self.process_at(address)
         self.finish()
         preloader = old.process.pid
         # It stays for its worker, and forks no other one.
@@ -230,7 +232,7 @@ class PreloadingTest(WorkerTest):
         talks = [self.worker(number) for number in range(2)]
         self.assertEqual([talk.hear() for talk, _ in talks], ["ready"] * 2)
         notes = [line.split() for line in (self.room / "notes").read_text().splitlines()]
-        self.assertEqual(notes[0], ["loaded", str(self.preloading.now.process.pid)])
+        self.assertEqual(notes[0], ["loaded", str(self.preloading.now[0].process.pid)])
         wanted = sorted([f"1.1.{at}", str(self.process_at(address))] for at, (_, address) in enumerate(talks))
         self.assertEqual(sorted(notes[1:]), wanted)
 

@@ -5,7 +5,7 @@ import unittest
 from unittest import mock
 
 from prefork_service import probing
-from prefork_service.convention import Unfit
+from prefork_service.holding import Unfit
 
 
 class Application:

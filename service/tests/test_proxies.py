@@ -45,11 +45,15 @@ class ProxiesTest(unittest.TestCase):
 
     def test_the_host_and_the_port(self) -> None:
         for host, scheme, wanted in (
-            ("a:81", "http", ("a", "81")), ("a", "http", ("a", "80")), ("[::1]", "https", ("::1", "443")),
-            ("[::1]:9", "https", ("::1", "9")), ("a:x", "https", ("a", "443")), ("a", "gopher", ("a", "80")), ("", "https", ("127.0.0.1", "8080")),
+            ("a:81", "http", ("a", "81")), ("a", "http", ("a", "80")), ("[::1]", "https", ("[::1]", "443")),
+            ("[::1]:9", "https", ("[::1]", "9")), ("a:x", "https", ("a", "443")), ("a", "gopher", ("a", "80")), ("", "https", ("127.0.0.1", "8080")),
         ):
             found = told(["127.0.0.1"], HTTP_HOST=host, HTTP_X_FORWARDED_PROTO=scheme)
             self.assertEqual((found["SERVER_NAME"], found["SERVER_PORT"]), wanted, host)
+
+    def test_an_ipv6_server_has_brackets_and_a_client_has_none(self) -> None:
+        found = told([], "::1", SERVER_NAME="::1")
+        self.assertEqual((found["SERVER_NAME"], found["REMOTE_ADDR"]), ("[::1]", "::1"))
 
     def test_a_unix_socket_has_no_path_for_a_port(self) -> None:
         found = told([], "localhost", "/run/site.sock")

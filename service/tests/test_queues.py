@@ -2,17 +2,21 @@
 import pathlib
 import socket
 import subprocess
+import sys
 import tempfile
 import time
 import unittest
 from unittest import mock
 
-from kit import clock_ahead, until
+from kit import PROGRAMS, clock_ahead, until
 from prefork_service import measures
 from prefork_service.measures import Measures, processor_seconds_of
 from prefork_service.queues import queues_of
+from prefork_service.sockets import inode_of
 from prefork_service.status import shown_queue
 from prefork_service.top import drawn, shares
+
+CROWD = 5000
 
 
 class QueueTest(unittest.TestCase):
@@ -32,12 +36,28 @@ class QueueTest(unittest.TestCase):
             for _ in range(20):
                 self.clients.append(socket.socket(socket.AF_UNIX))
                 self.clients[-1].connect(path)
-            wanted = [{"address": "t", "waiting": 30, "most": 50, "dropped": 0}, {"address": "u", "waiting": 20, "most": 40, "dropped": 0}]
-            self.assertTrue(until(lambda: queues_of({"u": unix, "t": tcp}) == wanted), queues_of({"u": unix, "t": tcp}))
-            self.assertEqual(shown_queue(wanted[0]), "queue       t: 30 of at most 50 connections wait")
+            held = {path: inode_of(unix), "t": inode_of(tcp)}
+            wanted = [{"address": path, "waiting": 20, "most": 40, "dropped": 0}, {"address": "t", "waiting": 30, "most": 50, "dropped": 0}]
+            self.assertTrue(until(lambda: queues_of(held) == wanted), queues_of(held))
+            self.assertEqual(shown_queue(wanted[1]), "queue       t: 30 of at most 50 connections wait")
             tcp.accept()[0].close()
-            self.assertEqual(queues_of({"t": tcp})[0]["waiting"], 29)
-        self.assertEqual(queues_of({"t": tcp}), [])
+            self.assertEqual(queues_of({"t": inode_of(tcp)})[0]["waiting"], 29)
+        self.assertEqual(queues_of({"t": held["t"], path: held[path]}), [])
+
+    def test_five_thousand_connections(self) -> None:
+        """In a network of its own, where that is allowed; else as many as the system lets wait."""
+        most = int(pathlib.Path("/proc/sys/net/core/somaxconn").read_text())
+        own = ["unshare", "--net", "sh", "-c", f'ip link set lo up && echo {2 * CROWD} >/proc/sys/net/core/somaxconn && exec "$@"', "sh"]
+        try:
+            is_own = not subprocess.run([*own, "true"], capture_output=True).returncode
+        except OSError:
+            is_own = False
+        count = CROWD if is_own else min(CROWD, most)
+        if count < CROWD:
+            print(f"{count} connections wait in place of {CROWD}: the system allows no more, and no network of its own")
+        command = [*(own if is_own else []), sys.executable, PROGRAMS / "crowd.py", str(count)]
+        found = subprocess.run(command, capture_output=True, text=True, timeout=120)
+        self.assertEqual(found.stdout, f"tcp {count} of {count}, 0 dropped\nunix {count} of {count}, 0 dropped\n", found.stderr)
 
     def test_what_a_full_queue_has_dropped(self) -> None:
         with socket.socket() as tcp:
@@ -47,7 +67,7 @@ class QueueTest(unittest.TestCase):
                 self.clients.append(socket.socket())
                 self.clients[-1].setblocking(False)
                 self.clients[-1].connect_ex(tcp.getsockname())
-            self.assertTrue(until(lambda: queues_of({"t": tcp})[0]["dropped"] > 0))
+            self.assertTrue(until(lambda: queues_of({"t": inode_of(tcp)})[0]["dropped"] > 0))
 
 
 class MeasuresTest(unittest.TestCase):

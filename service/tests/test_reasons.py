@@ -5,7 +5,8 @@ import unittest
 from unittest import mock
 
 from prefork_service import places
-from prefork_service.reasons import UNKNOWN, Reasons, cause_of, explained, is_plain
+from prefork_service.explaining import UNKNOWN, explained
+from prefork_service.reasons import Reasons
 
 BACK = "rolled-back cause 2 pid no-file\n"
 
@@ -63,23 +64,18 @@ class ReasonsTest(unittest.TestCase):
                 self.assertIn("no process or descriptor left", explained(block(line), {})[0])
 
     def test_many_failed_starts_start_one_process(self) -> None:
-        """The loop waits for it, and a tick of a big service can fail to start hundreds of workers."""
+        """Nobody is answered meanwhile, and a tick of a big service can fail to start hundreds of workers."""
         failed = block(*(f"{number} m1 fork 1.2 {number} : again" for number in range(1, 201)))
-        with mock.patch("prefork_service.reasons.subprocess.run") as run:
+        with mock.patch("prefork_service.explaining.subprocess.run") as run:
             self.assertEqual(len(explained(failed, {})), 1)
         self.assertEqual(run.call_count, 1)
 
     def test_plain_calls_need_no_reason(self) -> None:
-        for line in ("1 m1 open 127.0.0.1:80 : opened 4", "2 m1 fork 1.2 0 fds 3-4 : forked", "3 m1 census 1.2 : counted 0-2",
-                     "4 m1 await-gone 1.1 0 : gone", "5 m2 leave : ok", "6 m1 ask 1 : go", "word HUP", "7 m2 usr1 2.6 0 : ok"):
-            self.assertTrue(is_plain(line), line)
+        plain = ("1 m1 open 127.0.0.1:80 : opened 4", "2 m1 fork 1.2 0 fds 3-4 : forked", "3 m1 census 1.2 : counted 0-2",
+                 "4 m1 await-gone 1.1 0 : gone", "5 m2 leave : ok", "6 m1 ask 1 : go", "7 m2 usr1 2.6 0 : ok")
+        self.assertEqual(explained(block(*plain), {}), [])
         for line in ("1 m1 open 127.0.0.1:80 : in-use", "2 m1 fork 1.2 0 fds 3-4 : again", "6 m1 ask 1 : back"):
-            self.assertFalse(is_plain(line), line)
-
-    def test_the_call_that_a_report_names(self) -> None:
-        lines = ("1 m1 fork 1.2 0 : forked", "2 m1 await-ready 1.2 0 : gone", "20 m1 kill 1.2 0 : ok")
-        self.assertEqual(cause_of(block(*lines)), lines[1])
-        self.assertIsNone(cause_of("word HUP\ndone cause none pid no-file\n"))
+            self.assertEqual(len(explained(block(line), {})), 1, line)
 
 
 if __name__ == "__main__":

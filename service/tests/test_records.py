@@ -5,7 +5,8 @@ import tempfile
 import unittest
 from unittest import mock
 
-from prefork_service.records import Records, blocks_of, files_of, is_quiet, masters_in
+from prefork_service.certifying import blocks_of
+from prefork_service.records import Records, files_of, is_quiet, masters_in
 
 DONE = "done cause none pid no-file\n"
 START = f"word tick 0\n1 m1 fork 1.1 0 : forked\n2 m1 await-ready 1.1 0 : ready\n3 m1 census 1.1 : counted 0\n{DONE}"
@@ -55,11 +56,11 @@ class RecordsTest(unittest.TestCase):
         self.assertEqual(self.written(), tick(0))
 
     def test_which_ticks_are_quiet(self) -> None:
-        self.assertTrue(is_quiet(["nothing"]))
-        self.assertTrue(is_quiet(["1 m1 census 1.1 : counted 0-2", "done cause none pid no-file"]))
-        self.assertFalse(is_quiet(["1 m1 census 1.1 : counted 0-2", "degraded target 1 cause 1 pid no-file"]))
-        self.assertFalse(is_quiet(["1 m1 fork 1.1 0 : forked", "done cause none pid no-file"]))
-        self.assertFalse(is_quiet(["refused W5"]))
+        self.assertTrue(is_quiet(tick(5, "nothing\n")))
+        self.assertTrue(is_quiet(tick(5, "1 m1 census 1.1 : counted 0-2\ndone cause none pid no-file\n")))
+        self.assertFalse(is_quiet(tick(5, "1 m1 census 1.1 : counted 0-2\ndegraded target 1 cause 1 pid no-file\n")))
+        self.assertFalse(is_quiet(tick(5, "1 m1 fork 1.1 0 : forked\ndone cause none pid no-file\n")))
+        self.assertFalse(is_quiet(tick(5, "refused W5\n")))
 
     def test_ticks_that_end_alike_are_written_twice(self) -> None:
         self.take(START, *(tick(moment, SHORT) for moment in range(1, 9)))
@@ -108,6 +109,21 @@ class RecordsTest(unittest.TestCase):
         later = Records(self.room / "records", self.room / "blocks", 32 << 20)
         later.begin(b"workers = 1\n")
         self.assertEqual(later.folder().name, "102")
+
+    def test_files_of_others_are_passed_over(self) -> None:
+        """A copy beside the parts, and a file that has the number of a master."""
+        self.take(START)
+        (self.room / "records" / "1" / "blocks.bak").write_text("")
+        (self.room / "records" / "1" / "blocks.1.bak").write_text("")
+        (self.room / "records" / "7").write_text("")
+        (self.room / "records" / "notes").mkdir()
+        self.records.begin_part()
+        self.take(HUP)
+        self.begin()
+        self.take(START)
+        self.assertEqual(self.written(), START)
+        self.assertEqual(sorted(folder.name for folder in masters_in(self.room / "records")), ["1", "2"])
+        self.assertTrue((self.room / "records" / "1" / "blocks.bak").exists())
 
     def test_what_cannot_be_written_waits_and_is_said_once(self) -> None:
         with mock.patch("prefork_service.writing.say") as said:

@@ -1,4 +1,5 @@
 """What a status says."""
+import errno
 import os
 import pathlib
 import subprocess
@@ -8,18 +9,16 @@ import unittest
 from unittest import mock
 
 from kit import PYTHON, until
+from prefork_service.counted import Record, forget, started_workers
+from prefork_service.processes import descends, masters_of
 from prefork_service.status import (
-    Record, others_of, age_of, descends, forget, masters_of, numbers_of, shown, started_workers, workers_of,
+    age_of, others_of, shown, workers_of,
 )
 
 BLOCK = "word HUP\n1 m1 census 1.1 : counted 0-2\n2 m1 census 1.2 : counted 0-1,3\ndone cause none pid no-file\n"
 
 
 class RecordTest(unittest.TestCase):
-    def test_the_numbers_of_a_census(self) -> None:
-        for text, wanted in (("0-2,5", [0, 1, 2, 5]), ("none", []), ("7", [7])):
-            self.assertEqual(numbers_of(text), wanted)
-
     def test_the_last_census(self) -> None:
         record = Record()
         record.note(BLOCK)
@@ -105,10 +104,35 @@ class FilesTest(unittest.TestCase):
         ended.wait()
         self.ended = f"{ended.pid}\n"
 
+    def test_that_of_a_worker_of_which_the_system_cannot_be_asked_stays(self) -> None:
+        """Where descriptors have run out for a moment, say."""
+        running, read = subprocess.Popen(["sleep", "60"]), pathlib.Path.read_text
+        self.addCleanup(running.wait)
+        self.addCleanup(running.kill)
+        self.file.write_text(f"{running.pid}\n")
+
+        def read_text(path: pathlib.Path, *given: str) -> str:
+            if str(path).startswith("/proc/"):
+                raise OSError(errno.EMFILE, "Too many open files")
+            return read(path, *given)
+
+        with mock.patch.object(pathlib.Path, "read_text", read_text):
+            self.assertEqual(started_workers(self.place), {("1.2", 0): running.pid})
+        self.assertEqual(started_workers(self.place), {("1.2", 0): running.pid})
+
     def test_that_of_a_worker_that_has_ended_is_removed(self) -> None:
         self.file.write_text(self.ended)
         self.assertEqual(started_workers(self.place), {})
         self.assertEqual(list(self.place.iterdir()), [])
+
+    def test_what_no_worker_has_written_is_none(self) -> None:
+        (self.place / "1.2.1").mkdir()
+        (self.place / "1.2.2").write_bytes(b"\xff\xfe\0")
+        (self.place / "notes").write_text("of somebody")
+        self.assertEqual(started_workers(self.place), {})
+        self.assertEqual(sorted(file.name for file in self.place.iterdir()), ["1.2.1", "1.2.2", "notes"])
+        for place in ("missing", "notes"):
+            self.assertEqual(started_workers(self.place / place), {})
 
     def test_that_of_the_next_worker_stays(self) -> None:
         """It is written after the file was read, and before it is removed."""
@@ -121,7 +145,7 @@ class FilesTest(unittest.TestCase):
             return False
 
         self.file.write_text(self.ended)
-        with mock.patch("prefork_service.status.descends", written_meanwhile):
+        with mock.patch("prefork_service.counted.descends", written_meanwhile):
             self.assertEqual(started_workers(self.place), {})
         self.assertEqual(started_workers(self.place), {("1.2", 0): running.pid})
 

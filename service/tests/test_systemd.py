@@ -10,7 +10,7 @@ from unittest import mock
 from kit import PYTHON, SERVICE
 from prefork_service.systemd import Watchdog, notify, store, unstore
 
-SHOWS = "from prefork_service.systemd import inherited; print(sorted(inherited()))"
+SHOWS = "from prefork_service.inheriting import of_systemd; print(sorted(of_systemd()))"
 STARTS = 'exec 3<&"$1" 4<&"$2" 5<&"$3"; LISTEN_PID=${4:-$$} LISTEN_FDS=3 exec "$5" -c "$6"'
 
 

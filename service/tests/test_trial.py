@@ -37,9 +37,9 @@ class TrialTest(unittest.TestCase):
     def tried(self, *command: str) -> tuple[list[str], list[str]]:
         """The notes and the block of a trial."""
         code = "import sys; from prefork_service import trial; sys.exit(trial.main(sys.argv[1:]))"
-        given = [str(self.config), str(self.room), "30", "--", *command]
+        given, text = [str(self.config), str(self.room), "30"], "".join(f"{word}\0" for word in command)
         environment = {**os.environ, "PYTHONPATH": str(SERVICE), "PREFORK_LOG": "named"}
-        found = subprocess.run([PYTHON, "-c", code, *given], env=environment, capture_output=True, text=True, timeout=SECONDS)
+        found = subprocess.run([PYTHON, "-c", code, *given], input=text, env=environment, capture_output=True, text=True, timeout=SECONDS)
         self.assertEqual(found.returncode, 0, found.stderr)
         lines = found.stdout.splitlines()
         return [line[5:] for line in lines if line.startswith("note ")], [line for line in lines if not line.startswith("note ")]

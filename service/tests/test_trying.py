@@ -4,6 +4,7 @@ import random
 import subprocess
 import tempfile
 import unittest
+from collections.abc import Callable
 
 from kit import OUT, built
 from prefork_service.state import News, whole_of
@@ -55,6 +56,8 @@ class TryingTest(unittest.TestCase):
         self.trying, self.master = Trying(self.place, random.Random(seed)), Master(self.place, 4)
         self.ticks: list[float] = []
         self.told = 0.0
+        # Why each worker ends that does not start.
+        self.reason_of: Callable[[int], str] = lambda number: REASON
 
     def look(self, now: float, is_lost: bool = False) -> None:
         """What the loop of the service does each half second."""
@@ -65,7 +68,7 @@ class TryingTest(unittest.TestCase):
         self.ticks.append(now)
         self.trying.begin_tick(now)
         block = f"word tick {int(now)}\n{self.master.tick(now)}"
-        self.trying.note(block, {f"1.1.{number}": REASON for number in range(4)}, now)
+        self.trying.note(block, {f"1.1.{number}": self.reason_of(number) for number in range(self.master.wanted)}, now)
         self.trying.forget_others(self.master.wanted, sorted(self.master.running))
 
     def test_the_pauses(self) -> None:
@@ -89,6 +92,46 @@ class TryingTest(unittest.TestCase):
         self.assertEqual({number for number, moment in self.master.starts if moment > 10}, {0, 1, 2, 3})
         gaps = [after - before for before, after in zip(self.ticks, self.ticks[1:])]
         self.assertLessEqual(max(gaps), MOST_SECONDS + 0.5, self.says)
+
+    def test_a_crash_loop_for_reasons_of_which_no_two_are_the_same(self) -> None:
+        """Each worker then waits for itself; all together they have few starts all the same, however many they are."""
+        chance = random.Random(self.says)
+        self.reason_of = lambda number: "no database " + "".join(chance.choice("abcdef") for _ in range(9))
+        for wanted in (4, 40):
+            self.trying.unmark()
+            self.trying, self.master, self.told, self.ticks = Trying(self.place, chance), Master(self.place, wanted), 0.0, []
+            now = 1.0
+            while now < 601:
+                self.look(now)
+                now += 0.5
+            again = len(self.master.starts) - wanted
+            self.assertLessEqual(again, 56, f"{self.says}, {wanted} workers")
+            self.assertGreater(again, 40, f"{self.says}, {wanted} workers")
+            # No tick is told for nothing.
+            self.assertLessEqual(len(self.ticks), 60, self.says)
+            self.assertEqual(self.trying.total, len(self.master.starts), self.says)
+            # Each has its turn.
+            late = {number for number, moment in self.master.starts if moment > 20}
+            self.assertGreaterEqual(len(late), min(wanted, 30), self.says)
+            # Once they can start they do, within a minute.
+            self.master.sound, began = set(range(wanted)), now
+            while len(self.master.running) < wanted and now < began + 200:
+                self.look(now)
+                now += 0.5
+            self.assertLess(now, began + MOST_SECONDS + 20, f"{self.says}, {wanted} workers")
+
+    def test_when_the_next_try_is(self) -> None:
+        self.reason_of = lambda number: "abcd"[number]
+        now = 1.0
+        while now < 100:
+            self.look(now)
+            now += 0.5
+        told = [one["due"] - now for one in self.trying.as_json(now)]
+        before = len(self.master.starts)
+        while len(self.master.starts) == before:
+            self.look(now)
+            now += 0.5
+        self.assertAlmostEqual(100 + min(told), now, delta=1.0, msg=self.says)
 
     def test_once_one_is_ready_all_are_tried(self) -> None:
         for now in (1.0, 3.0, 6.0):

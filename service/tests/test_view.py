@@ -4,7 +4,7 @@ import re
 import unittest
 
 from prefork_service import live, view
-from prefork_service.chronicle import Done
+from prefork_service.done import Done
 from prefork_service.sentences import on_its_way, sentence
 from prefork_service.stations import BACK, PLANS, shown_stations
 from prefork_service.words import START
@@ -116,7 +116,7 @@ class ViewTest(unittest.TestCase):
         said = read(self.shown(queues=[queue], workers=[worker, {**worker, "memory": None}])).said
         self.assertIn("3 of at most 128 connections wait, 5 were dropped", said)
         self.assertIn("memory of all workers: 41 MB", said)
-        self.assertNotIn("Load", read(self.shown(queues=[], workers=[])).said)
+        self.assertNotIn("Load", read(self.shown(queues=[], workers=[], requests=None)).said)
 
     def test_a_question_says_what_to_type(self) -> None:
         said = read(self.shown(state="changes", line="changes: USR2 attended", doing="USR2 attended", question=1)).said

@@ -12,7 +12,7 @@ import tomllib
 import unittest
 from typing import Any
 
-from kit import BIN, PROGRAMS, PYTHON, answer_of, built, free_address, until
+from kit import BIN, PROGRAMS, PYTHON, answer_of, built, free_address, is_open, until
 from prefork_service.hooks import EVENTS
 
 SECONDS = 60
@@ -47,6 +47,12 @@ class Systemd:
             end.sendto(b"", str(self.place))
         self.thread.join()
         self.told.close()
+
+
+def is_heard(path: pathlib.Path) -> bool:
+    """Whether a process listens at the path of a Unix socket."""
+    with socket.socket(socket.AF_UNIX) as asker:
+        return not asker.connect_ex(str(path))
 
 
 class WholeTest(unittest.TestCase):
@@ -202,8 +208,14 @@ class WholeTest(unittest.TestCase):
         self.environment["WORKERS"] = "0"
         (self.blocks / "tick").write_text(NONE)
         command = [BIN / "prefork-serve", "--prefork", PROGRAMS / "master.py", "site.toml"]
-        found = subprocess.run(command, cwd=self.room, env=self.environment, capture_output=True, text=True, timeout=SECONDS)
+        systemd = Systemd(self.room / "notify")
+        self.addCleanup(systemd.close)
+        environment = {**self.environment, "NOTIFY_SOCKET": str(systemd.place)}
+        found = subprocess.run(command, cwd=self.room, env=environment, capture_output=True, text=True, timeout=SECONDS)
         self.assertEqual(found.returncode, 1)
+        # A unit that was ready for a moment would have started well.
+        systemd.comes("STOPPING=1")
+        self.assertNotIn("READY=1", systemd.said)
         self.assertIn("prefork-serve: no worker has started: workers 0, 1 have failed 2 times, last: await-ready: gone\n", found.stderr)
         self.start("--keep-trying")
         self.assertTrue(until(lambda: self.status()["state"] == "short"))
@@ -310,13 +322,52 @@ class WholeTest(unittest.TestCase):
         self.end()
         self.assertFalse(file.exists())
 
+    def watch(self) -> int:
+        """The process of prefork-watch, if it runs."""
+        for text in pathlib.Path(f"/proc/{self.serve.pid}/task/{self.serve.pid}/children").read_text().split():
+            try:
+                if "prefork-watch" in pathlib.Path(f"/proc/{text}/cmdline").read_text():
+                    return int(text)
+            except OSError:
+                continue
+        return 0
+
+    def test_prefork_watch_hangs_or_is_killed_and_words_are_carried_out(self) -> None:
+        seen = free_address()
+        self.start("--page", seen)
+        (self.blocks / "HUP").write_text(BACK)
+        first = self.watch()
+        os.kill(first, signal.SIGSTOP)
+        found = self.ctl("HUP")
+        self.assertEqual((found.returncode, found.stdout), (3, f"word HUP\n{BACK}"))
+        found = self.ctl("status")
+        self.assertEqual(found.returncode, 0, found.stderr)
+        self.assertIn("state       serves: wanted 2, runs 2\n", found.stdout)
+        self.assertIn("prefork-ctl: this is the status in short: prefork-watch, which tells it in full, does not answer just now\n", found.stderr)
+        os.kill(first, signal.SIGKILL)
+        self.assertTrue(until(lambda: self.watch() not in (0, first), SECONDS), self.said.read_text())
+        self.assertTrue(until(lambda: "rolled-back" in self.page(seen), SECONDS))
+        last = self.status()["last"]
+        self.assertEqual((last["word"], last["cause"]), ("HUP", "2 m1 await-ready 1.2 0 : gone"))
+        self.serve.kill()
+        self.serve.wait(SECONDS)
+        self.assertTrue(until(lambda: not is_open(seen), SECONDS))
+
+    def page(self, address: str) -> str:
+        try:
+            return self.answer(address, "/")
+        except OSError:
+            return ""
+
     def test_what_is_removed_of_the_folder_is_made_again(self) -> None:
         self.start()
         for removed in ("ctl.sock", "keeper.sock", "workers", "serve.pid", "commands", "config.toml", "."):
             place = self.folder / removed
             with self.subTest(removed):
                 before = self.status()["keeper"]["process"]
-                subprocess.run(["rm", "-rf", place if removed != "." else self.folder], check=True)
+                remove = ["rm", "-rf", place if removed != "." else self.folder]
+                # (the service may make a file again meanwhile)
+                self.assertTrue(until(lambda: not subprocess.run(remove, stderr=subprocess.DEVNULL).returncode, SECONDS))
                 self.assertTrue(until(lambda: place.exists() or removed == "config.toml", SECONDS), self.said.read_text())
                 self.assertTrue(until(lambda: self.ctl("HUP").returncode == 0, SECONDS), self.said.read_text())
                 if removed == "keeper.sock":
@@ -328,6 +379,17 @@ class WholeTest(unittest.TestCase):
         self.assertEqual(self.folder.stat().st_mode & 0o777, 0o700)
         self.assertEqual(self.ctl("QUIT").returncode, 0)
         self.assertEqual(self.serve.wait(SECONDS), 0)
+
+    def test_files_of_workers_that_have_ended_go_though_nobody_asks(self) -> None:
+        self.start()
+        ended = subprocess.Popen(["true"])
+        ended.wait()
+        files = [self.folder / "workers" / f"1.{number}.0" for number in range(2, 32)]
+        for file in files:
+            file.write_text(f"{ended.pid}\n")
+        self.serve.send_signal(signal.SIGHUP)
+        self.assertTrue(until(lambda: not any(file.exists() for file in files), SECONDS))
+        self.assertTrue((self.folder / "workers" / "1.1.0").exists())
 
     def kill_master(self) -> None:
         starts = self.status()["master_restarts"]
@@ -353,11 +415,15 @@ class WholeTest(unittest.TestCase):
         self.end()
         self.assertFalse(page.exists())
         self.start("--page", str(page))
+        self.assertTrue(until(page.exists, SECONDS))
         self.serve.kill()
         self.serve.wait(SECONDS)
-        self.assertTrue(page.exists())
+        if not page.exists():
+            # (prefork-watch has seen the end in time, and was not killed)
+            with socket.socket(socket.AF_UNIX) as stale:
+                stale.bind(str(page))
         self.start("--page", str(page))
-        self.assertTrue(page.exists())
+        self.assertTrue(until(lambda: is_heard(page), SECONDS))
 
     def test_signals_that_were_blocked_are_heard(self) -> None:
         command = [PYTHON, "-c", "import os, signal, sys; signal.pthread_sigmask(signal.SIG_BLOCK, range(1, 32)); "

@@ -1,4 +1,5 @@
 """prefork-wsgi: a worker that serves a WSGI application."""
+import json
 import pathlib
 import socket
 import subprocess
@@ -8,6 +9,7 @@ import unittest
 
 from kit import BIN, PROGRAMS, WorkerTest, answer_of, free_address, until
 from prefork_service.conversation import END
+from prefork_service.traffic import Traffic
 
 
 def python_with_waitress() -> str | None:
@@ -62,6 +64,56 @@ class WsgiTest(WorkerTest):
         talk.say("ping", "tick 12345", "usr1", "close 127.0.0.1:1", "ping", "quit")
         self.assertEqual([talk.hear() for _ in range(5)], ["pong", "beat 12345 7", "pong", "gone", END])
         self.assertEqual(talk.wait(), 0)
+
+    def test_it_counts_and_logs_what_it_answers(self) -> None:
+        """Each answer is counted and logged once: also that of an application that fails, and of what is no request."""
+        (self.room / "traffic").mkdir()
+        log, held = self.room / "access.log", self.room / "held"
+        options = ("--access-log", str(log), "--access-form", "json", "--threads", "3", "--trusted-proxy", "127.0.0.1")
+        talk, address = self.begun(*options, HELD=str(held), PREFORK_FOLDER=str(self.room), PREFORK_WORKER="1.1.0")
+        self.assertEqual(talk.hear(), "ready")
+        traffic = Traffic(self.room / "traffic")
+
+        def counted() -> dict[str, int]:
+            traffic.look()
+            return traffic.of(talk.process.pid) or {}
+        with kept(address) as one:
+            bodies = []
+            one.sendall(b"GET /held HTTP/1.1\r\nHost: test\r\nConnection: close\r\n\r\n")
+            self.assertTrue(until(lambda: counted() == {"count": 0, "busy": 1, "threads": 3}), counted())
+            held.unlink()
+            bodies.append(received(one).partition(b"\r\n\r\n")[2])
+        for request in (
+            b"GET / HTTP/1.1\r\nHost: test\r\nX-Forwarded-For: 10.1.2.3\r\nUser-Agent: me\r\nConnection: close\r\n\r\n",
+            b"HEAD / HTTP/1.1\r\nHost: test\r\nConnection: close\r\n\r\n", b"GET /bad HTTP/1.1\r\nContent-Length: x\r\n\r\n",
+            b"GET /raise?x=1 HTTP/1.1\r\nHost: test\r\nConnection: close\r\n\r\n",
+            b"GET /pieces HTTP/1.1\r\nHost: test\r\nConnection: close\r\n\r\n",
+        ):
+            with kept(address) as one, one.makefile("rb") as got:
+                one.sendall(request)
+                bodies.append(got.read().partition(b"\r\n\r\n")[2])
+        self.assertTrue(until(lambda: counted() == {"count": 6, "busy": 0, "threads": 3}), counted())
+        moved = self.room / "moved"
+        log.rename(moved)
+        talk.say("usr1", "ping")
+        self.assertEqual(talk.hear(), "pong")
+        lines = [json.loads(line) for line in moved.read_text().splitlines()]
+        told = [(line["method"], line["target"], line["status"], line["client"]) for line in lines]
+        self.assertEqual(told, [
+            ("GET", "/held", 200, "127.0.0.1"), ("GET", "/", 200, "10.1.2.3"), ("HEAD", "/", 200, "127.0.0.1"),
+            ("GET", "/bad", 400, "127.0.0.1"), ("GET", "/raise?x=1", 500, "127.0.0.1"), ("GET", "/pieces", 200, "127.0.0.1"),
+        ])
+        self.assertEqual({line["worker"] for line in lines}, {"1.1.0"})
+        self.assertEqual([line["size"] for line in lines], [len(body) for body in bodies])
+        self.assertEqual(lines[1]["agent"], "me")
+        self.assertGreater(lines[0]["seconds"], lines[1]["seconds"])
+        answer_of(address)
+        talk.say("quit")
+        self.assertEqual((talk.hear(), talk.wait()), ("gone", 0))
+        # The last lines are there, and the last counts.
+        self.assertEqual(len(log.read_text().splitlines()), 1)
+        traffic.look()
+        self.assertEqual((traffic.told() or {})["classes"], {"1xx": 0, "2xx": 5, "3xx": 0, "4xx": 1, "5xx": 1})
 
     def test_nothing_of_the_application_reaches_the_master(self) -> None:
         talk, address = self.begun(PREFORK_FOLDER="x", NOTIFY_SOCKET="y")

@@ -1,7 +1,8 @@
-"""python3 tests/reader [--seed S] [--runs N] [--lives | --plans] [--stop] PROGRAM
+"""python3 tests/reader [--seed S] [--runs N] [--lives | --deaths | --plans] [--stop] PROGRAM
 
 Carries words out by this port of the definitions and by a program, from random starts, and prints what differs. With
---lives it looks at whole lives, with deaths of masters, and --runs is how many. The last line has the counts as JSON.
+--lives it looks at whole lives, with deaths of masters, and --runs is how many; with --deaths, at words whose masters die
+at each call. The last line has the counts as JSON.
 With --stop it ends at the first difference. With --plans it runs plans that nobody wants, by this port alone, each in
 at most --runs accepted runs, until the claim that is to refuse it is false of one, and prints what was found.
 """
@@ -16,14 +17,16 @@ from collections import Counter
 sys.dont_write_bytecode = True
 sys.path.insert(0, str(pathlib.Path(__file__).resolve().parent.parent))
 
+from reader.dying import Dying
 from reader.living import Living
 from reader.trial import Trial
 from reader.wrong_plans import WRONG_PLANS, look_for
 
+Kind = type[Trial] | type[Living] | type[Dying]
 MOST_TOLD = 5
 
 
-def compare(what: type[Trial] | type[Living], program: str, seed: str, runs: int, stops: bool) -> Counter[str]:
+def compare(what: Kind, program: str, seed: str, runs: int, stops: bool) -> Counter[str]:
     """Compares until this number of runs, or of lives, was carried out."""
     dice, counts = random.Random(seed), Counter({"runs": 0, "differing": 0})
     with tempfile.TemporaryDirectory() as room:
@@ -49,13 +52,14 @@ def main() -> int:
     parser.add_argument("--seed", default="1")
     parser.add_argument("--runs", type=int, default=1000)
     parser.add_argument("--lives", action="store_true")
+    parser.add_argument("--deaths", action="store_true")
     parser.add_argument("--plans", action="store_true")
     parser.add_argument("--stop", action="store_true")
     parser.add_argument("program")
     given = parser.parse_args()
     if given.plans:
         return look_for_all(given.seed, given.runs)
-    what: type[Trial] | type[Living] = Living if given.lives else Trial
+    what: Kind = Living if given.lives else Dying if given.deaths else Trial
     counts = compare(what, str(pathlib.Path(given.program).resolve()), given.seed, given.runs, given.stop)
     print(json.dumps(counts))
     return int(counts["differing"] > 0)

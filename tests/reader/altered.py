@@ -7,8 +7,10 @@ from reader.beside import takes_ready
 from reader.claims import IsCommon, least_of
 from reader.master import Mend, Reopen, Stop, Workers, want
 from reader.run import Progress, faults_since
-from reader.table import File, Master, Process, Table, Worker, is_serving, same_stance, service
-from reader.vocabulary import Answer, Degraded, Entry, Generation, Kill, Outcome, PidNote, Stance
+from reader.table import (
+    File, Master, Process, Table, Worker, bears, is_serving, number_of, same_stance, service,
+)
+from reader.vocabulary import Answer, Degraded, Entry, Generation, Kill, Outcome, PidNote, Quit, Stance
 from reader.words import Run
 
 
@@ -125,6 +127,25 @@ def vanished_workers(run: Run) -> Iterator[Altered]:
                 return
 
 
+def workers_cut_off(run: Run) -> Iterator[Altered]:
+    """A worker that is told to quit is gone at once, and does not finish."""
+    passed = run.ran.passed
+    first = {p.number for p in ready_rows(run.table)}
+    if isinstance(run.target, Mend) or (isinstance(run.target, Stop) and run.target.quick):
+        return
+    for place, e in enumerate(run.ran.entries):
+        after = passed[2 * place + 2]
+        call = e.call
+        if not isinstance(call, Quit):
+            continue
+        ready = [p for p in ready_rows(passed[2 * place + 1].table) if p.number in first]
+        for p in (p for p in ready if bears(p.generation, p.nr, call.generation, call.nr)):
+            rows = tuple(row for row in after.table.rows if number_of(row) != p.number)
+            cut = after._replace(table=after.table._replace(rows=rows))
+            ran = run.ran._replace(passed=(*passed[:2 * place + 2], cut, *passed[2 * place + 3:]))
+            yield Altered("a worker that is told to quit is gone at once", "peace", run._replace(ran=ran))
+
+
 def other_accounts(run: Run) -> Iterator[Altered]:
     """The cause is not told, or nothing failed or was lost."""
     last, outcome = run.ran.last, run.report.outcome
@@ -141,7 +162,7 @@ def other_accounts(run: Run) -> Iterator[Altered]:
 
 WAYS: tuple[Callable[[Run], Iterator[Altered]], ...] = (
     lost_workers, other_sockets, other_owners, low_floors, other_processes, early_kills, other_accounts,
-    vanished_workers,
+    vanished_workers, workers_cut_off,
 )
 
 

@@ -1,11 +1,12 @@
 """What a run keeps beside the headline (quiet_runs/specs/Quiet.antt, further_theorems/specs/Proper.antt,
-Left.antt, Named.antt and Bound.antt)."""
+Left.antt, Named.antt, Peace.antt and Bound.antt)."""
 from collections.abc import Callable
+from functools import partial
 from typing import NamedTuple
 
 from reader.addresses import Addresses, FilePath
 from reader.after import next_record
-from reader.claims import Claims, is_old_side, one_then
+from reader.claims import Claims, has_ready, is_leave_call, is_old_side, is_quit, is_wait, one_then
 from reader.master import (
     Attended, Mend, Record, Reload, Reopen, Stop, Target, Upgrade, Workers, addresses_of, addresses_wanted,
     generation_wanted, oldbin, sides_of, upgrade_generation, want,
@@ -213,6 +214,77 @@ def TakeByName(ran: Ran) -> bool:
     )
 
 
+# That workers end in peace
+
+
+def is_at(stance: Stance, p: int, g: Generation, k: int, t: Table) -> bool:
+    """The process is a worker in this stance with the name."""
+    return any(
+        isinstance(row, Worker) and row.number == p and row.stance is stance and bears(g, k, row.generation, row.nr)
+        for row in t.rows
+    )
+
+
+def is_kill(test: Callable[[Generation, int], bool], call: Call) -> bool:
+    return isinstance(call, Kill) and test(call.generation, call.nr)
+
+
+class Seen(NamedTuple):
+    """What a process that drains has seen of its master: that it waited for its end, and that it was late then."""
+
+    wait: bool
+    late: bool
+
+
+class Peace(NamedTuple):
+    """One process that was ready at first: its number and its name. Its master is of its generation's image."""
+
+    p: int
+    g: Generation
+    k: int
+
+    def is_by(self, test: Callable[[Callable[[Generation, int], bool], Call], bool], e: Entry) -> bool:
+        """Such a call of its name, made by its master."""
+        return e.by == self.g.image and test(partial(bears, self.g, self.k), e.call)
+
+    def seen_after(self, drains: bool, e: Entry, seen: Seen) -> Seen:
+        """After one call more, which met the process draining or not."""
+        waits = drains and self.is_by(is_wait, e)
+        return Seen(seen.wait or waits, seen.late or (waits and e.answer is Answer.Late))
+
+    def ends_gently(self, seen: Seen, e: Entry) -> bool:
+        """What takes a process that drains out of the table: a wait for its end, a kill once it was late at such a
+        wait, or the leave of its master after such a wait."""
+        leaves = e.by == self.g.image and is_leave_call(e.call)
+        return self.is_by(is_wait, e) or (self.is_by(is_kill, e) and seen.late) or (leaves and seen.wait)
+
+    def IsGentle(self, seen: Seen, e: Entry, t: Table, then: Table) -> bool:
+        """The call takes it out of Ready only by a quit, and then it drains; and out of Draining only gently."""
+        def leaves(stance: Stance) -> bool:
+            return is_at(stance, *self, t) and not is_at(stance, *self, then)
+
+        quits = self.is_by(is_quit, e) and is_at(Stance.Draining, *self, then)
+        return (not leaves(Stance.Ready) or quits) and (not leaves(Stance.Draining) or self.ends_gently(seen, e))
+
+    def EndsInPeace(self, ran: Ran) -> bool:
+        """Each call of the run is gentle."""
+        seen = Seen(False, False)
+        for place, e in enumerate(ran.entries):
+            middle, after = ran.passed[2 * place + 1].table, ran.passed[2 * place + 2].table
+            if not self.IsGentle(seen, e, middle, after):
+                return False
+            seen = self.seen_after(is_at(Stance.Draining, *self, middle), e, seen)
+        return True
+
+
+def KeepsPeace(r: Record, target: Target, first: Table, ran: Ran) -> bool:
+    """Each process that is ready at first ends in peace; not at a mend, nor at a quick stop."""
+    if isinstance(target, Mend) or (isinstance(target, Stop) and target.quick):
+        return True
+    its = [(p.number, p.nr) for p in first.rows if isinstance(p, Worker) and has_ready(first, p.number, p.nr)]
+    return all(Peace(p, r.generation, k).EndsInPeace(ran) for p, k in its)
+
+
 # That the operator is obeyed
 
 
@@ -239,5 +311,6 @@ def KeepsBeside(t: Table, r: Record, target: Target, ran: Ran, run: Callable[[Pa
         "files": FilesOfOthersStay(r, t, ran),
         "left": RecordIsLeft(r, target, ran),
         "named": TakeByName(ran),
+        "peace": KeepsPeace(r, target, t, ran),
         "obeyed": ObeysOperator(r, target, ran),
     }

@@ -16,7 +16,7 @@ from reader.texts import Moments
 from reader.vocabulary import Fate, Generation, Limits, Turn
 from reader.words import Standing
 
-ADDRESSES = ("0.0.0.0:8080", "0.0.0.0:9090", "127.0.0.1:80", "/run/a.sock", "/run/b.sock")
+ADDRESSES = ("0.0.0.0:8080", "0.0.0.0:9090", "127.0.0.1:80", "[::]:8080", "/run/a.sock", "/run/b.sock")
 WORDS = (
     "HUP", "HUP", "HUP", "USR2", "USR2", "USR2", "USR2 attended", "USR2 attended", "USR2 attended", "TTIN", "TTIN",
     "TTOU", "TTOU", "WINCH", "USR1", "USR1", "tick", "tick", "tick", "beat", "QUIT", "INT",

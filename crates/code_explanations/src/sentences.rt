@@ -21,7 +21,7 @@ pub fn answer_pages() -> &'static [Explanation] {
     &ANSWERS
 }
 
-const FAULTS: [Explanation; 38] = [
+const FAULTS: [Explanation; 48] = [
     Explanation {
         code: "usage",
         meaning: "invalid command line",
@@ -45,7 +45,7 @@ Correct the word; no word was carried out.",
         meaning: "a configuration file is refused",
         remedy: "\
 It is the file of --from or, if that one is accepted, the file of --to. The
-code after it, C1 to C12, is the first rule that the file breaks. Correct
+code after it, C1 to C15, is the first rule that the file breaks. Correct
 the file and try again; nothing was started.",
     },
     Explanation {
@@ -138,15 +138,18 @@ the machine, remove the file. A number of no process is taken over.",
         meaning: "invalid host",
         remedy: "\
 A host is four numbers from 0 to 255 joined by dots, without leading zeros,
-followed by a colon. Names, IPv6 and a bare :8080 are not allowed. For every
-address of the machine write 0.0.0.0:8080. A path must begin with '/'.",
+or an IPv6 address in brackets as RFC 5952 writes it: small letters, no
+leading zeros, the longest run of zeros as '::', no zone, not mapped from
+IPv4. A colon follows. Names and a bare :8080 are not allowed. For every
+address of the machine write 0.0.0.0:8080 or [::]:8080. A path must begin
+with '/'.",
     },
     Explanation {
         code: "A3",
         meaning: "missing or invalid port",
         remedy: "\
 A port is a number from 1 to 65535 without a leading zero, after the first
-colon. Write for example 127.0.0.1:8080.",
+colon or the brackets. Write for example 127.0.0.1:8080 or [::1]:8080.",
     },
     Explanation {
         code: "A4",
@@ -189,9 +192,10 @@ with commas. --why names the line and what is wrong there.",
         code: "C2",
         meaning: "unknown key",
         remedy: "\
-The keys are command, groups, listeners, pid, retries, service, timeout and
-workers; a group has only listeners and workers. Correct or remove the key.
-Capitals count, and a key after a [[groups]] heading belongs to that group.",
+The keys are command, groups, listeners, pid, retries, service, sockets,
+timeout and workers; a group has only listeners and workers. Correct or
+remove the key. Capitals count, and a key after a [[groups]] heading belongs
+to that group.",
     },
     Explanation {
         code: "C3",
@@ -268,6 +272,72 @@ different, and at most 1024 workers.",
         remedy: "\
 Its keys are for the service, `prefork-serve`; a master does not read them.
 Put them below a line '[service]', or remove the key.",
+    },
+    Explanation {
+        code: "C13",
+        meaning: "sockets is no table",
+        remedy: "\
+A listener has its options below a line '[sockets.\"ADDRESS\"]'. Put them
+there, or remove the key.",
+    },
+    Explanation {
+        code: "C14",
+        meaning: "sockets has an address that no listener has",
+        remedy: "\
+Options are for a listener of this configuration, by the text that it has
+there: '[sockets.\"0.0.0.0:8080\"]'. Correct the address, add it to the
+listeners, or remove its options.",
+    },
+    Explanation {
+        code: "C15",
+        meaning: "the options of a listener are refused",
+        remedy: "\
+The index of the listener, counted from 0 over all groups, follows the code,
+and then the first rule that its options break, S1 to S7. The service,
+`prefork-serve`, uses them; a master only checks them.",
+    },
+    Explanation {
+        code: "S1",
+        meaning: "the options of a listener are no table",
+        remedy: "Write '[sockets.\"ADDRESS\"]' on a line of its own, and the options below it.",
+    },
+    Explanation {
+        code: "S2",
+        meaning: "no option of this listener",
+        remedy: "\
+A path, \"/run/site.sock\", has backlog, group, mode and owner; an address
+with a port has backlog and defer_accept. Correct or remove the key.",
+    },
+    Explanation {
+        code: "S3",
+        meaning: "invalid backlog",
+        remedy: "\
+It is a whole number from 1 to 65535 without quotes: how many connections
+may wait. Without the key they are as many as the system allows.",
+    },
+    Explanation {
+        code: "S4",
+        meaning: "invalid defer_accept",
+        remedy: "Write true or false, without quotes.",
+    },
+    Explanation {
+        code: "S5",
+        meaning: "invalid group of a path",
+        remedy: "\
+A name or a number as a text of 1 to 255 bytes without a byte 0. Write
+group = \"www-data\", or remove the key.",
+    },
+    Explanation {
+        code: "S6",
+        meaning: "invalid mode of a path",
+        remedy: "It is a text of three octal digits, or of a 0 and three: mode = \"660\".",
+    },
+    Explanation {
+        code: "S7",
+        meaning: "invalid owner of a path",
+        remedy: "\
+A name or a number as a text of 1 to 255 bytes without a byte 0. Write
+owner = \"www-data\", or remove the key.",
     },
     Explanation {
         code: "H1",

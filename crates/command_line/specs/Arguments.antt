@@ -104,9 +104,12 @@ enact_app = with_rule (with_rule (with_rule (with_answer (new_app (codes "enact"
 abbrev pub plan_app : App
 plan_app = with_rule (with_rule (with_answer (new_app (codes "plan"))) (flag_rule (codes "dot"))) word_rule
 
--- those of a start, `[--held ADDRESS] [--list] [--progress]`
+-- those of a start, `[--held ADDRESS] [--list] [--progress] [--deaths]`
 abbrev pub with_list : App → App
-with_list app = with_rule (with_rule (with_rule (with_answer app) (option_rule (codes "held"))) (flag_rule (codes "list"))) (flag_rule (codes "progress"))
+with_list app =
+    with_rule
+    (with_rule (with_rule (with_rule (with_answer app) (option_rule (codes "held"))) (flag_rule (codes "list"))) (flag_rule (codes "progress")))
+    (flag_rule (codes "deaths"))
 
 -- `[--events K] [--turns TEXT] [--limit N] [--forbid END] [--require END] [--least N]`
 abbrev pub with_runs : App → App
@@ -206,6 +209,7 @@ pub record Exploration : Type 0 where
   pub least : Option ℕ
   pub list : Bool
   pub progress : Bool
+  pub deaths : Bool
   pub word : Text
 
 -- what `certify` is given; the goals are all files of `--to`, of which the start names the first
@@ -270,6 +274,7 @@ exploration_of options = record {
   least = options.least;
   list = options.list;
   progress = options.progress;
+  deaths = options.deaths;
   word = options.word.now;
 }
 
@@ -345,6 +350,7 @@ pub record FindsExploration (rows : List Row) (values : Exploration) : Type 0 wh
   pub least : IsNumber (first_of (codes "least") rows) values.least
   pub list : values.list ≡ is_given (first_of (codes "list") rows)
   pub progress : values.progress ≡ is_given (first_of (codes "progress") rows)
+  pub deaths : values.deaths ≡ is_given (first_of (codes "deaths") rows)
   pub word : first_of (codes "word") rows ≡ Some values.word
 
 pub record FindsCertification (rows : List Row) (values : Certification) : Type 0 where

@@ -6,11 +6,11 @@ ghost use Rattle.command_line.specs.Arguments.{adopt_app, bare_app, certify_app,
 
 use crate::help::{
     ADOPT_HELP, ADOPT_NOTES, ANSWER_HELP, BARE_HELP, CERTIFY_NOTES, CHECK_NOTES, CHILD_NOTES,
-    CODE_HELP, DOT_HELP, ENACT_NOTES, EVENTS_HELP, EXPLAIN_NOTES, EXPLORE_NOTES, FILES_HELP,
-    FORBID_HELP, FROM_HELP, GOALS_HELP, HELD_HELP, JSON_HELP, LEAST_HELP, LIMIT_HELP, LIST_HELP,
-    PLAN_NOTES, PROGRAM_HELP, PROGRAM_NOTES, PROGRESS_HELP, READY_HELP, REQUIRE_HELP, STATE_HELP,
-    SUPERVISE_NOTES, TO_HELP, TURNS_HELP, VERBOSE_HELP, WHY_HELP, WORD_HELP, WORDS_HELP,
-    WORKERS_HELP,
+    CODE_HELP, DEATHS_HELP, DOT_HELP, ENACT_NOTES, EVENTS_HELP, EXPLAIN_NOTES, EXPLORE_NOTES,
+    FILES_HELP, FORBID_HELP, FROM_HELP, GOALS_HELP, HELD_HELP, JSON_HELP, LEAST_HELP, LIMIT_HELP,
+    LIST_HELP, PLAN_NOTES, PROGRAM_HELP, PROGRAM_NOTES, PROGRESS_HELP, READY_HELP, REQUIRE_HELP,
+    STATE_HELP, SUPERVISE_NOTES, TO_HELP, TURNS_HELP, VERBOSE_HELP, WHY_HELP, WORD_HELP,
+    WORDS_HELP, WORKERS_HELP,
 };
 use clap::{Arg, ArgAction, Command};
 use std::alloc::{AllocError, Global};
@@ -110,8 +110,8 @@ fn explore<'a>(alloc: Global) -> Result<Command<'a>, AllocError>
     with_argument(with_demands(alloc, command)?, word(alloc))
 }
 
-/// The options of each subcommand that starts a master beside somebody else, `--list`
-/// and `--progress`.
+/// The options of each subcommand that starts a master beside somebody else, `--list`,
+/// `--progress` and `--deaths`.
 fn with_list<'a>(alloc: Global, command: Command<'a>) -> Result<Command<'a>, AllocError>
     requires { (out-Command command).has_globals ≡ false }
     ensures app { IfOk result (λ more. app_of more ≡ with_list (app_of command.entry)) }
@@ -120,7 +120,8 @@ fn with_list<'a>(alloc: Global, command: Command<'a>) -> Result<Command<'a>, All
     let command = with_answer(alloc, command)?;
     let command = with_option(alloc, command, "held", "ADDRESS", HELD_HELP)?;
     let command = with_flag(alloc, command, "list", LIST_HELP)?;
-    with_flag(alloc, command, "progress", PROGRESS_HELP)
+    let command = with_flag(alloc, command, "progress", PROGRESS_HELP)?;
+    with_flag(alloc, command, "deaths", DEATHS_HELP)
 }
 
 /// The options that say which runs are tried, and how none may end.

@@ -59,6 +59,8 @@ pub(crate) const LIST_HELP: &str = "Print each run before the counts";
 
 pub(crate) const PROGRESS_HELP: &str = "Print the number of runs so far to standard error";
 
+pub(crate) const DEATHS_HELP: &str = "Count what follows if the master dies at each call";
+
 pub(crate) const DOT_HELP: &str = "Write the plan as input of dot(1)";
 
 pub(crate) const WORDS_HELP: &str = "\
@@ -146,12 +148,11 @@ Example: an error line ends with C4 workers:
   prefork explain C4 (or 'C4 workers', or c4)";
 
 pub(crate) const EXPLORE_NOTES: &str = "\
-It carries out WORD under no event, under each single event and, with --events
-2, under each pair. An event is a call that fails, a question that is answered
-back, or the exit of a worker or of the new master. Where both masters of an
-upgrade have a call to make, the turns of --turns say whose is next, n the new
-one's and o the old one's; after their end, or without them, the new one's is.
---turns all tries each order of their calls, unless there are more than 5000.
+It carries out WORD under no event, each event and, with --events 2, each pair:
+a call that fails, a question that is answered back, the exit of a worker or of
+the new master; with --deaths, of the master alone. The turns of --turns say
+whose call is next in an upgrade, n the new master's, o the old one's, and then
+the new one's; 'all' tries each order, unless there are more than 5000.
 Status: 0 counted, 1 refused, 2 usage, 4 degraded with --forbid degraded or too
 few workers with --least, 6 not known: no run was done with --require done, no
 address stays with --least, or --limit left runs out with any of the three.

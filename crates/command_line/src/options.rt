@@ -76,6 +76,8 @@ pub struct ExploreOptions<'a> {
     pub list: bool,
     /// `--progress`: how many runs were counted is told while they are.
     pub progress: bool,
+    /// `--deaths`: the deaths of the master are counted instead.
+    pub deaths: bool,
     /// The control word.
     pub word: &'a str,
 }
@@ -201,6 +203,7 @@ pub(crate) fn explore_options<'a>(found: &ArgMatches<'a>) -> Result<ExploreOptio
         least,
         list: has_flag(found, "list"),
         progress: has_flag(found, "progress"),
+        deaths: has_flag(found, "deaths"),
         word: word_of(found)?,
     })
 }

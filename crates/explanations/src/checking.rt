@@ -92,7 +92,7 @@ fn put_refusal(
             in_memory(put_key(alloc, unknown.key, group_of(refusal), out))
         }
         None => {
-            let found = line_of_refusal(text, refusal);
+            let found = line_of_refusal(alloc, text, refusal)?;
             put_head(alloc, path, found, refusal, out)?;
             put_found(found, out)
         }

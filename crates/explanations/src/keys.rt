@@ -4,13 +4,14 @@ use std::alloc::{AllocError, Global};
 use strsim::generic_levenshtein;
 
 /// The keys of a configuration.
-const KEYS: [&str; 8] = [
+const KEYS: [&str; 9] = [
     "command",
     "groups",
     "listeners",
     "pid",
     "retries",
     "service",
+    "sockets",
     "timeout",
     "workers",
 ];

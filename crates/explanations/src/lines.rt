@@ -1,5 +1,7 @@
 //! Lines that a fault is about.
+use address_spellings::line_of_socket;
 use master_config::{ConfigRefusal, GroupFault, Key};
+use std::alloc::{AllocError, Global};
 
 /// How a group begins that is written as a table of its own.
 pub(crate) const HEADING: &[u8] = b"[[groups]]";
@@ -12,15 +14,25 @@ pub struct FoundLine<'a> {
 }
 
 /// The line of a configuration that a refusal is about, if it is about a key: the line of the listener or else that of the
-/// key; of a group's key, the line under the heading of the group, or the heading itself if the group has no such line.
-pub fn line_of_refusal<'a>(text: &'a [u8], refusal: &ConfigRefusal) -> Option<FoundLine<'a>> {
-    let found = line_of_its_key(text, refusal)?;
-    match index_of(refusal) {
+/// key; of a group's key, the line under the heading of the group, or the heading itself if the group has no such line;
+/// the same of an option of a socket.
+pub fn line_of_refusal<'a>(
+    alloc: Global,
+    text: &'a [u8],
+    refusal: &ConfigRefusal,
+) -> Result<Option<FoundLine<'a>>, AllocError> {
+    if let Some((number, text)) = line_of_socket(alloc, text, refusal)? {
+        return Ok(Some(FoundLine { number, text }));
+    }
+    let Some(found) = line_of_its_key(text, refusal) else {
+        return Ok(None);
+    };
+    Ok(match index_of(refusal) {
         Some(index) if names(found.text, Key::Listeners) => {
             line_of_text(text, found.number, index)
         }
         _ => Some(found),
-    }
+    })
 }
 
 fn line_of_its_key<'a>(text: &'a [u8], refusal: &ConfigRefusal) -> Option<FoundLine<'a>> {
@@ -94,6 +106,9 @@ fn key_of(refusal: &ConfigRefusal) -> Option<Key> {
         ConfigRefusal::BadCommand => Some(Key::Command),
         ConfigRefusal::Mixed | ConfigRefusal::Group(..) => Some(Key::Groups),
         ConfigRefusal::BadService => Some(Key::Service),
+        ConfigRefusal::BadSockets | ConfigRefusal::NoSuchListener | ConfigRefusal::Socket(..) => {
+            Some(Key::Sockets)
+        }
         _ => None,
     }
 }

@@ -2,6 +2,7 @@
 use crate::asking::{files_of, start_of};
 use crate::keys::{UnknownKey, is_of_configuration, nearest, unknown_key};
 use crate::lines::{FoundLine, line_of_block, line_of_byte, line_of_refusal};
+use address_spellings::{tell_listener, tell_socket, tell_spelling};
 use command_line::Request;
 use faults::Fault;
 use lines_text::TextRefusal;
@@ -128,6 +129,7 @@ fn tell_held<E: Write>(request: &Request<'_>, errors: &mut E) {
     };
     if let Some(held) = held {
         let _ = writeln!(errors, "  --held {held}");
+        tell_spelling(held, errors);
     }
 }
 
@@ -238,7 +240,15 @@ fn tell_refusal<E: Write>(alloc: Global, text: &[u8], refusal: &ConfigRefusal, e
                 let _ = errors.write_all(b"\n");
             }
         }
-        None => tell_rest(line_of_refusal(text, refusal), errors),
+        None => {
+            // (without memory the line is left out)
+            tell_rest(
+                line_of_refusal(alloc, text, refusal).unwrap_or(None),
+                errors,
+            );
+            tell_listener(alloc, text, refusal, errors);
+            tell_socket(alloc, text, refusal, errors);
+        }
     }
 }
 

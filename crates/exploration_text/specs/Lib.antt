@@ -1,2 +1,3 @@
+pub mod DeathsText
 pub mod RunText
 pub mod SummaryText

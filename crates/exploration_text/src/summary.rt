@@ -106,7 +106,7 @@ fn write_count(out: &mut Vec<u8>, name: &[u8], number: u64) -> Result<(), AllocE
 
 /// How many runs ended so, and in which of them fewest things went wrong.
 #[tactic(auto, unfolding(crate::specs::SummaryText::end_line))]
-fn write_end(
+pub(crate) fn write_end(
     out: &mut Vec<u8>,
     orders: &[Turns],
     name: &[u8],
@@ -183,7 +183,7 @@ fn run_of_least(found: &OrderedLeast) -> OrderedRun
 
 /// The fewest Ready workers that an address had.
 #[tactic(auto, unfolding(crate::specs::SummaryText::least_line))]
-fn write_least(
+pub(crate) fn write_least(
     out: &mut Vec<u8>,
     orders: &[Turns],
     found: Option<OrderedLeast>,

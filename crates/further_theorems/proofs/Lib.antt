@@ -5,3 +5,5 @@ pub mod Proper
 pub mod Entries
 pub mod Bound
 pub mod Named
+pub mod OneProcess
+pub mod Peace

@@ -33,16 +33,16 @@ use Rattle.table_laws.proofs.Effects.{bears-is, bears-refl}
 use Rattle.further_theorems.specs.Named.{is_at, takes_ready, takes_draining, Leaves, TakesByName, Next, TakeByName}
 use Rattle.further_theorems.specs.Named.{WorkersEndByName}
 
-abbrev Test : Type 0
+abbrev pub Test : Type 0
 Test = Process → Bool
 
 -- the test of a stance, a process and a name
-abbrev at : Stance → ℕ → Generation → ℕ → Test
+abbrev pub at : Stance → ℕ → Generation → ℕ → Test
 at stance p g k = is_worker_where (same_stance stance) (λ n. n == p) (bears g k)
 
 ---- All rows
 
-any-change : (T : Test) (f : Process → Process) (test : Test) → ((p : Process) → test p ≡ true → test
+pub any-change : (T : Test) (f : Process → Process) (test : Test) → ((p : Process) → test p ≡ true → test
     (if T p then f p else p) ≡ true) →
     (rows : List Process) → list_any test rows ≡ true → list_any test (filter_map (change T f) rows) ≡ true
 any-change T f test h [] e = absurd (cc)
@@ -55,7 +55,7 @@ any-change T f test h (p ∷ ps) e = go (test p) refl e (any-change T f test h p
     go true is e ih = or-left _ _ (h p is)
     go false is e ih = or-right (test (if T p then f p else p)) _ (ih e)
 
-any-drop : (T test : Test) → ((p : Process) → test p ≡ true → T p ≡ false) → (rows : List Process) →
+pub any-drop : (T test : Test) → ((p : Process) → test p ≡ true → T p ≡ false) → (rows : List Process) →
     list_any test rows ≡ true →
     list_any test (filter_map (drop_where T) rows) ≡ true
 any-drop T test h [] e = absurd (cc)
@@ -88,7 +88,7 @@ any-guarded T test act h (p ∷ ps) none e = go (test p) refl (T p) refl (act p)
     go false is true out false on none e ih = ih none e
     go false is false out false on none e ih = or-right (test p) _ (ih none e)
 
-any-more : (test : Test) (rows : List Process) (q : Process) → list_any test rows ≡ true → list_any test
+pub any-more : (test : Test) (rows : List Process) (q : Process) → list_any test rows ≡ true → list_any test
     (rows ++ q ∷ []) ≡ true
 any-more test [] q e = absurd (cc)
 any-more test (p ∷ ps) q e = go (test p) e (any-more test ps q)
@@ -105,7 +105,7 @@ choose : (test : Test) (b : Bool) (x y : Process) → (b ≡ true → test x ≡
 choose test true x y h k = h refl
 choose test false x y h k = k
 
-any-changed : (T : Test) (f : Process → Process) (test : Test) → ((p : Process) → test p ≡ true → test (f p) ≡ true) →
+pub any-changed : (T : Test) (f : Process → Process) (test : Test) → ((p : Process) → test p ≡ true → test (f p) ≡ true) →
     (rows : List Process) →
     list_any test rows ≡ true → list_any test (filter_map (change T f) rows) ≡ true
 any-changed T f test h rows e = any-change T f test (λ p x. choose test (T p) (f p) p (λ b. h p x) x) rows e
@@ -345,7 +345,7 @@ module _ (handed : Handed) (image : ℕ) (c : Caller) (t : Table) where
 same : (call : Call) (t : Table) → TakesByName call t t
 same call t = ((λ p g k on off. on), (λ p g k on off. on))
 
-by-name : (handed : Handed) (image : ℕ) (call : Call) (fate : Option Fate) (t : Table) → TakesByName call t
+pub by-name : (handed : Handed) (image : ℕ) (call : Call) (fate : Option Fate) (t : Table) → TakesByName call t
     (step_with handed image call fate t).table
 by-name handed image call fate t = go (live_master image t.rows)
   where
@@ -367,7 +367,7 @@ module _ (handed : Handed) (pattern : Pattern) where
     head-tree P (Ends e) p h = h
     head-tree P (Does by order set bs) p h = h
 
-    head-behind : (P : Table → Type 0) (bs : Branches) (r : Reply) (p : Progress) → P p.table → Next (λ b. P b.table)
+    pub head-behind : (P : Table → Type 0) (bs : Branches) (r : Reply) (p : Progress) → P p.table → Next (λ b. P b.table)
         (goes_with handed bs r pattern p).passed
     head-behind P Nothing r p h = h
     head-behind P (Branch replies said rest more) r p h =

@@ -3,3 +3,4 @@ pub mod Left
 pub mod Merges
 pub mod Bound
 pub mod Named
+pub mod Peace

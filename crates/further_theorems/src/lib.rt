@@ -7,6 +7,7 @@ ghost use Rattle.further_theorems.specs.Bound.{OperatorsAreObeyed};
 ghost use Rattle.further_theorems.specs.Left.{RecordsAreLeft};
 ghost use Rattle.further_theorems.specs.Merges.{MergesAreRuns, WalksAreRuns};
 ghost use Rattle.further_theorems.specs.Named.{WorkersEndByName};
+ghost use Rattle.further_theorems.specs.Peace.{WorkersEndInPeace};
 ghost use Rattle.further_theorems.specs.Proper.{CallsAreProper, FilesOfOthersStay};
 
 /// Each call is made by the master whose workers it names, and touches no file, address or master of
@@ -38,4 +39,10 @@ pub fn operators_are_obeyed()
 /// fails, and from any table.
 pub fn workers_end_by_name()
     ensures { WorkersEndByName }
+{}
+
+/// Each worker that is ready when a word begins ends in peace: it is told to quit and drains, and is
+/// waited for before anything takes it. Not at a mend, nor at a quick stop.
+pub fn workers_end_in_peace()
+    ensures { WorkersEndInPeace }
 {}

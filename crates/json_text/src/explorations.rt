@@ -19,13 +19,13 @@ struct ExplorationValue<'a> {
 
 /// How many runs ended so, and the lines of the pattern that is named.
 #[derive(Drop, Serialize)]
-struct EndValue<'a> {
-    count: u64,
-    under: Option<Vec<&'a str>>,
+pub(crate) struct EndValue<'a> {
+    pub(crate) count: u64,
+    pub(crate) under: Option<Vec<&'a str>>,
 }
 
 #[derive(Drop, Serialize)]
-struct LeastValue<'a> {
+pub(crate) struct LeastValue<'a> {
     workers: u64,
     address: &'a str,
     after_call: u64,
@@ -106,7 +106,7 @@ fn add_number<'a>(
 }
 
 /// `COUNT under EVENTS`
-fn end_of<'a>(alloc: Global, rest: &'a str) -> Result<EndValue<'a>, AllocError> {
+pub(crate) fn end_of<'a>(alloc: Global, rest: &'a str) -> Result<EndValue<'a>, AllocError> {
     let (count, events) = parted(rest, " under ");
     let under = match some_text(events) {
         Some(events) => Some(events_of(alloc, events)?),
@@ -119,7 +119,10 @@ fn end_of<'a>(alloc: Global, rest: &'a str) -> Result<EndValue<'a>, AllocError> 
 }
 
 /// `WORKERS at ADDRESS after call N under EVENTS`, or `none`
-fn least_of<'a>(alloc: Global, rest: &'a str) -> Result<Option<LeastValue<'a>>, AllocError> {
+pub(crate) fn least_of<'a>(
+    alloc: Global,
+    rest: &'a str,
+) -> Result<Option<LeastValue<'a>>, AllocError> {
     if rest == "none" {
         return Ok(None);
     }

@@ -3,12 +3,16 @@
 #![tactic(auto)]
 
 mod blocks;
+mod deaths;
 mod explorations;
+mod faults;
 mod patterns;
 mod plans;
 mod values;
 
 pub use blocks::blocks_json;
+pub use deaths::deaths_json;
 pub use explorations::exploration_json;
+pub use faults::fault_json;
 pub use patterns::patterns_json;
 pub use plans::plan_json;

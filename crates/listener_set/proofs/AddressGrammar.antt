@@ -1,5 +1,5 @@
 -- A text is accepted where it is written by the grammar of addresses.
-use Rattle.std.proofs.Common.{◌≡◌, ℕ, suc, ◌+◌, ◌^◌, ◌≤◌, ◌<◌, Bool, true, false, cond, ltb, eqb, nat_eq, List, [], ◌∷◌, ◌++◌, length, map, take, drop, Option, Some, None, Result, Ok, Err, refl, sym, ap, ◌∙◌, arith, inl, inr}
+use Rattle.std.proofs.Common.{◌≡◌, ℕ, suc, ◌+◌, ◌^◌, ◌≤◌, ◌<◌, Bool, true, false, cond, ltb, eqb, nat_eq, List, [], ◌∷◌, ◌++◌, length, map, take, drop, Option, Some, None, Result, Ok, Err, refl, sym, ap, ◌∙◌, subst, arith, inl, inr, not, ◌==◌}
 use Rattle.std.specs.Prelude.{◌↔◌, IsOk, is_ok}
 use Rattle.std.specs.Fmt.{decimal}
 use Rattle.std.specs.Str.{all_ascii_digits}
@@ -13,10 +13,13 @@ use Rattle.std.proofs.lemmas.List.Elements.{All-nil, All-cons, All-head, All-tai
 use Rattle.std.proofs.lemmas.List.Splits.{join_with_byte-slice_split, slice_split_at, slice_split_none}
 use Rattle.std.proofs.lemmas.List.Sums.{split_at_first, passes_at_first, AllPass-from_list_all, list_all-from_AllPass}
 use Rattle.plain_text.specs.NumberText.{is_within}
-use Rattle.listener_set.specs.AddressText.{is_dot, is_colon, is_host, path_check, dotted_check, check, accepted, reading, IsDotted, IsAddress}
+use Rattle.listener_set.specs.AddressText.{is_dot, is_colon, is_host, path_check, dotted_check, bracketed_check, check, accepted, reading, IsDotted, IsBracketed, IsAddress}
 use Rattle.listener_set.specs.declared.address.AddressRefusal.{AddressRefusal}
+use Rattle.std.proofs.NetLemmas.Alphabet.{IsHexOrColon}
+use Rattle.plain_text.proofs.CutTexts.{lacks, cut_at}
+use Rattle.ipv6_text.proofs.HostTexts.{written_host, host_written, host_bytes}
 use Rattle.plain_text.proofs.NumberTextLemmas.{both, decimal-is_within, is_within-decimal, digits-decimal}
-use Rattle.listener_set.proofs.AddressLaws.{host_tests, dotted_tests, path_tests}
+use Rattle.listener_set.proofs.AddressLaws.{host_tests, dotted_tests, bracketed_tests, path_tests}
 
 -- ---- an accepted text is written by the grammar
 octets_of : (parts : List (List ℕ)) → list_all (is_within 0 255) parts ≡ true → (ns : List ℕ) × (parts ≡ map decimal ns) × All (λ n. n ≤ 255) ns × (length ns ≡ length parts)
@@ -59,15 +62,28 @@ dotted_written text h =
           ∙ ap (λ host. host ++ 58 ∷ decimal port.0) (sym (join_with_byte-slice_split 46 (before_first is_colon text)) ∙ ap (join_with_byte 46) octets.1);
     }
 
+bracketed_written : (text : List ℕ) → bracketed_check text ≡ Ok tt → IsBracketed (91 ∷ text)
+bracketed_written text h =
+    let tests = bracketed_tests text h in
+    let port = decimal-is_within 1 65535 tests.1 tests.4 in
+    record {
+      host = tests.0;
+      port = port.0;
+      is_host = written_host tests.0 tests.3;
+      port_fits = (port.2, port.3);
+      written = ap (λ t. 91 ∷ t) (tests.2 ∙ ap (λ port. tests.0 ++ 93 ∷ 58 ∷ port) port.1);
+    }
+
 check_written : (text : List ℕ) → check text ≡ Ok tt → IsAddress text
 check_written [] h = cc
-check_written (c ∷ cs) h = at (eqb c 47) refl h
+check_written (c ∷ cs) h = at (eqb c 47) refl (eqb c 91) refl h
   where
-    at : (b : Bool) → eqb c 47 ≡ b → cond b (path_check (c ∷ cs)) (dotted_check (c ∷ cs)) ≡ Ok tt → IsAddress (c ∷ cs)
-    at true e h =
+    at : (is_slash : Bool) → eqb c 47 ≡ is_slash → (is_bracket : Bool) → eqb c 91 ≡ is_bracket → cond is_slash (path_check (c ∷ cs)) (cond is_bracket (bracketed_check cs) (dotted_check (c ∷ cs))) ≡ Ok tt → IsAddress (c ∷ cs)
+    at true e is_bracket k h =
         let tests = path_tests (c ∷ cs) h in
-        inr (record { slash = ap Some (byte_is c 47 e); graphic = AllPass-from_list_all is_ascii_graphic (c ∷ cs) tests.1; fits = tests.0 })
-    at false e h = inl (dotted_written (c ∷ cs) h)
+        inr (inr (record { slash = ap Some (byte_is c 47 e); graphic = AllPass-from_list_all is_ascii_graphic (c ∷ cs) tests.1; fits = tests.0 }))
+    at false e true k h = inr (inl (subst (λ d. IsBracketed (d ∷ cs)) (sym (byte_is c 91 k)) (bracketed_written cs h)))
+    at false e false k h = inl (dotted_written (c ∷ cs) h)
 
 -- ---- a text that is written by the grammar is accepted
 module _ (p : ℕ → Bool) (b : Bool) (digits : (c : ℕ) → is_ascii_digit c ≡ true → p c ≡ b) where
@@ -148,19 +164,40 @@ host_nonempty (n ∷ m ∷ ns) four fit =
     let small : n ≤ 255 = All-head (λ n. n ≤ 255) n (m ∷ ns) fit in
     omega (arith, decimal_nonempty n (omega arith), length-append (decimal n) (46 ∷ join_with_byte 46 (map decimal (m ∷ ns))))
 
-no_slash : (host rest : List ℕ) → 0 < length host → All (λ c. eqb c 47 ≡ false) host → check (host ++ rest) ≡ dotted_check (host ++ rest)
-no_slash [] rest some lacks = absurd (omega arith)
-no_slash (c ∷ cs) rest some lacks = rw (All-head (λ c. eqb c 47 ≡ false) c cs lacks) refl
+is_dotted : (host rest : List ℕ) → 0 < length host → All (λ c. eqb c 47 ≡ false) host → All (λ c. eqb c 91 ≡ false) host → check (host ++ rest) ≡ dotted_check (host ++ rest)
+is_dotted [] rest some no_slash no_bracket = absurd (omega arith)
+is_dotted (c ∷ cs) rest some no_slash no_bracket = rw (All-head (λ c. eqb c 47 ≡ false) c cs no_slash, All-head (λ c. eqb c 91 ≡ false) c cs no_bracket) refl
+
+-- ---- a host in brackets
+hex_or_colon : (c : ℕ) → IsHexOrColon c → (not (c == 93) ≡ true) × (is_ascii_graphic c ≡ true)
+hex_or_colon c (inl h) = (grind (arith, nat_tests), grind (arith, nat_tests))
+hex_or_colon c (inr h) = (grind (arith, nat_tests), grind (arith, nat_tests))
+
+host_lacks : (host : List ℕ) → All IsHexOrColon host → lacks 93 host ≡ true
+host_lacks [] h = refl
+host_lacks (c ∷ cs) h = rw ((hex_or_colon c (All-head IsHexOrColon c cs h)).0, host_lacks cs (All-tail IsHexOrColon c cs h)) refl
+
+host_graphic : (host : List ℕ) → All IsHexOrColon host → All (λ c. is_ascii_graphic c ≡ true) host
+host_graphic [] h = All-nil (λ c. is_ascii_graphic c ≡ true)
+host_graphic (c ∷ cs) h =
+    All-cons (λ c. is_ascii_graphic c ≡ true) c cs (hex_or_colon c (All-head IsHexOrColon c cs h)).1 (host_graphic cs (All-tail IsHexOrColon c cs h))
+
+bracketed_accepted : (text : List ℕ) → IsBracketed text → check text ≡ Ok tt
+bracketed_accepted text h =
+    let host = cut_at 93 h.host (58 ∷ decimal h.port) (host_lacks h.host (host_bytes h.host h.is_host)) in
+    rw (h.written, host, host_written h.host h.is_host, is_within-decimal 1 65535 h.port h.port_fits.0 h.port_fits.1 (omega arith)) refl
 
 check_accepts : (text : List ℕ) → IsAddress text → check text ≡ Ok tt
 check_accepts text (inl h) =
     let host = join_with_byte 46 (map decimal h.octets) in
+    let apart : (c : ℕ) → is_ascii_digit c ≡ false → eqb 46 c ≡ false → All (λ d. eqb d c ≡ false) host = λ c off dot. host_all (λ d. eqb d c) false (digit_apart c off) dot h.octets h.octets_fit in
     ap check h.written
-    ∙ no_slash host (58 ∷ decimal h.port) (host_nonempty h.octets h.four h.octets_fit) (host_all (λ c. eqb c 47) false (digit_apart 47 refl) refl h.octets h.octets_fit)
+    ∙ is_dotted host (58 ∷ decimal h.port) (host_nonempty h.octets h.four h.octets_fit) (apart 47 refl refl) (apart 91 refl refl)
     ∙ ap dotted_check (sym h.written)
     ∙ dotted_accepted text h
-check_accepts [] (inr h) = let nothing : Option ℕ = None in let none : nothing ≡ Some 47 = h.slash in cc
-check_accepts (c ∷ cs) (inr h) =
+check_accepts text (inr (inl h)) = bracketed_accepted text h
+check_accepts [] (inr (inr h)) = let nothing : Option ℕ = None in let none : nothing ≡ Some 47 = h.slash in cc
+check_accepts (c ∷ cs) (inr (inr h)) =
     let is : c ≡ 47 = (let e : Some c ≡ Some 47 = h.slash in cc) in
     let slash : eqb c 47 ≡ true = grind (arith, nat_tests) in
     let fits : length (c ∷ cs) ≤ 107 = h.fits in
@@ -181,8 +218,14 @@ grammar text r e = (
 digit_graphic : (c : ℕ) → is_ascii_digit c ≡ true → is_ascii_graphic c ≡ true
 digit_graphic c h = grind (arith, nat_tests)
 
-address_graphic : (text : List ℕ) → IsAddress text → AllPass is_ascii_graphic text
-address_graphic text (inr h) = h.graphic
+pub address_graphic : (text : List ℕ) → IsAddress text → AllPass is_ascii_graphic text
+address_graphic text (inr (inr h)) = h.graphic
+address_graphic text (inr (inl h)) =
+    let port : h.port ≤ 65535 = h.port_fits.1 in
+    let graphic : ℕ → Type 0 = λ c. is_ascii_graphic c ≡ true in
+    All-same graphic text _ h.written
+    (All-cons graphic 91 (h.host ++ 93 ∷ 58 ∷ decimal h.port) refl (All-append graphic h.host (93 ∷ 58 ∷ decimal h.port) (host_graphic h.host (host_bytes h.host h.is_host))
+    (All-cons graphic 93 (58 ∷ decimal h.port) refl (All-cons graphic 58 (decimal h.port) refl (decimal_all is_ascii_graphic true digit_graphic h.port (omega arith))))))
 address_graphic text (inl h) =
     let port : h.port ≤ 65535 = h.port_fits.1 in
     let graphic : ℕ → Type 0 = λ c. is_ascii_graphic c ≡ true in

@@ -3,10 +3,11 @@ ghost use Rattle.std.specs.Prelude.{◌≡◌, ◌≤◌, ◌↔◌, length, cod
 ghost use Rattle.std.specs.List.{AllPass, list_all, slice_split};
 ghost use Rattle.std.specs.Char.{is_ascii_graphic};
 ghost use Rattle.plain_text.specs.NumberText.{is_within};
-ghost use Rattle.listener_set.specs.AddressText.{reading, check, path_check, dotted_check, is_host, is_dot, IsAddress};
+ghost use Rattle.listener_set.specs.AddressText.{reading, check, path_check, dotted_check, bracketed_check, port_check, is_host, is_dot, IsAddress};
 
 use crate::short_text::{ShortText, TEXT_BYTES};
-use plain_text::{around, number_within};
+use ipv6_text::is_ipv6_host;
+use plain_text::{around, cut, number_within};
 use std::error::Error;
 use std::fmt;
 use std::marker::Model;
@@ -19,7 +20,7 @@ pub const ADDRESS_BYTES: usize = TEXT_BYTES;
 pub enum AddressRefusal {
     /// A1: the text is empty.
     Empty,
-    /// A2: the host is not four numbers from 0 to 255 joined by dots.
+    /// A2: the host is not four numbers from 0 to 255 joined by dots, nor an IPv6 address in brackets.
     BadHost,
     /// A3: the port is not a number from 1 to 65535.
     BadPort,
@@ -106,23 +107,46 @@ fn check_dotted(text: &[u8]) -> Result<(), AddressRefusal>
     if !is_host(host) {
         return Err(AddressRefusal::BadHost);
     }
+    check_port(port)
+}
+
+fn check_port(port: &[u8]) -> Result<(), AddressRefusal>
+    ensures { result ≡ port_check port.now }
+{
     if number_within(port, 1, 65535).is_none() {
         return Err(AddressRefusal::BadPort);
     }
     Ok(())
 }
 
-fn check(text: &[u8]) -> Result<(), AddressRefusal>
-    ensures { result ≡ check text.now }
+/// Checks what stands behind an opening bracket.
+fn check_bracketed(text: &[u8]) -> Result<(), AddressRefusal>
+    ensures { result ≡ bracketed_check text.now }
 {
-    match text.first() {
-        None => Err(AddressRefusal::Empty),
-        Some(b'/') => check_path(text),
-        Some(_) => check_dotted(text),
+    let Some((host, rest)) = cut(text, b']') else {
+        return Err(AddressRefusal::BadHost);
+    };
+    if !is_ipv6_host(host) {
+        return Err(AddressRefusal::BadHost);
+    }
+    match rest {
+        [b':', port @ ..] => check_port(port),
+        _ => Err(AddressRefusal::BadPort),
     }
 }
 
-/// A listening address: a dotted one with a port, or the path of a Unix socket.
+fn check(text: &[u8]) -> Result<(), AddressRefusal>
+    ensures { result ≡ check text.now }
+{
+    match text {
+        [] => Err(AddressRefusal::Empty),
+        [b'/', ..] => check_path(text),
+        [b'[', rest @ ..] => check_bracketed(rest),
+        _ => check_dotted(text),
+    }
+}
+
+/// A listening address: a dotted one or an IPv6 one with a port, or the path of a Unix socket.
 #[derive(Clone, Copy, Debug, PartialEq, Eq)]
 pub struct Address {
     text: ShortText,
@@ -143,9 +167,11 @@ impl Model for Address {
 
 impl Address {
     /// Reads an address, or gives the first rule that the text breaks. A text that begins with `/`
-    /// is a path of at most 107 bytes, each graphic ASCII. Any other is a host, which stands before
-    /// the first colon, and a port: four numbers from 0 to 255 joined by dots, and a number from 1
-    /// to 65535, all without leading zeros.
+    /// is a path of at most 107 bytes, each graphic ASCII. One that begins with `[` is an IPv6
+    /// address in brackets, in the one text that RFC 5952 gives it, and a colon and a port. It has
+    /// no zone, and is not mapped from IPv4. Any other is a host, which stands before the first
+    /// colon, and a port: four numbers from 0 to 255 joined by dots. A port is a number from 1 to
+    /// 65535. No number has leading zeros.
     pub fn read(text: &[u8]) -> Result<Self, AddressRefusal>
         ensures exact { result ≡ reading text.now }
         ensures grammar { IsOk result ↔ IsAddress text.now }

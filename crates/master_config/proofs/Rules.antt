@@ -13,7 +13,8 @@ use Rattle.toml.specs.Data.{Data, Items, Members}
 use Rattle.toml.specs.View.{view}
 use Rattle.toml.specs.declared.value.Value.{Value}
 use Rattle.master_config.specs.Values.{◌>>=◌, text_of, data_of}
-use Rattle.master_config.specs.Configuration.{is_argument, is_command}
+use Rattle.master_config.specs.Arguments.{is_argument}
+use Rattle.master_config.specs.Configuration.{is_command}
 use Rattle.master_config.specs.Listening.{accepted_at, added_at, listener_read, listeners_after, listeners_read}
 use Rattle.master_config.specs.Groups.{Pools, no_pools, group_in, groups_after, groups_read, tables_read, is_mixed, pools_in}
 use Rattle.master_config.specs.declared.key.Key.TheVariants.{Groups, Listeners}

@@ -6,7 +6,10 @@ use Rattle.master_config.specs.KeyNames.{key_name}
 use Rattle.master_config.specs.declared.group_fault.GroupFault.{GroupFault}
 use Rattle.master_config.specs.declared.group_fault.GroupFault.TheVariants as group
 use Rattle.master_config.specs.declared.refusal.ConfigRefusal.{ConfigRefusal}
-use Rattle.master_config.specs.declared.refusal.ConfigRefusal.TheVariants.{NotToml, UnknownKey, WrongKind, OutOfRange, BadAddress, Doubled, NoListener, BadPid, BadCommand, Mixed, Group, BadService, Unreadable, Memory}
+use Rattle.master_config.specs.declared.refusal.ConfigRefusal.TheVariants.{NotToml, UnknownKey, WrongKind, OutOfRange, BadAddress, Doubled, NoListener, BadPid, BadCommand, Mixed, Group, BadService, BadSockets, NoSuchListener, Socket, Unreadable, Memory}
+use Rattle.master_config.specs.declared.socket_fault.SocketFault.{SocketFault}
+use Rattle.master_config.specs.declared.socket_fault.SocketFault.TheVariants as socket
+use Rattle.master_config.specs.declared.socket_key.SocketKey.TheVariants as key
 
 ---- Of a group
 
@@ -29,6 +32,17 @@ group_about _ = []
 abbrev pub group_text : GroupFault → List ℕ
 group_text fault = group_code fault ++ group_about fault
 
+---- Of the options of a socket
+
+abbrev pub socket_code : SocketFault → List ℕ
+socket_code socket.NotTable = codes "S1"
+socket_code socket.UnknownKey = codes "S2"
+socket_code (socket.BadValue key.Backlog) = codes "S3"
+socket_code (socket.BadValue key.DeferAccept) = codes "S4"
+socket_code (socket.BadValue key.Group) = codes "S5"
+socket_code (socket.BadValue key.Mode) = codes "S6"
+socket_code (socket.BadValue key.Owner) = codes "S7"
+
 ---- Of a configuration
 
 abbrev pub config_code : ConfigRefusal → List ℕ
@@ -44,16 +58,20 @@ config_code BadCommand = codes "C9"
 config_code Mixed = codes "C10"
 config_code (Group index fault) = codes "C11"
 config_code BadService = codes "C12"
+config_code BadSockets = codes "C13"
+config_code NoSuchListener = codes "C14"
+config_code (Socket index fault) = codes "C15"
 config_code Unreadable = codes "file"
 config_code Memory = codes "memory"
 
--- the same of a refusal; of a group its index, and its fault
+-- the same of a refusal; of a group or a socket its index, and its fault
 abbrev pub about : ConfigRefusal → List ℕ
 about (WrongKind key) = 32 ∷ key_name key
 about (OutOfRange key) = 32 ∷ key_name key
 about (BadAddress index refusal) = 32 ∷ (decimal index ++ 32 ∷ address_code refusal)
 about (Doubled index) = 32 ∷ decimal index
 about (Group index fault) = 32 ∷ (decimal index ++ 32 ∷ group_text fault)
+about (Socket index fault) = 32 ∷ (decimal index ++ 32 ∷ socket_code fault)
 about _ = []
 
 abbrev pub config_text : ConfigRefusal → List ℕ

@@ -1,18 +1,20 @@
 -- What a configuration says, as a function of the tree of its text: the settings and the command, or the first rule
 -- that it breaks.
-use Rattle.std.specs.Prelude.{◌≡◌, ◌≢◌, ◌⊎◌, ℕ, nat_eq, nat_lt, nat_le, Bool, true, ◌&&◌, not, List, [], length, IsUtf8, Option, Some, None, Result, Ok, Err, if◌then◌else◌}
-use Rattle.std.specs.List.{list_all, list_any}
+use Rattle.std.specs.Prelude.{◌≡◌, ◌≢◌, ◌⊎◌, ℕ, nat_lt, nat_le, Bool, true, ◌&&◌, List, [], length, IsUtf8, Option, Some, None, Result, Ok, Err, if◌then◌else◌}
+use Rattle.std.specs.List.{list_all}
 use Rattle.worker_groups.specs.Groups.{workers_in}
 use Rattle.listener_set.specs.PathText.{path_reading}
 use Rattle.listener_set.specs.declared.file_path.BadFile.{BadFile}
 use Rattle.vocabulary.specs.Settings.{Settings}
 use Rattle.toml.specs.Data.{Data, Members, as_str}
 use Rattle.toml.specs.Parse.{parse_document}
+use Rattle.master_config.specs.Arguments.{is_argument}
 use Rattle.master_config.specs.Names.{is_known}
 use Rattle.master_config.specs.Values.{◌>>=◌, value_at, has_only, number_at, texts_read, texts_of}
 use Rattle.master_config.specs.Listening.{listeners_at}
 use Rattle.master_config.specs.Groups.{Pools, one_pool, is_table, pools_in}
-use Rattle.master_config.specs.declared.key.Key.TheVariants.{Command, Groups, Listeners, Pid, Retries, Service, Timeout, Workers}
+use Rattle.master_config.specs.Sockets.{sockets_at}
+use Rattle.master_config.specs.declared.key.Key.TheVariants.{Command, Groups, Listeners, Pid, Retries, Service, Sockets, Timeout, Workers}
 use Rattle.master_config.specs.declared.refusal.ConfigRefusal.{ConfigRefusal}
 use Rattle.master_config.specs.declared.refusal.ConfigRefusal.TheVariants.{NotToml, UnknownKey, WrongKind, BadPid, BadCommand, BadService, Memory}
 
@@ -22,10 +24,6 @@ pub record Configuration : Type 0 where
   pub command : List (List ℕ)
 
 -- ---- the command
-
--- 1 to 255 bytes, none of them 0
-abbrev pub is_argument : List ℕ → Bool
-is_argument text = nat_lt 0 (length text) && nat_le (length text) 255 && not (list_any (λ b. nat_eq b 0) text)
 
 -- 1 to 16 arguments
 abbrev pub is_command : List (List ℕ) → Bool
@@ -59,6 +57,9 @@ pid_at (Some value) = pid_read (as_str value)
 abbrev pub is_service : Option Data → Bool
 is_service None = true
 is_service (Some value) = is_table value
+
+abbrev pub service_check : Option Data → Result (Unit {0}) ConfigRefusal
+service_check value = if is_service value then Ok tt else Err BadService
 
 -- ---- the whole
 
@@ -100,7 +101,9 @@ abbrev pub values_of : Members → Result Configuration ConfigRefusal
 values_of members = do
   command ← command_at (value_at Command members)
   settings ← settings_at (value_at Groups members) members
-  if is_service (value_at Service members) then Ok (record { settings = settings; command = command }) else Err BadService
+  _ ← service_check (value_at Service members)
+  _ ← sockets_at settings.listeners (value_at Sockets members)
+  Ok (record { settings = settings; command = command })
 
 -- what a configuration says, or the first rule that it breaks
 abbrev pub configuration_of : Members → Result Configuration ConfigRefusal

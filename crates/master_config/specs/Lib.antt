@@ -1,3 +1,5 @@
+pub mod Addresses
+pub mod Arguments
 pub mod Codes
 pub mod Configuration
 pub mod Files
@@ -5,4 +7,5 @@ pub mod Groups
 pub mod KeyNames
 pub mod Listening
 pub mod Names
+pub mod Sockets
 pub mod Values

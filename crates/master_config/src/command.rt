@@ -4,7 +4,8 @@ ghost use Rattle.std.specs.List.{list_all};
 ghost use Rattle.std.specs.Option.{option_map_or};
 ghost use Rattle.toml.specs.View.{view, table_view, array_view};
 ghost use Rattle.master_config.specs.Values.{value_at, texts_of, result_map};
-ghost use Rattle.master_config.specs.Configuration.{is_argument, is_command, command_in, command_at};
+ghost use Rattle.master_config.specs.Arguments.{is_argument};
+ghost use Rattle.master_config.specs.Configuration.{is_command, command_in, command_at};
 
 use crate::values::{text_of, texts_in, value_at};
 use crate::{ConfigRefusal, Key};
@@ -16,7 +17,8 @@ const MOST_ARGUMENTS: usize = 16;
 
 const ARGUMENT_BYTES: usize = 255;
 
-fn is_argument(text: &[u8]) -> bool
+/// Whether a text has 1 to 255 bytes, none of them 0.
+pub(crate) fn is_argument(text: &[u8]) -> bool
     ensures { result ≡ is_argument text.now }
 {
     !text.is_empty() && text.len() <= ARGUMENT_BYTES && !text.contains(&0)

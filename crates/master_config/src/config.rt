@@ -10,6 +10,7 @@ use crate::groups::pools_in;
 use crate::listening::listeners_at;
 use crate::pools::Pools;
 use crate::rest::rest_of;
+use crate::sockets::check_sockets;
 use crate::values::{has_only_known, number_at, value_at};
 use crate::{ConfigRefusal, Key};
 use std::alloc::Global;
@@ -78,6 +79,7 @@ fn config_in(alloc: Global, table: &Table) -> Result<Config, ConfigRefusal>
     if !is_service(table) {
         return Err(ConfigRefusal::BadService);
     }
+    check_sockets(table, &settings.listeners)?;
     let command = match items {
         Some(items) => copied(alloc, items)?,
         None => Vec::new(alloc),

@@ -13,6 +13,7 @@ pub enum Key {
     Pid,
     Retries,
     Service,
+    Sockets,
     Timeout,
     Workers,
 }
@@ -31,6 +32,7 @@ impl Key {
             Key::Pid => "pid",
             Key::Retries => "retries",
             Key::Service => "service",
+            Key::Sockets => "sockets",
             Key::Timeout => "timeout",
             Key::Workers => "workers",
         }
@@ -58,6 +60,7 @@ pub(crate) fn is_known(name: &str) -> bool
         || name == "pid"
         || name == "retries"
         || name == "service"
+        || name == "sockets"
         || name == "timeout"
         || name == "workers"
 }

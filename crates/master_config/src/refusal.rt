@@ -1,15 +1,15 @@
 //! Why there is no configuration.
 ghost use Rattle.std.specs.Prelude.{◌≡◌};
 
-use crate::{GroupFault, Key};
+use crate::{GroupFault, Key, SocketFault};
 use listener_set::AddressRefusal;
 use std::alloc::AllocError;
 use std::error::Error;
 use std::fmt;
 
 /// Why there is no configuration: the first rule that its text breaks, or that its file can't be read, or that memory was
-/// refused. It is written as its code, with the key, the index or the address's code that it is about, or the group's
-/// index and its fault: `C1`, `C3 workers`, `C6 1`, `C5 0 A3`, `C11 1 C6 0`.
+/// refused. It is written as its code, with the key, the index or the address's code that it is about, or the index
+/// of a group or a listener and its fault: `C1`, `C3 workers`, `C6 1`, `C5 0 A3`, `C11 1 C6 0`, `C15 0 S6`.
 #[derive(Clone, Copy, Debug, PartialEq, Eq)]
 pub enum ConfigRefusal {
     /// C1: the text is not TOML.
@@ -36,6 +36,12 @@ pub enum ConfigRefusal {
     Group(usize, GroupFault),
     /// C12: the value of `service` is no table. Its keys are the service's: a master does not look at them.
     BadService,
+    /// C13: the value of `sockets` is no table. A master checks the options of its sockets, and does not use them.
+    BadSockets,
+    /// C14: `sockets` has options for a text that is the address of no listener.
+    NoSuchListener,
+    /// C15: the options of the listener at the index, counted from 0 over all groups, break this rule.
+    Socket(usize, SocketFault),
     /// The file can't be read.
     Unreadable,
     /// Memory was refused.
@@ -63,6 +69,9 @@ impl ConfigRefusal {
             ConfigRefusal::Mixed => "C10",
             ConfigRefusal::Group(..) => "C11",
             ConfigRefusal::BadService => "C12",
+            ConfigRefusal::BadSockets => "C13",
+            ConfigRefusal::NoSuchListener => "C14",
+            ConfigRefusal::Socket(..) => "C15",
             ConfigRefusal::Unreadable => "file",
             ConfigRefusal::Memory => "memory",
         }
@@ -86,6 +95,7 @@ impl fmt::Display for ConfigRefusal {
             }
             ConfigRefusal::Doubled(index) => write!(f, "{code} {index}"),
             ConfigRefusal::Group(index, fault) => write!(f, "{code} {index} {fault}"),
+            ConfigRefusal::Socket(index, fault) => write!(f, "{code} {index} {fault}"),
             _ => f.write_str(code),
         }
     }

@@ -1,5 +1,6 @@
 pub mod Beginnings
 pub mod Certificates
+pub mod Dying
 pub mod Explorations
 pub mod Goals
 pub mod Outlooks

@@ -4,6 +4,7 @@
 
 mod beginning;
 mod certifying;
+mod dying;
 mod enacting;
 mod exploring;
 mod goals;
@@ -15,6 +16,7 @@ mod summing;
 
 pub use beginning::begin;
 pub use certifying::certify_all;
+pub use dying::{DeathTrials, DeathsExplored, death_summary};
 pub use enacting::{rehearse, show_state};
 pub use exploring::{Explored, Trials};
 pub use goals::read_goals;

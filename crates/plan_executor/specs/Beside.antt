@@ -15,6 +15,7 @@ use Rattle.quiet_runs.specs.Quiet.{HasResources}
 use Rattle.further_theorems.specs.Proper.{own_files, IsProper}
 use Rattle.further_theorems.specs.Left.{IsLeft}
 use Rattle.further_theorems.specs.Named.{TakeByName}
+use Rattle.further_theorems.specs.Peace.{KeepsPeace}
 use Rattle.further_theorems.specs.Bound.{is_back}
 use Rattle.word_runner.specs.declared.enactor.Enacted.{Enacted}
 
@@ -54,3 +55,7 @@ ObeysOperator (Stop quick) e = ⊤
 abbrev pub EndByName : Table → Record → Target → List Turn → Pattern → Type 0
 EndByName first r target turns pattern =
     let ran = run_of r target turns pattern first in TakeByName ran.entries ran.passed
+
+-- And each worker that was ready at first ends in peace: it was told to quit and drained, and was waited for.
+abbrev pub EndInPeace : Table → Record → Target → List Turn → Pattern → Type 0
+EndInPeace first r target turns pattern = KeepsPeace r target first (run_of r target turns pattern first)

@@ -1,5 +1,5 @@
 //! `explore`: its runs, as they are listed and told.
-ghost use Rattle.std.specs.Prelude.{◌≡◌, ◌↔◌, Some, false, IfErr, OnOk};
+ghost use Rattle.std.specs.Prelude.{◌≡◌, ◌↔◌, ◌-◌, Some, option_map, false, IfErr, OnOk};
 ghost use Rattle.std.specs.Io.KnownBytes.{Appends};
 ghost use Rattle.exploration_text.specs.RunText.{run_text};
 ghost use Rattle.faults.specs.Faults.{IsOfFile};
@@ -41,7 +41,11 @@ impl<'a, O: Write, E: Write> Listing<'a, O, E> {
         errors: &'a mut E,
         options: &ExploreOptions<'_>,
         orders: &'a [Turns],
-    ) -> Self {
+    ) -> Self
+        ensures limit { result.left ≡ options.now.limit }
+        ensures list { result.is_listing ≡ options.now.list }
+        ensures orders { result.orders.now ≡ orders.entry.now }
+    {
         Listing {
             alloc,
             output,
@@ -80,10 +84,7 @@ impl<O: Write, E: Write> Audience for Listing<'_, O, E> {
     }
 
     fn hear(&mut self, tried: &Tried, report: &Report) -> bool {
-        self.left = match self.left {
-            Some(left) => Some(left.saturating_sub(1)),
-            None => None,
-        };
+        self.left = after_one(self.left);
         self.heard = self.heard.saturating_add(1);
         if self.is_telling && self.heard % TOLD_EACH == 0 {
             // (who can't be told how far it is still gets the count)
@@ -106,8 +107,20 @@ impl<O: Write, E: Write> Audience for Listing<'_, O, E> {
 }
 
 impl<O: Write, E: Write> OrderAudience for Listing<'_, O, E> {
-    fn begin_order(&mut self, order: usize) {
+    fn begin_order(&mut self, order: usize)
+        ensures { self.new.order ≡ order }
+    {
         self.order = order;
+    }
+}
+
+/// How many runs are left after one more, where there is a limit.
+fn after_one(left: Option<u32>) -> Option<u32>
+    ensures { result ≡ option_map (λ left. left - 1) left }
+{
+    match left {
+        Some(left) => Some(left.saturating_sub(1)),
+        None => None,
     }
 }
 

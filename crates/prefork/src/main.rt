@@ -5,6 +5,7 @@ mod checking;
 mod exploration;
 mod program;
 mod setup;
+mod telling;
 
 use faults::Fault;
 pub use master_programs::Surroundings;

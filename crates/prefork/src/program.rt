@@ -1,27 +1,33 @@
 //! The program over any reader and any two writers.
-ghost use Rattle.std.specs.Prelude.{◌≡◌, ◌↔◌, [], map, None, Some, IsTrue, IfOk, IfErr, IfSome, OnOk, Ok};
+ghost use Rattle.std.specs.Prelude.{◌≡◌, ◌↔◌, ◌∷◌, [], map, None, Some, is_some, option_map, IsTrue, IfOk, IfErr, IfSome, OnOk, Ok};
 ghost use Rattle.pattern_text.specs.TurnsText.{some_turns};
 ghost use Rattle.pattern_text.specs.Courses.{course_of};
 ghost use Rattle.pattern_text.specs.PatternsText.{patterns_of};
 ghost use Rattle.transcript.specs.Reading.{blocks_of};
 ghost use Rattle.std.specs.Io.KnownBytes.{Appends};
 ghost use Rattle.faults.specs.Faults.{IsOfFile};
+ghost use Rattle.faults.specs.declared.fault.Fault.TheVariants.{Usage};
+ghost use Rattle.master_on_kernel.specs.Explorations.{HasOrders};
+ghost use Rattle.prefork.specs.Asked.{asks_for_runs, AreDemandsOf, AreTurnsGiven, IsQuestion};
 ghost use Rattle.prefork.specs.Input.{IsOfPatterns, IsOfBlocks};
 
 use crate::checking::check;
 use crate::exploration::{Listing, tell_findings, tell_orders};
 use crate::setup::setup_of;
+use crate::telling::{is_told_as_json, tell_as_json};
 use command_line::{CertifyOptions, EnactOptions, ExploreOptions, PlanOptions, Request};
 use control_words::Word;
+use death_explorer::DeathCounts;
 use explanations::{
     Evidence, explain, has_why, is_asked, tell, tell_program, tell_refusals, tell_usage,
 };
 use faults::Fault;
-use json_text::{blocks_json, exploration_json, patterns_json, plan_json};
+use json_text::{blocks_json, deaths_json, exploration_json, patterns_json, plan_json};
 use kernel_model::{Section, Turns};
 use master_on_kernel::{
-    Demands, Explored, Form, Outlook, Rehearsal, Start, Trials, begin, certify_all, line_instead,
-    look_ahead, read_goals, rehearse, show_state, summary,
+    DeathTrials, DeathsExplored, Demands, Explored, Form, Outlook, Rehearsal, Start, Trials, begin,
+    certify_all, death_summary, line_instead, look_ahead, read_goals, rehearse, show_state,
+    summary,
 };
 use master_programs::{Surroundings, adopt, child, supervise};
 use order_explorer::{ChosenOrders, Totals};
@@ -34,6 +40,7 @@ use std::process::{OpenProcess, Processes};
 use std::rt::Files;
 use std::time::Clock;
 use transcript::read_transcripts;
+use vocabulary::Settings;
 use word_runner::Block;
 
 /// Standard input.
@@ -46,8 +53,8 @@ struct Input<'a, I> {
 
 /// Runs the program, and gives its exit status.
 ///
-/// Faults are one line on standard error; blocks of words that were done are written first. `number` is that of its own
-/// process.
+/// Faults are one line on standard error, and with `--json` one on standard output before it; blocks of words that were done
+/// are written first. `number` is that of its own process.
 pub fn run<R: AllocGlobal + Files + Processes + Clock + Env, I: Read, O: Write, E: Write>(
     rt: &R,
     around: &Surroundings,
@@ -78,6 +85,10 @@ where
     match answer(rt, around, &request, &mut input, output, errors) {
         Ok(status) => status,
         Err(fault) => {
+            if is_told_as_json(&request, &fault) {
+                // (where that can't be written, the line says it)
+                let _ = tell_as_json(rt.alloc(), &fault, output);
+            }
             let status = fault.tell(errors);
             if around.explains || is_asked(&request) {
                 tell_more(rt, &request, input.given.as_slice(), &fault, errors);
@@ -333,6 +344,9 @@ fn explore<R: AllocGlobal + Files, O: Write, E: Write>(
         return Err(Fault::Usage);
     }
     let question = question_of(alloc, options)?;
+    if options.deaths {
+        return explore_deaths(rt, around, question, options, output, errors);
+    }
     let mut rehearsal = begin(rt, &setup_of(&options.start), options.held)?;
     let findings = find(alloc, &mut rehearsal, question, options, output, errors)?;
     let text = findings.outlook.text.as_slice();
@@ -348,6 +362,65 @@ fn explore<R: AllocGlobal + Files, O: Write, E: Write>(
     Ok(findings.outlook.status)
 }
 
+/// `explore --deaths`: writes what a start comes to after each death of the word's masters.
+#[inline(never)]
+fn explore_deaths<R: AllocGlobal + Files, O: Write, E: Write>(
+    rt: &R,
+    around: &Surroundings,
+    question: Question,
+    options: &ExploreOptions<'_>,
+    output: &mut O,
+    errors: &mut E,
+) -> Result<u8, Fault> {
+    let alloc = rt.alloc();
+    if asks_for_runs(options) {
+        return Err(Fault::Usage);
+    }
+    let setup = setup_of(&options.start);
+    let settings = Start::read(rt, &setup)?.settings;
+    let mut rehearsal = begin(rt, &setup, options.held)?;
+    let outlook = find_deaths(alloc, &mut rehearsal, question, &settings, errors)?;
+    let text = outlook.text.as_slice();
+    if options.start.json {
+        write(output, deaths_json(alloc, text)?.as_slice())?;
+    } else {
+        write(output, text)?;
+    }
+    if around.explains || options.start.why {
+        tell_refusals(text, errors);
+    }
+    Ok(outlook.status)
+}
+
+/// Whether an option is given that says which runs with events there are, or how they are told: deaths have none.
+fn asks_for_runs(options: &ExploreOptions<'_>) -> bool
+    ensures { result ≡ asks_for_runs options.now }
+{
+    options.list || options.progress || options.limit.is_some() || options.events.is_some()
+}
+
+/// Counts the deaths of the word's masters, and sums up.
+fn find_deaths<E: Write>(
+    alloc: Global,
+    rehearsal: &mut Rehearsal,
+    question: Question,
+    settings: &Settings,
+    errors: &mut E,
+) -> Result<Outlook, Fault> {
+    let Question {
+        word,
+        turns,
+        pairs,
+        demands,
+    } = question;
+    let chosen = orders_of(alloc, rehearsal, turns, word, pairs, errors)?;
+    let orders = chosen.lists.as_slice();
+    let mut counts = DeathCounts::new();
+    let trials = DeathTrials { orders, settings };
+    let explored: DeathsExplored = rehearsal.explore_deaths(alloc, word, &trials, &mut counts)?;
+    Ok(death_summary(alloc, &explored, orders, &counts, &demands)?)
+}
+
 /// What `explore` is asked: a word, by which turns or by all orders of them, under which events, and what is demanded of
 /// the runs.
 #[derive(Drop)]
@@ -359,7 +432,9 @@ struct Question {
 }
 
 /// The question of the command line. What is demanded comes before the events, these before the word, and the turns last.
-fn question_of(alloc: Global, options: &ExploreOptions<'_>) -> Result<Question, Fault> {
+fn question_of(alloc: Global, options: &ExploreOptions<'_>) -> Result<Question, Fault>
+    ensures { IfOk result (IsQuestion options.now) }
+{
     let demands = demands_of(options)?;
     let pairs = asks_for_pairs(options.events)?;
     let word = control_words::read(options.word.as_bytes()).map_err(|refusal| Fault::Word(
@@ -420,7 +495,10 @@ fn orders_of<E: Write>(
     word: Word,
     pairs: bool,
     errors: &mut E,
-) -> Result<ChosenOrders, Fault> {
+) -> Result<ChosenOrders, Fault>
+    ensures given { IfSome turns (λ given. IfOk result (λ chosen. chosen.lists.items ≡ given ∷ [])) }
+    ensures all { turns ≡ None → IfOk result (HasOrders rehearsal.now word pairs) }
+{
     match turns {
         Some(turns) => Ok(ChosenOrders::only(alloc, turns)?),
         None => {
@@ -432,7 +510,9 @@ fn orders_of<E: Write>(
 }
 
 /// The turns of the command line; none where it asks for all orders of them.
-fn turns_given(alloc: Global, text: Option<&str>) -> Result<Option<Turns>, Fault> {
+fn turns_given(alloc: Global, text: Option<&str>) -> Result<Option<Turns>, Fault>
+    ensures { IfOk result (AreTurnsGiven (option_map (λ text. text.now) text.entry)) }
+{
     match text {
         Some("all") => Ok(None),
         text => Ok(Some(turns_of(alloc, text)?)),
@@ -465,7 +545,9 @@ fn turns_of(alloc: Global, text: Option<&str>) -> Result<Turns, Fault>
 }
 
 /// What is demanded of the runs: only degraded ends can be forbidden, and only done ones required.
-fn demands_of(options: &ExploreOptions<'_>) -> Result<Demands, Fault> {
+fn demands_of(options: &ExploreOptions<'_>) -> Result<Demands, Fault>
+    ensures { IfOk result (AreDemandsOf options.now) }
+{
     Ok(Demands {
         forbids_degraded: is_given(options.forbid, "degraded")?,
         requires_done: is_given(options.require, "done")?,
@@ -474,7 +556,10 @@ fn demands_of(options: &ExploreOptions<'_>) -> Result<Demands, Fault> {
 }
 
 /// Whether an option is given, which can only name this end.
-fn is_given(option: Option<&str>, allowed: &str) -> Result<bool, Fault> {
+fn is_given(option: Option<&str>, allowed: &str) -> Result<bool, Fault>
+    ensures ok { IfOk result (λ given. given ≡ is_some option.entry) }
+    ensures err { IfErr result (λ fault. fault ≡ Usage) }
+{
     match option {
         None => Ok(false),
         Some(end) if end == allowed => Ok(true),

@@ -217,6 +217,7 @@ module _ (join : End → Tree) (a b : ℕ) (ne : a ≢ b) (later : Tree) where
     new_later = P.new_later;
     old_later = P.old_later;
     is = ap (λ x. e ∷ x) P.is;
+    both = (inl own, P.both);
     of_new =
         subst (λ x. Walks (Does a order set bs) (lacked_by a lacked) x P.new_later) (sym (mine a e P.front own))
         (own, call, edge, is, (subst (λ l. Walks edge.1 l (of_master a P.front) P.new_later) (own-after a set e.answer lacked) P.of_new));
@@ -240,6 +241,7 @@ module _ (join : End → Tree) (a b : ℕ) (ne : a ≢ b) (later : Tree) where
     new_later = P.new_later;
     old_later = P.old_later;
     is = ap (λ x. e ∷ x) P.is;
+    both = (inr own, P.both);
     of_old =
         subst (λ x. Walks (Does b order set bs) (lacked_by b lacked) x P.old_later) (sym (mine b e P.front own))
         (own, call, edge, is, (subst (λ l. Walks edge.1 l (of_master b P.front) P.old_later) (own-after b set e.answer lacked) P.of_old));
@@ -274,10 +276,11 @@ module _ (join : End → Tree) (a b : ℕ) (ne : a ≢ b) (later : Tree) where
     new_later = new;
     old_later = old;
     is = refl;
+    both = tt;
     of_new = refl;
     of_old = refl;
     used = tt;
-    joins = inl refl;
+    joins = inl (refl, turns, walk);
   }
   apart (e ∷ es) (Ends end) turns (Ends other) lacked th of_a of_b walk = record {
     front = [];
@@ -285,6 +288,7 @@ module _ (join : End → Tree) (a b : ℕ) (ne : a ≢ b) (later : Tree) where
     new_later = Ends end;
     old_later = Ends other;
     is = refl;
+    both = tt;
     of_new = refl;
     of_old = refl;
     used = tt;

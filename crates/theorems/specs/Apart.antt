@@ -69,7 +69,13 @@ Plays turns [] = ⊤
 Plays [] (u ∷ used) = (u ≡ New) × Plays [] used
 Plays (t ∷ turns) (u ∷ used) = (u ≡ t) × Plays turns used
 
+-- Each entry is one of the two masters'.
+abbrev pub AreOfBoth : ℕ → ℕ → List Entry → Type 0
+AreOfBoth a b [] = ⊤
+AreOfBoth a b (e ∷ entries) = ((e.by ≡ a) ⊎ (e.by ≡ b)) × AreOfBoth a b entries
+
 -- A walk of a weave is a walk of each part, merged as the turns say, and behind both ends a walk of what is joined.
+-- Where nothing is behind them, it is at both parts, as far as each has come.
 pub record IsWalkedApart
     (join : End → Tree) (new : Tree) (turns : List Turn) (old : Tree) (a b : ℕ) (lacked : List Lack) (entries : List Entry) (later : Tree) : Type 0 where
   pub front : List Entry
@@ -77,11 +83,13 @@ pub record IsWalkedApart
   pub new_later : Tree
   pub old_later : Tree
   pub is : entries ≡ front ++ behind
+  pub both : AreOfBoth a b front
   pub of_new : Walks new (lacked_by a lacked) (of_master a front) new_later
   pub of_old : Walks old (lacked_by b lacked) (of_master b front) old_later
   pub used : Plays turns (turns_used new old front)
   pub joins :
-      (behind ≡ []) ⊎ ((end : End) × (other : End) × (counts : List Lack)
+      ((behind ≡ []) × (rest : List Turn) × (weave join new_later rest old_later ≡ later))
+      ⊎ ((end : End) × (other : End) × (counts : List Lack)
       × (new_later ≡ Ends end) × (old_later ≡ Ends other) × WalksAll (join end) counts behind later)
 
 abbrev pub WalksApart : Type 0
@@ -90,11 +98,6 @@ WalksApart =
     (entries : List Entry) (later : Tree) →
     a ≢ b → IsOf a new → IsOf b old → AreCountsOf a b lacked → WalksAll (weave join new turns old) lacked entries later →
     IsWalkedApart join new turns old a b lacked entries later
-
--- Each entry is one of the two masters'.
-abbrev pub AreOfBoth : ℕ → ℕ → List Entry → Type 0
-AreOfBoth a b [] = ⊤
-AreOfBoth a b (e ∷ entries) = ((e.by ≡ a) ⊎ (e.by ≡ b)) × AreOfBoth a b entries
 
 -- And any merge of a walk of the one part with a walk of the other, in which each keeps its own order, is a walk of the weave under
 -- the turns that it uses.

@@ -10,7 +10,8 @@ use Rattle.std.proofs.lemmas.List.Sums.{list_all-from_AllPass}
 use Rattle.listener_set.specs.declared.generation.Generation.{Generation}
 use Rattle.listener_set.specs.GenerationText.{generation_text}
 use Rattle.listener_set.specs.Numbers.{AreBelow, AreNumbers}
-use Rattle.listener_set.specs.AddressText.{IsDotted, IsAddress}
+use Rattle.listener_set.specs.AddressText.{IsAddress}
+use Rattle.listener_set.proofs.AddressGrammar.{address_graphic}
 use Rattle.listener_set.specs.PathText.{is_path, begins_with_slash}
 use Rattle.vocabulary.specs.declared.calls.Call.{Call}
 use Rattle.vocabulary.specs.declared.calls.Call.TheVariants as call
@@ -112,24 +113,8 @@ forked_lacks g nr (Some fds) h s =
     lacks-append 10 (worker_text g nr) (codes " fds " ++ set_text fds) (worker_lacks g nr h)
     (lacks-append 10 (codes " fds ") (set_text fds) refl (set_lacks 10 refl refl refl refl refl fds (are_numbers fds s)))
 
-octet_lacks : (n : ℕ) → n ≤ 255 → lacks 10 (decimal n) ≡ true
-octet_lacks n le = number_lacks 10 n refl (omega (arith, le))
-
-octets_lack : (ns : List ℕ) → All (λ n. n ≤ 255) ns → lacks 10 (join_with_byte 46 (map decimal ns)) ≡ true
-octets_lack [] h = refl
-octets_lack (n ∷ []) h = octet_lacks n (All-head (λ n. n ≤ 255) n [] h)
-octets_lack (n ∷ m ∷ ns) h =
-    lacks-append 10 (decimal n) (codes "." ++ join_with_byte 46 (map decimal (m ∷ ns))) (octet_lacks n (All-head (λ n. n ≤ 255) n (m ∷ ns) h))
-    (lacks-append 10 (codes ".") (join_with_byte 46 (map decimal (m ∷ ns))) refl (octets_lack (m ∷ ns) (All-tail (λ n. n ≤ 255) n (m ∷ ns) h)))
-
 address_lacks : (a : List ℕ) → IsAddress a → lacks 10 a ≡ true
-address_lacks a h = elim h [ inl dotted ↦ plain dotted | inr path ↦ lacks-all is_ascii_graphic 10 refl a (list_all-from_AllPass is_ascii_graphic a path.graphic) ]
-  where
-    plain : IsDotted a → lacks 10 a ≡ true
-    plain d =
-        let small : d.port ≤ 65535 = d.port_fits.1 in
-        ap (lacks 10) d.written
-        ∙ lacks-append 10 (join_with_byte 46 (map decimal d.octets)) (codes ":" ++ decimal d.port) (octets_lack d.octets d.octets_fit) (lacks-append 10 (codes ":") (decimal d.port) refl (number_lacks 10 d.port refl (omega (arith, small))))
+address_lacks a h = lacks-all is_ascii_graphic 10 refl a (list_all-from_AllPass is_ascii_graphic a (address_graphic a h))
 
 path_lacks : (path : List ℕ) → IsPath path → lacks 10 path ≡ true
 path_lacks path h = elim h [ inl is ↦ plain path is | inr stem ↦ ap (lacks 10) stem.2 ∙ lacks-append 10 stem.0 (codes ".oldbin") (plain stem.0 stem.1) refl ]

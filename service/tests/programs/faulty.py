@@ -17,15 +17,15 @@ sys.dont_write_bytecode = True
 sys.path.insert(0, str(pathlib.Path(__file__).resolve().parent.parent.parent))
 
 from prefork_service import (  # noqa: E402
-    asking, chronicle, commands, door, keeping, leaving, master, patience, preloading, records, serve, service,
-    summary, telling, ticks, watching, web, words,
+    asking, chronicle, commands, core, door, feed, keeping, leaving, master, patience, preloading, records, serve, service,
+    summary, telling, ticks, watching, words,
 )
 
 PLACE = pathlib.Path(os.environ["FAULTS"])
 CLASSES = [
-    asking.Asking, chronicle.Chronicle, commands.Commands, door.Door, keeping.Keeping, leaving.Leaving, master.Master,
+    asking.Asking, chronicle.Chronicle, commands.Commands, door.Door, feed.Feed, keeping.Keeping, leaving.Leaving, master.Master,
     patience.Hanging, preloading.KeptPreloader, preloading.Preloading, records.Records, service.Service, summary.Summary,
-    telling.Telling, ticks.Ticks, watching.Watching, web.Site, words.Queue,
+    telling.Telling, ticks.Ticks, watching.Watching, words.Queue,
 ]
 
 
@@ -76,4 +76,4 @@ if __name__ == "__main__":
                 wrap(one, name)
     for way in ("register", "modify"):
         setattr(selectors.DefaultSelector, way, note(getattr(selectors.DefaultSelector, way)))
-    sys.exit(serve.main())
+    sys.exit(core.main(int(sys.argv[2])) if sys.argv[1:2] == ["--core"] else serve.main())

@@ -1,5 +1,6 @@
 /* page [NUMBER..]: a small server for tests. It takes the numbers of its listening sockets as arguments, or without any
- * by LISTEN_FDS, and answers each request with a line: `version V process P`, V from the environment (VERSION). /slow takes a second, /stuck for ever.
+ * by LISTEN_FDS, and answers each request with a line: `version V process P`, V from the environment (VERSION), and the
+ * status from there too (CODE). /slow takes a second, /stuck for ever.
  * SIGTERM finishes: it accepts no more, answers what has begun, and closes kept connections after their next answer, or
  * once they have been idle for twenty seconds: longer than a client may halt. */
 #define _GNU_SOURCE
@@ -79,8 +80,8 @@ static void answer(int at) {
                         (int)getpid());
     int length =
         snprintf(text, sizeof text,
-                 "HTTP/1.1 200 OK\r\nContent-Type: text/plain\r\nContent-Length: %d\r\nConnection: %s\r\n\r\n%s", size,
-                 is_kept ? "keep-alive" : "close", body);
+                 "HTTP/1.1 %s Told\r\nContent-Type: text/plain\r\nContent-Length: %d\r\nConnection: %s\r\n\r\n%s",
+                 getenv("CODE") ? getenv("CODE") : "200", size, is_kept ? "keep-alive" : "close", body);
     client->length = 0;
     client->since = now();
     if (send(client->socket, text, (size_t)length, MSG_NOSIGNAL) != length)

@@ -1,6 +1,7 @@
 """page.py: a small server for tests. It takes its listening sockets by LISTEN_FDS, and tells NOTIFY_SOCKET once it is ready.
 
-It answers each request with a line: `version V process P`, V from the environment (VERSION). /slow takes a second,
+It answers each request with a line: `version V process P`, V from the environment (VERSION), and the status from there
+too (CODE). /slow takes a second,
 /held makes the file HELD and waits while that is there, /stuck stops the whole server, /print prints a line first.
 SIGTERM finishes as in page.c.
 """
@@ -73,7 +74,7 @@ class Page:
         keeps = not self.finishing.is_set() and b"\r\nconnection: close" not in head.lower()
         manner = "keep-alive" if keeps else "close"
         writer.write(
-            f"HTTP/1.1 200 OK\r\nContent-Type: text/plain\r\nContent-Length: {len(body)}\r\nConnection: {manner}\r\n\r\n{body}".encode()
+            f"HTTP/1.1 {os.environ.get('CODE', '200')} Told\r\nContent-Type: text/plain\r\nContent-Length: {len(body)}\r\nConnection: {manner}\r\n\r\n{body}".encode()
         )
         await writer.drain()
         if not keeps:

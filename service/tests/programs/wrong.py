@@ -12,7 +12,7 @@ sys.dont_write_bytecode = True
 sys.path[0] = str(pathlib.Path(__file__).resolve().parent.parent.parent / "double")
 import worker
 
-FAULTS = ("early", "prints", "hurries", "leaves", "blocks", "forgets", "stays", "deaf", "shuts", "talks")
+FAULTS = ("early", "prints", "hurries", "leaves", "blocks", "forgets", "stays", "deaf", "shuts", "talks", "lingers")
 FAULT = sys.argv[1]
 
 
@@ -53,6 +53,17 @@ class Wrong(worker.Worker):
         return goes_on
 
 
+def linger() -> None:
+    """A survivor that serves on for ever."""
+    name = f"{os.environ['PREFORK_WORKER']}.{os.getpid()}"
+    place = pathlib.Path(os.environ["PREFORK_FOLDER"], "survivors")
+    if place.exists():
+        (place / name).touch()
+        time.sleep(3600)
+
+
+if FAULT == "lingers":
+    worker.outlive_master = linger
 worker.Worker = Wrong
 status = worker.work(page)
 if FAULT == "deaf":

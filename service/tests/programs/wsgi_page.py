@@ -18,6 +18,11 @@ def application(environ, start_response):
     if path == "/big":
         start_response("200 OK", [("Content-Length", str(PIECES * PIECE))])
         return (b"x" * PIECE for _ in range(PIECES))
+    if path == "/raise":
+        raise ValueError("a page that fails")
+    if path == "/pieces":
+        start_response("200 OK", [("Content-Type", "text/plain")])
+        return iter([b"one", b"two", b"six"])
     if path == "/stuck":
         time.sleep(3600)
     if path == "/print":

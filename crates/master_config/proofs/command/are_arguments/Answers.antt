@@ -3,7 +3,7 @@ use Rattle.std.proofs.lemmas.Iterator.{YieldsList-from_slice}
 use Rattle.std.proofs.lemmas.Iterator.Search.{all_from_yields_List}
 use Rattle.toml.specs.View.{view}
 use Rattle.master_config.specs.Values.{text_of}
-use Rattle.master_config.specs.Configuration.{is_argument}
+use Rattle.master_config.specs.Arguments.{is_argument}
 use Rattle.master_config.proofs.Trees.{list_all-texts_of}
 use Rattle.master_config.proofs.command.are_arguments.Goals as goal
 

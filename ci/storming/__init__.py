@@ -1,0 +1,1 @@
+"""A storm: random words, kills, stops, full disks and hostile visitors, all at a time."""

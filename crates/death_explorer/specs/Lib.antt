@@ -1,0 +1,4 @@
+pub mod Counts
+pub mod Leftovers
+pub mod Deaths
+pub mod Survived

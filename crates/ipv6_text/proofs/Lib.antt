@@ -1,0 +1,2 @@
+pub mod GroupTexts
+pub mod HostTexts

@@ -1,0 +1,14 @@
+use Rattle.std.proofs.Common.{◌∙◌, rules, tests, String, Global, string_bytes}
+use Rattle.std.proofs.lemmas.Iterator.Consumers.{YieldsList-from_rest}
+use Rattle.std.proofs.lemmas.Iterator.Search.{all_from_yields_List}
+use Rattle.std.specs.Map.{keys_of}
+use Rattle.std.specs.Map.Iter.{deref}
+use Rattle.master_config.specs.Sockets.{is_listener}
+use Rattle.master_config.proofs.Trees.{list_all-keys}
+use Rattle.master_config.proofs.sockets.has_only_listeners.Goals as goal
+
+pub returns : goal.returns
+returns c =
+    let keys = keys_of c.args.sockets.now.entries in
+    all_from_yields_List (λ k. is_listener c.args.listeners.now (string_bytes k)) _ _ c.all.result c.all.ensures.ran (YieldsList-from_rest {shows = deref {X = String Global}} keys c.keys.ensures.rest) (λ x b q k. search (rules, tests))
+    ∙ list_all-keys (is_listener c.args.listeners.now) c.args.sockets.now.entries

@@ -1,0 +1,3 @@
+pub mod Rolling
+pub mod Owed
+pub mod Stepped

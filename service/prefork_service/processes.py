@@ -1,0 +1,64 @@
+"""Processes of a service, as the system tells of them."""
+import pathlib
+
+# A flag of the system: a process is about to end.
+PF_EXITING = 4
+
+
+def fields_of(process: int) -> list[str]:
+    """What the system says of a process after its name; nothing if it has ended, or can't be asked for."""
+    try:
+        return read_fields(process)
+    except OSError:
+        return []
+
+
+def read_fields(process: int) -> list[str]:
+    """The same. Raises OSError if the system can't be asked just now, where descriptors have run out, say."""
+    try:
+        return pathlib.Path(f"/proc/{process}/stat").read_text().rpartition(")")[2].split()
+    except (FileNotFoundError, ProcessLookupError):
+        return []
+
+
+def is_ending(process: int) -> bool:
+    """Whether a process has ended, or is about to: a moment before that it has let go what it held."""
+    fields = fields_of(process)
+    return not fields or fields[0] in "ZX" or bool(int(fields[6]) & PF_EXITING)
+
+
+def descends(process: int, ancestor: int) -> bool:
+    """Whether a process runs that this one has started, or one that it has started. Raises OSError if the system can't be
+    asked."""
+    while process > 1:
+        fields = read_fields(process)
+        if not fields or fields[0] == "Z":
+            return False
+        process = int(fields[1])
+        if process == ancestor:
+            return True
+    return False
+
+
+def masters_of(first: int) -> list[int]:
+    """The master that the service has started, and the new ones of upgrades, each started by the one before."""
+    found, is_more = [first], True
+    while is_more:
+        is_more = False
+        for child in children_of(found[-1]):
+            try:
+                words = pathlib.Path(f"/proc/{child}/cmdline").read_bytes().split(b"\0")
+            except OSError:
+                continue
+            if words[1:2] == [b"adopt"]:
+                found.append(child)
+                is_more = True
+                break
+    return found
+
+
+def children_of(process: int) -> list[int]:
+    try:
+        return [int(word) for word in pathlib.Path(f"/proc/{process}/task/{process}/children").read_text().split()]
+    except OSError:
+        return []

@@ -1,0 +1,116 @@
+"""What prefork-watch shows without being asked a word: pages, metrics, and programs that are told what happens."""
+import json
+import pathlib
+import selectors
+import time
+from collections.abc import Callable
+from typing import Any
+
+from . import live, metrics, page, view
+from .barrier import Barrier
+from .done import Done
+from .folder import say
+from .hooks import OF_OUTCOMES, Hooks
+from .metrics import MetricsFile, metrics_of
+from .page import NextPlan
+from .picture import Picture
+from .sites import is_site
+from .state import SHORT
+from .status import Status
+from .web import Pages, Site
+
+# How often the file of metrics is written, and how often it is tried to open an address.
+FILE_SECONDS, OPEN_SECONDS = 10.0, 1.0
+
+
+class Showing:
+    """Pages, metrics and hooks. The picture is what they show."""
+
+    def __init__(self, events: selectors.BaseSelector, picture: Picture, barrier: Barrier):
+        self.events, self.picture, self.barrier, self.status = events, picture, barrier, picture.status
+        hello = picture.hello
+        self.hooks = Hooks({})
+        self.sites: list[Site] = []
+        self.file: MetricsFile | None = None
+        self.plan: NextPlan | None = None
+        self.written, self.next_open = 0.0, 0.0
+        numbers = {"/metrics": lambda: (metrics.KIND, metrics_of(self.status()))}
+        # The addresses that are not open yet, with what is shown there.
+        self.wanted: dict[str, Pages] = {}
+        if hello["metrics"] and is_site(hello["metrics"]):
+            self.wanted[hello["metrics"]] = numbers
+        elif hello["metrics"]:
+            self.file = MetricsFile(pathlib.Path(hello["metrics"]).absolute())
+        if hello["page"]:
+            self.plan = NextPlan()
+            self.wanted[hello["page"]] = {**self.pages(), **numbers}
+
+    def pages(self) -> Pages:
+        """What the page's address shows: the page, what keeps it as the service is, and the status for programs."""
+        return {
+            "/": lambda: (page.KIND, view.page_of(*self.seen())),
+            "/live": lambda: (live.KIND, view.event_of(*self.seen())),
+            "/live.js": lambda: (live.SCRIPT_KIND, live.SCRIPT),
+            "/status.json": lambda: (live.JSON_KIND, json.dumps(self.status()) + "\n"),
+        }
+
+    def seen(self) -> tuple[Status, list[Done], list[str], str]:
+        """What a page shows."""
+        return self.status(), [*self.picture.words], self.picture.state["calls"], self.plan.text if self.plan else ""
+
+    def open(self) -> None:
+        """Opens the addresses that are not open. One that others have is tried again."""
+        if not self.wanted or time.monotonic() < self.next_open:
+            return
+        self.next_open = time.monotonic() + OPEN_SECONDS
+        for address, pages in [*self.wanted.items()]:
+            try:
+                self.sites.append(Site(self.events, address, pages, self.picture.hello["hosts"]))
+                del self.wanted[address]
+            except OSError as fault:
+                self.barrier.once(f"{fault}, and is tried again")
+
+    def tell(self, event: str, told: dict[str, Any]) -> None:
+        """Tells the program of an event, by the configuration that runs."""
+        self.hooks.programs = self.picture.state["hooks"]
+        self.hooks.tell(event, {"folder": self.picture.hello["folder"], **told})
+
+    def tell_word(self, done: Done | None) -> None:
+        """Tells programs and the file of metrics of a word that has ended."""
+        if done:
+            told = {**done.as_json(), "lines": done.block.splitlines()}
+            self.tell(OF_OUTCOMES.get(done.report.split()[0], ""), told)
+        self.write()
+
+    def tell_state(self, told: dict[str, Any]) -> None:
+        """Tells programs of another state of the whole."""
+        whole, before = told["whole"], told["before"]
+        is_healed = before == SHORT and whole["state"] != SHORT
+        event = "on-short" if whole["state"] == SHORT else "on-healed" if is_healed else ""
+        more = {"failing": self.picture.brief()["failing"], "runs_now": told["runs_now"]}
+        self.tell(event, {**whole, **more})
+
+    def tend(self) -> None:
+        tends: list[Callable] = [self.open, self.hooks.tend, self.picture.traffic.tend, *(site.tend for site in self.sites)]
+        tends += [self.tend_plan] if self.plan else []
+        tends += [self.write] if self.file and time.monotonic() - self.written > FILE_SECONDS else []
+        for tend in tends:
+            self.barrier.duty(tend)
+
+    def tend_plan(self) -> None:
+        if self.plan:
+            self.plan.tend(self.picture.brief())
+
+    def write(self) -> None:
+        """Writes the file of metrics, if there is one."""
+        if self.file:
+            self.written = time.monotonic()
+            self.file.write(metrics_of(self.status()))
+
+    def end(self) -> None:
+        ends: list[Callable] = [site.end for site in self.sites]
+        ends += [self.file.end] if self.file else []
+        ends += [self.plan.end] if self.plan else []
+        ends.append(self.hooks.end)
+        for end in ends:
+            self.barrier.duty(end)

@@ -1,0 +1,98 @@
+"""How far a word is."""
+import io
+import os
+import pty
+import subprocess
+import sys
+import time
+import unittest
+from typing import Any
+from unittest import mock
+
+from kit import SERVICE
+from prefork_service import following
+from prefork_service.following import Follower
+from prefork_service.progress import is_newer, progress_of
+
+
+def run(*generations: str) -> list[dict[str, Any]]:
+    return [{"generation": generation, "process": 7 + number} for number, generation in enumerate(generations)]
+
+
+def far(seconds: float) -> dict[str, Any]:
+    return progress_of("HUP", seconds, "1.9", run("1.9", "1.10"))
+
+
+class ProgressTest(unittest.TestCase):
+    def test_which_generation_is_newer(self) -> None:
+        for newer, older in (("1.10", "1.9"), ("2.1", "1.9"), ("1.1", "")):
+            self.assertTrue(is_newer(newer, older))
+            self.assertFalse(is_newer(older, newer) if older else is_newer(newer, newer))
+
+    def test_new_and_old_workers(self) -> None:
+        ended = [{"generation": "1.9", "process": None}]
+        told = progress_of("HUP", 8.9, "1.9", [*run("1.9", "1.9", "1.8", "1.10"), *ended])
+        self.assertEqual(told, {"word": "HUP", "seconds": 8, "new": 1, "old": 3, "line": "HUP, for 8 s: 1 new and 3 old workers run"})
+        self.assertEqual(progress_of("QUIT", 3.0, "1.9", run("1.9"))["line"], "QUIT, for 3 s: 1 worker runs")
+        self.assertEqual(progress_of("QUIT", 3.0, "1.9", run("1.9", "1.9"))["line"], "QUIT, for 3 s: 2 workers run")
+
+
+class Terminal(io.StringIO):
+    def isatty(self) -> bool:
+        return True
+
+
+class FollowerTest(unittest.TestCase):
+    def followed(self, output: io.StringIO, statuses: list[Any], period: float = 0.01) -> str:
+        """What is shown while these are the statuses, one after another."""
+        left = list(statuses)
+
+        def ask() -> dict[str, Any]:
+            if not left:
+                raise OSError("it has ended")
+            found = left.pop(0)
+            if isinstance(found, Exception):
+                raise found
+            return found
+        with mock.patch.object(following, "EACH_SECONDS", period), mock.patch.object(following, "SELDOM_SECONDS", period):
+            with Follower(ask, output):
+                deadline = time.monotonic() + 20
+                while left and time.monotonic() < deadline:
+                    time.sleep(0.005)
+                time.sleep(0.05)
+        return output.getvalue()
+
+    def test_a_line_that_moves_at_a_terminal_and_is_gone_at_the_end(self) -> None:
+        states = [{"progress": far(seconds)} for seconds in (1.0, 2.0)]
+        shown = self.followed(Terminal(), [*states, {"progress": None}])
+        self.assertIn("\r\033[KHUP, for 1 s: 1 new and 1 old workers run\r\033[KHUP, for 2 s: ", shown)
+        self.assertTrue(shown.endswith("\r\033[K"))
+
+    def test_standard_error_of_these_programs_is_known_as_a_terminal(self) -> None:
+        code = f"import sys; sys.path.insert(0, {str(SERVICE)!r}); from prefork_service.errors import take_standard; take_standard(); " \
+            "print(sys.stderr.isatty())"
+        ours, theirs = pty.openpty()
+        try:
+            for errors, wanted in ((theirs, "True\n"), (subprocess.DEVNULL, "False\n")):
+                found = subprocess.run([sys.executable, "-c", code], stdout=subprocess.PIPE, stderr=errors, text=True, timeout=60)
+                self.assertEqual(found.stdout, wanted)
+        finally:
+            os.close(ours)
+            os.close(theirs)
+
+    def test_lines_elsewhere(self) -> None:
+        states = [{"progress": far(seconds)} for seconds in (1.0, 2.0, 3.0)]
+        shown = self.followed(io.StringIO(), [*states, OSError("nobody")])
+        self.assertEqual(shown.splitlines()[0], "prefork-ctl: HUP, for 1 s: 1 new and 1 old workers run")
+        self.assertNotIn("\033", shown)
+        self.assertEqual(len(shown.splitlines()), 3)
+
+    def test_a_word_that_is_done_at_once_shows_nothing(self) -> None:
+        output = Terminal()
+        with Follower(lambda: {"progress": far(0.0)}, output):
+            pass
+        self.assertEqual(output.getvalue(), "")
+
+
+if __name__ == "__main__":
+    unittest.main()
