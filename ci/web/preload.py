@@ -15,7 +15,7 @@ from typing import Any
 
 from gate.addresses import is_answered
 from gate.waiting import SECONDS, comes, until
-from web.site import BIN, CLIENTS, SERVICE, Scenario, Site, text_of
+from web.site import BIN, CLIENTS, SERVICE, Scenario, Site, name_of, text_of
 from web.starts import answer_to, asks, status
 
 WSGI = '''import os, time
@@ -189,16 +189,26 @@ def ends_without_a_loss(site: Site, application: Application) -> None:
     site.check("they are not of the preloader that runs", application.count() == loaded)
 
 
-def killed(site: Site, what: str, number: int, others: Callable[[], Any]) -> None:
-    """Kills a process under a load of its own: requests in one worker fail at most, and none that began afterwards."""
+def killed(site: Site, what: str, numbers: Collection[int], others: Callable[[], Any]) -> None:
+    """Kills the first of these processes under a load of its own, with which the others end: requests in one worker fail
+    at most, and none that began once they have ended. (Until then a worker accepts: its system kills it as soon as its
+    shim's descriptors are closed, which may take a while on a busy machine.)"""
     site.begin_load()
-    site.kill(number)
+    site.kill(next(iter(numbers)))
+    until(f"the end of a {what}", lambda: not {*numbers} & {*site.mark.processes()})
     moment = time.monotonic()
     until(f"what follows a killed {what}", others)
     found = site.end_load()
     late = [it for it in found["failures"] if it["began"] > moment]
-    site.tally.check_lost([f"{site.name}: {what}: requests that began after it failed: {late}"] if late else [])
+    site.tally.check_lost([f"{site.name}: {what}: requests that began after its end failed: {late}"] if late else [])
     site.check_load(found, "1", may_fail=CLIENTS)
+
+
+def shim_and_worker(site: Site) -> list[int]:
+    """The shim of a worker, and the worker."""
+    worker = min(site.workers())
+    name = name_of(worker).removeprefix("worker ")
+    return [until("its shim", lambda: [*site.named(f"shim {name}")])[0], worker]
 
 
 def kills(site: Site, language: Language) -> None:
@@ -209,15 +219,15 @@ def kills(site: Site, language: Language) -> None:
         return
     site.check_load(site.end_load(), "1")
     victim = min(site.workers())
-    killed(site, "worker", victim, lambda: site.has_others({victim}))
+    killed(site, "worker", [victim], lambda: site.has_others({victim}))
     old = site.workers()
-    killed(site, "shim", min(site.named("shim ")), lambda: len(site.workers()) == 2 and site.workers() != old)
+    killed(site, "shim", shim_and_worker(site), lambda: len(site.workers()) == 2 and site.workers() != old)
     site.check_workers("a killed shim", 2)
     application.install(2, application.breaks)
     rolls_back(site, "HUP", application.reason)
     site.check("the status does not say how to be rid of that", "send HUP" in (status(site)["of_files"] or ""))
     loaded, second = application.count(), min(site.workers())
-    killed(site, "worker of the version before", second, lambda: site.has_others({second}))
+    killed(site, "worker of the version before", [second], lambda: site.has_others({second}))
     site.check("it is loaded again", application.count() == loaded)
     application.install(1)
     site.wants("HUP", 0, "done", 2)
@@ -225,7 +235,7 @@ def kills(site: Site, language: Language) -> None:
     third, dead = min(site.workers()), preloader(site)
     os.kill(dead, signal.SIGKILL)
     until("its end", lambda: dead not in site.mark.processes())
-    killed(site, "worker without a preloader", third, lambda: site.has_others({third}))
+    killed(site, "worker without a preloader", [third], lambda: site.has_others({third}))
     site.check("it is not loaded again", application.count() == loaded + 2)
     # The workers of a killed preloader are given to prefork-serve, which is what process 1 of a container is given.
     site.check(f"zombies: {zombies(site)}", comes(lambda: not zombies(site)))
