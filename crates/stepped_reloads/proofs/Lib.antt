@@ -1,3 +1,6 @@
 pub mod Rolling
 pub mod Owed
+pub mod Late
+pub mod Walks
+pub mod Manner
 pub mod Stepped

@@ -1,7 +1,7 @@
 -- A reload in steps: its tree, and what is promised of its run. It stands beside the definitions: a configuration does not say
 -- yet how many workers a step starts.
 use Rattle.std.specs.Prelude.{◌≡◌, refl, ℕ, zero, suc, ◌+◌, ◌&&◌, ◌==◌, ◌∷◌, ◌++◌, not, filter, if◌then◌else◌, Bool, true, false, List, [], length, min, map, reverse, take, drop, nat_lt, nat_le, None}
-use Rattle.std.specs.List.{AllByRecursion}
+use Rattle.std.specs.List.{AllByRecursion, list_any}
 use Rattle.listener_set.specs.Numbers.{lacks, numbers_below}
 use Rattle.vocabulary.specs.Settings.{Settings}
 use Rattle.vocabulary.specs.declared.plans.Side.TheVariants as side
@@ -10,9 +10,10 @@ use Rattle.definitions.specs.Table.{Address, Table, service}
 use Rattle.definitions.specs.Calls.{Quit, CloseAt, Census}
 use Rattle.definitions.specs.Master.{Crew, Record, addresses_of, crew_of, layout_of, layout_in, served, sides_of, want}
 use Rattle.definitions.specs.After.{crew_wanted}
-use Rattle.definitions.specs.Run.{Tree, Pattern, Ran, report_of, run_with, start_at}
+use Rattle.definitions.specs.Run.{Outcome, Tree, Pattern, Ran, report_of, run_with, start_at}
 use Rattle.definitions.specs.Plans.{reload_tree, tells, asks, awaits_gone, starts, starts_any, either, settle, opens, only_in, reload_on}
-use Rattle.definitions.specs.Claims.{Says, IsSucceeded, Kept, Floor, IsBlamed, HasCause, IsPaid, IsStart, Accepts, refused_among}
+use Rattle.definitions.specs.Claims.{Says, IsSucceeded, Kept, Floor, Stays, KillsOnlyLate, is_old_side, is_wait, IsBlamed}
+use Rattle.definitions.specs.Claims.{HasCause, IsPaid, IsStart, Accepts, refused_among}
 
 ---- Steps
 
@@ -128,12 +129,20 @@ plan_of asked surge r s =
 abbrev pub run_of : Bool → ℕ → Record → Settings → Pattern → Table → Ran
 run_of asked surge r s pattern t = run_with None (plan_of asked surge r s) pattern (start_at t r.note)
 
+-- A run that ends on the old side leaves all workers, unless it waited for some worker to be gone. One that was Ready at first is
+-- killed only after it was told to quit and was late.
+abbrev pub SteppedManner : Outcome → Table → Ran → Type 0
+SteppedManner end first ran =
+    let waited = list_any (λ e. is_wait (λ g k. true) e.call) ran.entries in
+    (is_old_side end ≡ true → waited ≡ false → Stays first (λ k. true) ran) × KillsOnlyLate first ran
+
 -- How it ends, and what is kept; where there is more than one step the faults so far excuse the floor.
 pub record KeepsSteps (surge : ℕ) (t : Table) (r : Record) (s : Settings) (ran : Ran) : Type 0 where
   pub says : Says r (Reload s) (report_of (sides_of r (Reload s)) ran).outcome t ran.last.table
   pub after : IsSucceeded r (Reload s) t ran
   pub kept : AllByRecursion (λ p. Kept (service t) (want r (Reload s)) t p.table) ran.passed
   pub floor : AllByRecursion (Floor (λ p. if nat_lt 0 surge && nat_lt surge (length (numbers_below s.workers)) then p.faults else 0) t r (Reload s)) ran.passed
+  pub manner : SteppedManner (report_of (sides_of r (Reload s)) ran).outcome t ran
   pub blamed : AllByRecursion IsBlamed ran.passed
   pub cause : HasCause (report_of (sides_of r (Reload s)) ran).outcome ran.last.cause
   pub paid : IsPaid r.retries (report_of (sides_of r (Reload s)) ran).outcome ran.last
