@@ -3,7 +3,7 @@
  * master and the one in charge: it starts each new master, passes lines on, and ends a master that has left.
  *
  * What the first master starts becomes the relay, and the parent of the new master. What a later one starts asks the relay
- * at PREFORK_FOLDER/masters.sock, gives it its own input, output and standard error, and stands in for the next master,
+ * at PREFORK_FOLDER/masters.sock, gives it its own input, output and standard error, and is the deputy of the next master,
  * which the relay starts with these: if either ends, so does the other one. Once the master in charge has answered `ok` to
  * `mI leave`, the relay takes its place at the pipes of the next one, and kills it. If that can't be, the old master stays
  * and passes lines on, as masters do.
@@ -29,11 +29,11 @@
 
 #define ROOM 65536
 #define LONGEST_LINE 128
-/* The descriptors that a stand-in gives: input, output and standard error. */
+/* The descriptors that a deputy gives: input, output and standard error. */
 #define GIVEN 3
 /* How long one of them may take to give them. */
 #define ASK_MILLISECONDS 1000
-enum { DOWN, UP, LISTENER, CHILDREN, STAND_IN, PLACES };
+enum { DOWN, UP, LISTENER, CHILDREN, DEPUTY, PLACES };
 
 /* Bytes on their way from one descriptor to another, and what is known of the line that is read. */
 struct way {
@@ -45,7 +45,7 @@ struct way {
 /* A master, and how its pipes are opened again without holding them open. */
 struct next {
     pid_t process;
-    int stand_in, input, output;
+    int deputy, input, output;
 };
 
 static struct relay {
@@ -72,7 +72,7 @@ static bool place_of(struct sockaddr_un *place) {
     return length > 0 && length < (int)sizeof place->sun_path;
 }
 
-/* Sends or receives the descriptors of a stand-in; whether all of them have come. */
+/* Sends or receives the descriptors of a deputy; whether all of them have come. */
 static bool pass(int connection, int *given, bool sends) {
     union {
         struct cmsghdr header;
@@ -104,14 +104,14 @@ static bool hears(int connection) {
     return got == 1;
 }
 
-/* Stands in for a master that the relay above starts, until that has ended. Returns where no relay does so. */
-static void stand_in(void) {
+/* Is the deputy of a master that the relay above starts, until that has ended. Returns where no relay does so. */
+static void be_deputy(void) {
     struct sockaddr_un place;
     int given[GIVEN] = {0, 1, 2}, asked = place_of(&place) ? socket(AF_UNIX, SOCK_SEQPACKET | SOCK_CLOEXEC, 0) : -1;
     if (asked < 0)
         return;
     if (connect(asked, (struct sockaddr *)&place, sizeof place) == 0 && pass(asked, given, true) && hears(asked)) {
-        prctl(PR_SET_NAME, "prefork-standin");
+        prctl(PR_SET_NAME, "prefork-deputy");
         close(0);
         close(1);
         while (hears(asked))
@@ -158,13 +158,13 @@ static int opened_again(int descriptor, int flags) {
 }
 
 static void forget_next(void) {
-    drop(&all.next.stand_in);
+    drop(&all.next.deputy);
     drop(&all.next.input);
     drop(&all.next.output);
     all.next.process = -1;
 }
 
-/* Receives the connection of a process that asks to stand in, with what it gives; -1 if it may not: there is a next master
+/* Receives the connection of a process that asks to be deputy, with what it gives; -1 if it may not: there is a next master
  * already, or the master in charge has not started that process. */
 static int accepted(int *given) {
     struct ucred peer;
@@ -177,7 +177,7 @@ static int accepted(int *given) {
     return asker;
 }
 
-/* Starts the next master, for the process that stands in for it. */
+/* Starts the next master, for its deputy. */
 static void start_next(void (*become)(void)) {
     int given[GIVEN], asker = accepted(given);
     if (asker < 0)
@@ -233,7 +233,7 @@ static void see_up(const char *line) {
         replace();
 }
 
-/* Looks at the bytes that have come, line by line. One that is too long is none that matters. */
+/* Looks at the bytes that have come, line by line. One that is too long does not matter. */
 static void see(struct way *way, const char *text, size_t count) {
     for (size_t at = 0; at < count; at++) {
         if (text[at] != '\n') {
@@ -314,7 +314,7 @@ static void bury(void) {
     }
 }
 
-/* Listens for processes that stand in. Without it, a later master gets a relay of its own. */
+/* Listens for deputies. Without it, a later master gets a relay of its own. */
 static int listener(void) {
     struct sockaddr_un place;
     int made = place_of(&place) ? socket(AF_UNIX, SOCK_SEQPACKET | SOCK_CLOEXEC | SOCK_NONBLOCK, 0) : -1;
@@ -349,7 +349,7 @@ static bool begin(void (*become)(void)) {
 }
 
 void relay(void (*become)(void)) {
-    stand_in();
+    be_deputy();
     if (!begin(become)) {
         /* Without a relay it passes lines on by itself. */
         sigprocmask(SIG_SETMASK, &all.before, 0);
@@ -362,11 +362,11 @@ void relay(void (*become)(void)) {
     for (;;) {
         struct pollfd waits[PLACES] = {
             wait_for(&all.down),       wait_for(&all.up), {all.listener, POLLIN, 0}, {all.children, POLLIN, 0},
-            {all.next.stand_in, POLLIN, 0}};
+            {all.next.deputy, POLLIN, 0}};
         poll(waits, PLACES, -1);
-        if (waits[STAND_IN].revents) {
-            /* It was killed, and stands for the next master. */
-            drop(&all.next.stand_in);
+        if (waits[DEPUTY].revents) {
+            /* It was killed in place of the next master. */
+            drop(&all.next.deputy);
             kill(all.next.process, SIGKILL);
         }
         move(&all.down);

@@ -16,7 +16,7 @@ KEEPER_REST, SERVE_REST, MASTER_REST, PIPES = 80, 160, 24, 2
 SITE = 40
 # Of a preloader beside one for each worker, and of prefork-serve for its preloaders; how many preloaders run at a time.
 PRELOADER_REST, PRELOADED, PRELOADERS = 64, 16, 2
-# prefork-serve, its keeper, three masters, what passes on lines between them, what stands in for one, and a word on its way.
+# prefork-serve, its keeper, three masters, the relay between them, the deputy of one, and a word on its way.
 OWN_PROCESSES = 8
 
 

@@ -3,7 +3,7 @@ import pathlib
 
 # A flag of the system: a process is about to end.
 PF_EXITING = 4
-# What passes on lines between masters, or stands in for one.
+# What passes on lines between masters, or is the deputy of one.
 RELAY = b"/prefork-launch"
 
 
@@ -44,7 +44,7 @@ def descends(process: int, ancestor: int) -> bool:
 
 def masters_of(first: int) -> list[int]:
     """The master that the service has started, and those of upgrades that run, oldest first. A relay has started these, or
-    the master before; what stands in for one is not counted."""
+    the master before; the deputy of one is not counted."""
     found, waiting = [first], [first]
     while waiting:
         adopting = [child for child in children_of(waiting.pop(0)) if words_of(child)[1:2] == [b"adopt"]]

@@ -56,7 +56,7 @@ class RelayTest(unittest.TestCase):
         self.assertEqual(self.asked(f"spawn-master {self.image + 1}"), "spawned")
         return int(self.asked("process", self.image + 1))
 
-    def stand_in(self) -> int:
+    def deputy(self) -> int:
         return next(number for number in children_of(self.master) if words_of(number)[0].endswith(b"/prefork-launch"))
 
     def wants_gone(self, *processes: int) -> None:
@@ -89,18 +89,18 @@ class RelayTest(unittest.TestCase):
 
     def test_a_next_master_that_is_ended(self) -> None:
         for call in ("term-master 3", ""):
-            new, stand_in = self.begin_next(), self.stand_in()
+            new, deputy = self.begin_next(), self.deputy()
             if call:
                 self.assertEqual(self.asked(call), "ok")
             else:
                 os.kill(new, signal.SIGKILL)
                 self.assertEqual(self.asked("process", 3), "master-gone")
-            self.wants_gone(new, stand_in)
+            self.wants_gone(new, deputy)
             self.assertEqual(self.asked("process"), str(self.master))
 
-    def test_what_stands_in_is_killed(self) -> None:
+    def test_a_deputy_is_killed(self) -> None:
         new = self.begin_next()
-        os.kill(self.stand_in(), signal.SIGKILL)
+        os.kill(self.deputy(), signal.SIGKILL)
         self.wants_gone(new)
         self.assertEqual(self.asked("process"), str(self.master))
         self.assertEqual(self.asked("process", 3), "master-gone")
@@ -108,16 +108,16 @@ class RelayTest(unittest.TestCase):
         self.assertEqual(self.asked("leave"), "ok")
 
     def test_the_master_in_charge_is_killed(self) -> None:
-        new, stand_in = self.begin_next(), self.stand_in()
+        new, deputy = self.begin_next(), self.deputy()
         os.kill(self.master, signal.SIGKILL)
         self.assertEqual(self.relay.stdout.read(), "")
-        self.wants_gone(self.master, new, stand_in)
+        self.wants_gone(self.master, new, deputy)
         self.assertEqual(self.relay.wait(SECONDS), 128 + signal.SIGKILL)
 
     def test_the_relay_is_killed(self) -> None:
-        new, stand_in = self.begin_next(), self.stand_in()
+        new, deputy = self.begin_next(), self.deputy()
         self.relay.kill()
-        self.wants_gone(self.master, new, stand_in)
+        self.wants_gone(self.master, new, deputy)
 
     def test_the_input_ends(self) -> None:
         new = self.begin_next()
