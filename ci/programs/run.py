@@ -3,6 +3,7 @@ import concurrent.futures
 import functools
 import os
 import pathlib
+import re
 import shutil
 import signal
 import subprocess
@@ -32,6 +33,9 @@ READY_SECONDS = 30
 KEPT = ("blocks", "records", "journal", ".prefork")
 # What a version does that starts, and fails each request.
 ANSWERS_500 = "answers with 500"
+# What is wrong with an adapter that says too early that its program is ready, and a call that starts a worker.
+WAS_READY = "a worker of it was ready"
+FORKED = re.compile(r"^\d+ m\d+ fork (\d+)\.(\d+) ", re.M)
 # The process between an adapter and its program.
 HOLDER = "prefork-hold"
 
@@ -62,6 +66,13 @@ def below(process: int, name: str) -> list[int]:
 def family_of(process: int) -> list[int]:
     """A process, and all that descend from it."""
     return [process] + [number for child in children(process) for number in family_of(child)]
+
+
+def was_ready(block: str) -> bool:
+    """Whether a worker of the newest generation of a block was ready."""
+    forked = [(int(image), int(number)) for image, number in FORKED.findall(block)]
+    newest = ".".join(map(str, max(forked, default=(0, 0))))
+    return f" await-ready {newest} " in "".join(line for line in block.splitlines() if line.endswith(" : ready"))
 
 
 class Run:
@@ -250,6 +261,7 @@ class Run:
         status, block = self.sent(word)
         told = f"an application that {breaks}: {word}: status {status}: {block}"
         self.check(told, status == 3 and f"\n{report}" in block)
+        self.check(f"an application that {breaks}: {word}: {WAS_READY}: {block}", not was_ready(block))
         self.check(f"an application that {breaks}: the old one is gone", self.page(self.address).startswith("version "))
         self.lead_to(self.runs)
 

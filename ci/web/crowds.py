@@ -1,7 +1,9 @@
 """Much at a time: words in a burst, upgrades in a row, and workers that flood the pipe to their master."""
 import os
+import pathlib
 import signal
 import subprocess
+from collections.abc import Collection
 
 from gate.addresses import free_address, is_answered
 from gate.waiting import SECONDS, comes, until
@@ -39,18 +41,35 @@ def hups_in_a_burst(site: Site) -> None:
     site.certify()
 
 
+def opened(processes: Collection[int]) -> int:
+    """How many descriptors these have together."""
+    return sum(len(list(pathlib.Path(f"/proc/{number}/fd").iterdir())) for number in processes)
+
+
+def of_masters(site: Site) -> list[int]:
+    """The masters, and what is between them."""
+    return [number for number, words in site.mark.processes().items() if words[1:2] in (["supervise"], ["adopt"])]
+
+
 def upgrades_in_a_row(site: Site) -> None:
-    """Ten upgrades, one after another: each is done, the status names the old masters, and all end with the service."""
+    """Ten upgrades, one after another: each is done, and leaves as many processes and descriptors as the first one: the
+    master that carries out words, that of the workers, and what is between them. All end with the service."""
     site.begin()
     for number in range(2, UPGRADES + 2):
         site.install(site.version(number))
         site.wants("USR2", 0, "done", 2)
         site.answered_by(number)
+        until("the end of the master before", lambda: len(of_masters(site)) == 3)
+        known = [*of_masters(site), site.serve.pid, site.keeper() or 0]
+        first = opened(known) if number == 2 else first
+        # (a client of the status has a descriptor of the service for a moment)
+        site.check(f"{opened(known)} descriptors after {number - 1} upgrades, not {first}", comes(lambda: opened(known) <= first))
+        site.check(f"the masters: {status(site)['masters']}", len(set(status(site)["masters"])) == 2)
     found = status(site)
-    site.check(f"the masters: {found['masters']}", len(set(found["masters"])) == UPGRADES + 1)
     site.check(f"the generation: {found['generation']}", found["generation"].startswith(f"{UPGRADES + 1}."))
     said = site.sent("status").communicate(timeout=SECONDS)[0]
-    site.check(f"the old masters are not named: {said}", said.count("old master  process ") == UPGRADES)
+    site.check(f"the first master is not named: {said}", said.count("old master  process ") == 1)
+    site.check_workers("upgrades", 2)
     site.end([str(number) for number in range(1, UPGRADES + 2)])
     site.certify()
 

@@ -45,8 +45,14 @@ def victim_of(armed):
     """The process that is to die, once there is one."""
     if armed["who"] != {new!r}:
         return armed["process"]
-    children = pathlib.Path(f"/proc/{{armed['process']}}/task/{{armed['process']}}/children").read_text().split()
-    return next((int(child) for child in children if words_of(child)[1:2] == [b"adopt"]), None)
+    # (between the first master and a new one is a relay)
+    relays = adopting(armed["process"])
+    return next((int(child) for relay in relays for child in adopting(relay)), None)
+
+
+def adopting(process):
+    children = pathlib.Path(f"/proc/{{process}}/task/{{process}}/children").read_text().split()
+    return [int(child) for child in children if words_of(child)[1:2] == [b"adopt"]]
 
 
 def runs(process):

@@ -10,8 +10,9 @@
  * for the worker. The worker starts in the folder to which the path PREFORK_PLACE, or that of its section, leads at that
  * moment: a symbolic link may lead elsewhere by then.
  *
- * `adopt` becomes `PREFORK_PROGRAM adopt`, with this program for its workers, and is killed when the old master ends: a
- * master that reads the end of its input waits for its workers, which serve on then.
+ * `adopt` starts `PREFORK_PROGRAM adopt`, with this program for its workers, and passes on what that is told and answers
+ * (relay.h). Both are killed when the old master ends: a master that reads the end of its input waits for its workers,
+ * which serve on then.
  *
  * `bound` becomes PROGRAM, which is killed when PARENT, the process that starts it, ends.
  *
@@ -26,6 +27,7 @@
 #include "log.h"
 #include "reason.h"
 #include "recipe.h"
+#include "relay.h"
 
 #include <errno.h>
 #include <fcntl.h>
@@ -222,6 +224,16 @@ static void end_with_parent(void) {
     prctl(PR_SET_PDEATHSIG, SIGKILL);
 }
 
+/* Becomes the new master of an upgrade. */
+static void become_master(void) {
+    char own[4096];
+    ssize_t length = readlink("/proc/self/exe", own, sizeof own - 1);
+    own[length > 0 ? length : 0] = 0;
+    const char *program = setting("PREFORK_PROGRAM");
+    execlp(program, program, "adopt", "--program", own, (char *)0);
+    fail("%s: %s", program, strerror(errno));
+}
+
 int main(int count, char **words) {
     char generation[32], own[4096];
     if (count == 2 && !strcmp(words[1], "child")) {
@@ -251,14 +263,10 @@ int main(int count, char **words) {
         become(section);
     }
     if (count == 2 && !strcmp(words[1], "adopt")) {
-        ssize_t length = readlink("/proc/self/exe", own, sizeof own - 1);
-        own[length > 0 ? length : 0] = 0;
-        const char *program = setting("PREFORK_PROGRAM");
         known_as = "adopt";
         end_with_parent();
         take_errors();
-        execlp(program, program, "adopt", "--program", own, (char *)0);
-        fail("%s: %s", program, strerror(errno));
+        relay(become_master);
     }
     if (count > 3 && !strcmp(words[1], "bound")) {
         end_with_parent();

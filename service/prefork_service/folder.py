@@ -77,6 +77,8 @@ class Folder:
         self.path = pathlib.Path(path).absolute()
         self.pid, self.blocks = self.path / "serve.pid", self.path / "blocks"
         self.words, self.keeper = self.path / "ctl.sock", self.path / "keeper.sock"
+        # Where a new master asks the relay between the first master and the one in charge.
+        self.masters = self.path / "masters.sock"
         # A file for each worker, with the number of its process, and one in which they note why they end.
         self.workers, self.reasons = self.path / "workers", self.path / "reasons"
         # A file for each worker that serves on after the death of its master.
@@ -123,7 +125,7 @@ class Folder:
             return False
 
     def clear(self) -> None:
-        for own in (self.words, self.keeper, self.pid, self.reasons):
+        for own in (self.words, self.keeper, self.masters, self.pid, self.reasons):
             own.unlink(missing_ok=True)
         remove_all(self.survivors, SURVIVOR)
         self.clear_beside()

@@ -16,8 +16,8 @@ KEEPER_REST, SERVE_REST, MASTER_REST, PIPES = 80, 160, 24, 2
 SITE = 40
 # Of a preloader beside one for each worker, and of prefork-serve for its preloaders; how many preloaders run at a time.
 PRELOADER_REST, PRELOADED, PRELOADERS = 64, 16, 2
-# prefork-serve, its keeper, two masters, and a word on its way.
-OWN_PROCESSES = 5
+# prefork-serve, its keeper, three masters, the relay between them, the deputy of one, and a word on its way.
+OWN_PROCESSES = 8
 
 
 @dataclasses.dataclass

@@ -79,14 +79,16 @@ class Hanging:
 
     def __init__(self, service: "Service"):
         self.service, self.patience = service, Patience(service.folder.workers)
-        # How many masters there were before the current word.
-        self.masters = 1
+        # How many masters there were before the current word, and the newest of them.
+        self.masters, self.newest, self.is_upgrade = 1, 0, False
 
     def begin(self) -> None:
         """The current word begins."""
         word = self.service.current
-        if word and word.text in UPGRADES:
-            self.masters = len(masters_of(self.service.master.process.pid))
+        was_upgrade, self.is_upgrade = self.is_upgrade, bool(word and word.text in UPGRADES)
+        if was_upgrade or self.is_upgrade:
+            masters = masters_of(self.service.master.process.pid)
+            self.masters, self.newest = len(masters), masters[-1]
         self.patience.begin(self.service.is_ticking())
 
     def tend(self) -> None:
@@ -115,8 +117,9 @@ class Hanging:
     def lost_master(self, block: str, generation: str) -> str:
         """Says which new master a lost block tells of, if it runs no longer."""
         named = [call.image for call in block_of(block).calls] or [int(generation.split(".")[0] or 1)]
-        first = self.service.master.process.pid
-        return f"the new master m{max(named)} has ended" if len(masters_of(first)) < max(named) else ""
+        others = masters_of(self.service.master.process.pid)[1:]
+        has_ended = not others or not self.is_upgrade and self.masters > 1 and self.newest not in others
+        return f"the new master m{max(named)} has ended" if max(named) > 1 and has_ended else ""
 
     def finish(self) -> None:
         """Waits for the end of a master that has stopped its workers."""

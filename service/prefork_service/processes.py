@@ -3,6 +3,8 @@ import pathlib
 
 # A flag of the system: a process is about to end.
 PF_EXITING = 4
+# What passes on lines between masters, or is the deputy of one.
+RELAY = b"/prefork-launch"
 
 
 def fields_of(process: int) -> list[str]:
@@ -41,20 +43,22 @@ def descends(process: int, ancestor: int) -> bool:
 
 
 def masters_of(first: int) -> list[int]:
-    """The master that the service has started, and the new ones of upgrades, each started by the one before."""
-    found, is_more = [first], True
-    while is_more:
-        is_more = False
-        for child in children_of(found[-1]):
-            try:
-                words = pathlib.Path(f"/proc/{child}/cmdline").read_bytes().split(b"\0")
-            except OSError:
-                continue
-            if words[1:2] == [b"adopt"]:
-                found.append(child)
-                is_more = True
-                break
+    """The master that the service has started, and those of upgrades that run, oldest first. A relay has started these, or
+    the master before; the deputy of one is not counted."""
+    found, waiting = [first], [first]
+    while waiting:
+        adopting = [child for child in children_of(waiting.pop(0)) if words_of(child)[1:2] == [b"adopt"]]
+        found += [child for child in adopting if not words_of(child)[0].endswith(RELAY)]
+        waiting += adopting
     return found
+
+
+def words_of(process: int) -> list[bytes]:
+    """The words by which a process was started."""
+    try:
+        return pathlib.Path(f"/proc/{process}/cmdline").read_bytes().split(b"\0")
+    except OSError:
+        return [b""]
 
 
 def children_of(process: int) -> list[int]:

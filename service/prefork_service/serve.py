@@ -21,11 +21,11 @@ itself.
 - A keeper that ends or hangs is started again, with the same sockets.
 - A start opens all addresses, and asks whether the limits allow a reload; if not, it ends with the reason.
 
-The folder F (`run`) belongs to its user alone. It has `serve.pid`, the sockets `ctl.sock` and `keeper.sock`,
-`config.toml`, what was accepted last, `journal`, each word with its time, its report and the reasons of failed calls, and
-`records`, what the masters printed, in parts and of a bounded size (`blocks` leads to the newest part). `prefork-ctl
-certify` checks them. A second service in the same folder is refused. The status is 0 after a stop, and 1 if the service
-could not run.
+The folder F (`run`) belongs to its user alone. It has `serve.pid`, the sockets `ctl.sock`, `keeper.sock` and, after an
+upgrade, `masters.sock`, `config.toml`, what was accepted last, `journal`, each word with its time, its report and the
+reasons of failed calls, and `records`, what the masters printed, in parts and of a bounded size (`blocks` leads to the
+newest part). `prefork-ctl certify` checks them. A second service in the same folder is refused. The status is 0 after a
+stop, and 1 if the service could not run.
 """
 import argparse
 import errno

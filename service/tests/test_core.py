@@ -24,7 +24,7 @@ MOST_LINES = 5000
 NEVER = {"argparse", "html", "http", "email", "urllib.request", "difflib", "ssl", "asyncio", "logging", "multiprocessing", "sqlite3"}
 # The files in the folder of a service that it opens, makes or removes.
 OWN = re.compile(
-    r"run|run/(\.prefork|serve\.pid|reasons|journal|ctl\.sock|keeper\.sock|\.\d+|\.blocks|blocks|(config|next|accepted)\.toml|commands|workers|"
+    r"run|run/(\.prefork|serve\.pid|reasons|journal|(ctl|keeper|masters)\.sock|\.\d+|\.blocks|blocks|(config|next|accepted)\.toml|commands|workers|"
     r"traffic|errors|waiting|survivors(/.*)?|records(/\d+(/(from\.toml|to\.\d+\.toml|blocks\.\d+|lost\.\d+)?)?)?"
     r"|commands/(next|new|accepted|accepted\.files|late|given\.toml|\d+\.\d+)|workers/\d+\.\d+\.\d+(\.ended)?|waiting/\d+(\.once)?|errors/\d+\.\d+\.\d+|traffic/.*)"
 )

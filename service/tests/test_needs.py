@@ -43,7 +43,7 @@ class NeedsTest(unittest.TestCase):
         self.assertEqual(self.limited(1024, 4096), [])
         self.assertIn("1684 descriptors in its keeper, and 1024 are allowed", self.limited(1024, 1024)[0])
         self.assertIn("824 descriptors in its master, and 512 are allowed", self.limited(512, 4096)[0])
-        self.assertIn("405 processes, and 400 are allowed", self.limited(1024, 4096, 400)[0])
+        self.assertIn("408 processes, and 400 are allowed", self.limited(1024, 4096, 400)[0])
 
     def test_no_limit_allows_all(self) -> None:
         unlimited = needs.resource.RLIM_INFINITY
