@@ -78,7 +78,7 @@ MISTAKES = (
     Mistake("claims", "docs/proved/crates.md", "[explorer](../../crates/explorer/README.md)", "explorer", "no line for explorer"),
     Mistake("tables", "docs/PROVED.md", "| no: it kills first |", f"| {'no ' * 80} |", "a cell of"),
     Mistake("length", "CONTRIBUTING.md", "## Names", "word " * 2_000, "split it"),
-    Mistake("length", "README.md", "## The promise", "\n\n## The promise", "more than 120"),
+    Mistake("length", "README.md", "## The promise", "\n" * 120 + "## The promise", "more than 120"),
     Mistake("screens", "tests/cases/help_of_plan/stdout", "Options:\n", "Options:\n" + 40 * "\n", "more than 40"),
     Mistake("screens", "tests/cases/help_of_enact/stdout", "Control words,", 80 * "word ", "more than 80"),
     Mistake("versions", "docs/prefork-plan.1", "prefork 0.", "prefork 9.", "docs/prefork-plan.1: the version is 9."),
