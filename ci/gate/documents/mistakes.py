@@ -3,8 +3,8 @@ import dataclasses
 from collections.abc import Callable, Iterator
 
 from gate.documents import (
-    claims, codes, commands, edits, explained, house, links, names, options, pairs, service_options, shape, versions,
-    words,
+    claims, codes, commands, edits, explained, glossary, house, links, names, options, pairs, service_options, shape,
+    versions, words,
 )
 from gate.documents.pages import Tree
 
@@ -18,6 +18,7 @@ CHECKS: dict[str, Check] = {
     "explained": explained.faults,
     "commands": commands.faults,
     "pairs": pairs.faults,
+    "glossary": glossary.faults,
     "claims": claims.faults,
     "tables": shape.table_faults,
     "length": shape.length_faults,
@@ -70,6 +71,8 @@ MISTAKES = (
     Mistake("commands", "docs/prefork-plan.1", ".SH EXIT STATUS", ".SH ENDS", "no section EXIT STATUS"),
     Mistake("pairs", "docs/CHILDREN.md", "`Edge::tick_reigning`", "`Edge::write_handover`", "Edge has no write_handover"),
     Mistake("pairs", "docs/architecture/words.md", "`certifier::certificate`", "`certifier::carry_out`", "no carry_out"),
+    Mistake("glossary", "service/guides/wsgi.md", "(../../docs/GLOSSARY.md)", "(../README.md)", "is a word of ours"),
+    Mistake("glossary", "docs/GLOSSARY.md", "| adapter |", "| zone |", "zone is out of order"),
     Mistake("edits", "crates/explorer/must-fail/begins_with_a_shortfall.edit", "old: shortfall", "old: surplus", "has 0 times"),
     Mistake("edits", "crates/explorer/must-fail/begins_with_a_shortfall.edit", "0,\nnew", "1,\nnew", "it changes nothing"),
     Mistake("claims", "crates/certifier/README.md", "`IsCertified`", "`IsCertain`", "IsCertain"),
