@@ -30,6 +30,7 @@ def faults(tree: Tree) -> Iterator[str]:
         if path in (OPERATORS, READERS):
             told = [row.split(",")[0] for row in ROW.findall(text)][1:]
             if told != sorted(told):
-                yield f"{path}: {next(word for word, right in zip(told, sorted(told)) if word != right)} is out of order"
+                wrong = next(word for word, right in zip(told, sorted(told)) if word != right)
+                yield f"{path}: {wrong} is out of order"
         elif not path.startswith(LED_TO) and not LEADS.search(text) and (found := said.search(without_code(text))):
             yield f"{path}: '{found[0]}' is a word of ours: lead to {OPERATORS} or {READERS} where it is first said"

@@ -3,8 +3,8 @@ import dataclasses
 from collections.abc import Callable, Iterator
 
 from gate.documents import (
-    claims, codes, commands, edits, explained, glossary, house, links, names, options, pairs, service_options, shape,
-    versions, words,
+    claims, codes, commands, edits, explained, glossary, house, links, names, options, pairs, places, service_options,
+    shape, versions, words,
 )
 from gate.documents.pages import Tree
 
@@ -19,6 +19,7 @@ CHECKS: dict[str, Check] = {
     "commands": commands.faults,
     "pairs": pairs.faults,
     "glossary": glossary.faults,
+    "places": places.faults,
     "claims": claims.faults,
     "tables": shape.table_faults,
     "length": shape.length_faults,
@@ -73,6 +74,8 @@ MISTAKES = (
     Mistake("pairs", "docs/architecture/words.md", "`certifier::certificate`", "`certifier::carry_out`", "no carry_out"),
     Mistake("glossary", "service/guides/wsgi.md", "(../../docs/GLOSSARY.md)", "(../README.md)", "is a word of ours"),
     Mistake("glossary", "docs/GLOSSARY.md", "| adapter |", "| zone |", "zone is out of order"),
+    Mistake("places", places.PAGE, "`stations.py` (", "`the stations` (", "does not name service/prefork_service/stations.py"),
+    Mistake("places", places.PAGE, "and `prefork.bash`;", "and more;", "does not name completions/prefork.bash"),
     Mistake("edits", "crates/explorer/must-fail/begins_with_a_shortfall.edit", "old: shortfall", "old: surplus", "has 0 times"),
     Mistake("edits", "crates/explorer/must-fail/begins_with_a_shortfall.edit", "0,\nnew", "1,\nnew", "it changes nothing"),
     Mistake("claims", "crates/certifier/README.md", "`IsCertified`", "`IsCertain`", "IsCertain"),
