@@ -1,5 +1,5 @@
 # The commands of a day. Each is one line that you can type yourself; CONTRIBUTING.md says more.
-.PHONY: help build try prove cases test test-all documents service unit package clean
+.PHONY: help build try prove cases test test-all documents service unit package hooks clean
 
 help: ## list these commands
 	@sed -n 's/^\([a-z-]*\):.*## /\1\t/p' $(MAKEFILE_LIST) | expand -t 12
@@ -33,6 +33,9 @@ service: ## run the service under load, with faults
 
 package: ## write the package for Debian
 	./package
+
+hooks: ## have git look at the subject and the scripts of each commit
+	git config core.hooksPath .githooks
 
 clean: ## remove what was built
 	rm -rf crates/*/out service/out

@@ -10,7 +10,7 @@ import traceback
 
 from gate import kit
 from gate.giving_way import give_way, tell
-from gate.ledger import Ledger, key
+from gate.ledger import key
 from gate.refusals import Trial
 from gate.spare import spare, waiting
 

@@ -165,6 +165,11 @@ class Scripts:
             if name not in self.counted:
                 self.counted[name], self.failed[name] = (0, 1), ["not run, since not all is proved"]
 
+    def leave_to_others(self) -> None:
+        """Runs none of them: another job does."""
+        self.leave_off()
+        self.counted = dict.fromkeys(SCRIPTS, (0, 0))
+
     def leave_off(self) -> None:
         """Begins no script any more."""
         self.is_left_out = True

@@ -10,9 +10,11 @@ import tempfile
 from collections.abc import Iterator
 
 from gate.tally import ROOT
-from web.guides import ADDRESS, ASKS, HELLO, OFTEN, Reader
+from web.guides import ADDRESS, HELLO, Reader
 
 PAGE = "README.md"
+# What waits for the first answer, and how it waits here: a busy machine starts a service more slowly than an operator's.
+WAITS, LONGER = "--wait serves", "--wait serves --seconds 90"
 FILE = re.compile(r"^```python\n(.*?)^```$", re.M | re.S)
 TYPED = re.compile(r"^```bash\n(.*?)^```\n(?=(?:\n```\n(.*?)^```$)?)", re.M | re.S)
 
@@ -24,7 +26,7 @@ class ReaderOfFirstPage(Reader):
         super().__init__(PAGE, HELLO, path, room)
 
     def page_text(self) -> str:
-        return (ROOT / PAGE).read_text().replace(ADDRESS, self.address).replace(ASKS, OFTEN)
+        return (ROOT / PAGE).read_text().replace(ADDRESS, self.address).replace(WAITS, LONGER)
 
     def blocks(self) -> Iterator[tuple[str, str]]:
         """What is typed, with what the page says is printed."""

@@ -461,6 +461,8 @@ def KeepsPromise(t: Table, r: Record, target: Target, ran: Ran) -> Claims:
 
 
 def most_calls(r: Record, target: Target) -> int:
+    """(most_calls) No upgrade is longer. The numbers are those of `Lengths.antt` in `run_laws`: for each worker that is
+    ready or wanted, each address before or after, each retry, and once."""
     workers = len(r.ready) + len(numbers_wanted(r, target))
     return 9 * workers + 3 * (len(r.listeners) + len(addresses_wanted(r, target))) + 16 * r.retries + 48
 

@@ -3,8 +3,8 @@ import dataclasses
 from collections.abc import Callable, Iterator
 
 from gate.documents import (
-    claims, codes, commands, edits, explained, house, links, names, options, pairs, service_options, shape, versions,
-    words,
+    claims, codes, commands, edits, explained, glossary, house, links, names, options, pairs, places, service_options,
+    shape, versions, words,
 )
 from gate.documents.pages import Tree
 
@@ -18,6 +18,8 @@ CHECKS: dict[str, Check] = {
     "explained": explained.faults,
     "commands": commands.faults,
     "pairs": pairs.faults,
+    "glossary": glossary.faults,
+    "places": places.faults,
     "claims": claims.faults,
     "tables": shape.table_faults,
     "length": shape.length_faults,
@@ -70,6 +72,10 @@ MISTAKES = (
     Mistake("commands", "docs/prefork-plan.1", ".SH EXIT STATUS", ".SH ENDS", "no section EXIT STATUS"),
     Mistake("pairs", "docs/CHILDREN.md", "`Edge::tick_reigning`", "`Edge::write_handover`", "Edge has no write_handover"),
     Mistake("pairs", "docs/architecture/words.md", "`certifier::certificate`", "`certifier::carry_out`", "no carry_out"),
+    Mistake("glossary", "service/guides/wsgi.md", "(../../docs/GLOSSARY.md)", "(../README.md)", "is a word of ours"),
+    Mistake("glossary", "docs/GLOSSARY.md", "| adapter |", "| zone |", "zone is out of order"),
+    Mistake("places", places.PAGE, "`stations.py` (", "`the stations` (", "does not name service/prefork_service/stations.py"),
+    Mistake("places", places.PAGE, "and `prefork.bash`;", "and more;", "does not name completions/prefork.bash"),
     Mistake("edits", "crates/explorer/must-fail/begins_with_a_shortfall.edit", "old: shortfall", "old: surplus", "has 0 times"),
     Mistake("edits", "crates/explorer/must-fail/begins_with_a_shortfall.edit", "0,\nnew", "1,\nnew", "it changes nothing"),
     Mistake("claims", "crates/certifier/README.md", "`IsCertified`", "`IsCertain`", "IsCertain"),
@@ -78,7 +84,7 @@ MISTAKES = (
     Mistake("claims", "docs/proved/crates.md", "[explorer](../../crates/explorer/README.md)", "explorer", "no line for explorer"),
     Mistake("tables", "docs/PROVED.md", "| no: it kills first |", f"| {'no ' * 80} |", "a cell of"),
     Mistake("length", "CONTRIBUTING.md", "## Names", "word " * 2_000, "split it"),
-    Mistake("length", "README.md", "## The promise", "\n\n## The promise", "more than 120"),
+    Mistake("length", "README.md", "## The promise", "\n" * 120 + "## The promise", "more than 120"),
     Mistake("screens", "tests/cases/help_of_plan/stdout", "Options:\n", "Options:\n" + 40 * "\n", "more than 40"),
     Mistake("screens", "tests/cases/help_of_enact/stdout", "Control words,", 80 * "word ", "more than 80"),
     Mistake("versions", "docs/prefork-plan.1", "prefork 0.", "prefork 9.", "docs/prefork-plan.1: the version is 9."),

@@ -9,7 +9,8 @@ from collections.abc import Iterator
 from gate.documents.pages import SERVICE, Tree, line_of, without_blocks
 
 # Where names come from. Pages themselves are no source of names, and nor is this check.
-SOURCES = ("crates.txt", "try", "prefork", "install", "package", "crates/*/src/**/*", "crates/*/specs/**/*",
+SOURCES = ("crates.txt", "try", "prefork", "install", "package", "Makefile", ".githooks/*", "page/*", "library/*",
+           "crates/*/src/**/*", "crates/*/specs/**/*",
            "crates/*/proofs/**/*", "ci/*", "ci/gate/*.py", "ci/web/*", "ci/shipping/*", "bench/*", "examples/*",
            "completions/*", "service/bin/*", "service/native/*", "service/prefork_service/*.py",
            "service/double/*", "service/examples/*", "service/units/*", "fleet/**/*", "service/tests/**/*.py",
@@ -41,6 +42,7 @@ ELSEWHERE: dict[str, str] = {
                      "dac8208d650f15bf", "PhantomData", "inline", "never", "Read", "Write"), "the toolchain"),
     **dict.fromkeys(("0.0.0.0", "127.0.0.1"), "addresses"),
     "config.toml": "a file of a running service",
+    "share/prefork/page": "where ./install copies the page",
 }
 # Folders of a running service: a file in one is there if its words are in the sources.
 RUNNING = ("run/", "PREFORK_FOLDER/")

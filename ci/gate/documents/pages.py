@@ -6,8 +6,7 @@ import re
 from collections.abc import Iterator
 
 # The pages for people: patterns below the top of the repository.
-MARKDOWN = ("README.md", "CHANGELOG.md", "CONTRIBUTING.md", "SECURITY.md", "docs/**/*.md", "crates/*/README.md",
-            "examples/README.md")
+MARKDOWN = ("*.md", "docs/**/*.md", "crates/*/README.md", "examples/README.md", "page/README.md", "library/README.md")
 MAN = ("docs/*.1", "docs/*.5")
 # Those of the service, of which a check names the ones that it reads too.
 SERVICE = ("service/**/*.md", "fleet/*.md")
@@ -17,7 +16,7 @@ CONVENTION = ("service/man/prefork-child.1",)
 HELP = "tests/cases/help_of_*/stdout"
 SAID = (HELP, "crates/code_explanations/src/*.rt")
 # Programs and scripts: their first lines and their messages are for operators, and their comments for their readers.
-SCRIPTS = ("try", "prefork", "install", "package", "ci/[a-z]*", "ci/*/*.py", "ci/gate/documents/*.py", "bench/*",
+SCRIPTS = ("try", "prefork", "install", "package", ".githooks/*", "ci/[a-z]*", "ci/*/*.py", "ci/gate/documents/*.py", "bench/*",
            "examples/*", "completions/*", "fleet/**/*.y*ml", "service/bin/*", "service/build", "service/install",
            "service/completions/*", "service/prefork_service/*.py", "service/native/*", "service/double/*",
            "service/tests/**/*.py", "service/units/*", "service/containers/*", "service/examples/*", "tests/**/*.py")
