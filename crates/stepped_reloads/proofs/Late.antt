@@ -1,7 +1,7 @@
 -- One that was Ready at first, is told to quit and then waited for: no kill takes it but when it was late, and behind the wait it
 -- is gone.
-use Rattle.std.proofs.Common.{◌≡◌, ℕ, ◌<◌, true, false, List, [], ◌∷◌, ◌++◌, Option, Some, None, refl, sym, ap, ◌∙◌, subst, ⊎_elim}
-use Rattle.std.specs.Prelude.{⊤, ◌&&◌}
+use Rattle.std.proofs.Common.{◌≡◌, ℕ, ◌<◌, Bool, true, false, List, [], ◌∷◌, ◌++◌, Option, Some, None, refl, sym, ap, ◌∙◌, subst, ⊎_elim}
+use Rattle.std.specs.Prelude.{⊤, ◌&&◌, ◌||◌}
 use Rattle.std.specs.List.{list_any}
 use Rattle.listener_set.specs.Numbers.{is_in}
 use Rattle.listener_set.specs.declared.generation.Generation.{Generation}
@@ -16,20 +16,20 @@ use Rattle.definitions.specs.Table.{Process, Table, Caller, bears, is_worker}
 use Rattle.definitions.specs.Calls.{after_exits, Stepped, gives, each_row, drop_where, step_by, step_with, Handed}
 use Rattle.definitions.specs.Run.{Tree, Progress, Ending, Lost, reply_of, after_call}
 use Rattle.definitions.specs.Plans.{awaits_gone, does, then_edge}
-use Rattle.definitions.specs.Claims.{is_quit, is_wait, is_late, was_late, names_any}
+use Rattle.definitions.specs.Claims.{one_then, is_quit, is_wait, is_late, was_late, names_any}
 use Rattle.call_laws.specs.Pieces.{is_any, gone_edges, quits, is_process_of}
 use Rattle.call_laws.proofs.Cases.{gone-cases, unfailing}
 use Rattle.call_laws.proofs.Choices.{pick}
-use Rattle.table_laws.proofs.Rows.{FitsIn, every-filter_map, both-true}
+use Rattle.table_laws.proofs.Rows.{FitsIn, every-filter_map, both-true, or-right}
 use Rattle.table_laws.proofs.Exits.{spares-each}
 use Rattle.table_laws.proofs.Effects.{bears-refl}
 use Rattle.table_laws.proofs.Sets.{in-here, in-there, in-cases}
 use Rattle.run_laws.proofs.Logic.{Exiting, Course, Anyhow}
-use Rattle.run_laws.proofs.Processes.{Lasts, Fact, one-found, fact-exits, fact-steps}
+use Rattle.run_laws.proofs.Processes.{Fact, one-found, fact-exits, fact-steps}
 use Rattle.run_laws.proofs.Taken.{NotTaken, IsOther, OnlyOurs, InAny, IsUntouched, close-lasts, loose-lasts, loosens, not-gone-taken, not-killed}
 use Rattle.run_laws.proofs.Absent.{Absent, absent-exits, absent-steps}
-use Rattle.run_laws.proofs.Traces.{Asking, Finally, Traced, TracedBehind, Good, robust, robust-behind, good-step, entry_of, any-more, any-last, then-last}
-use Rattle.run_laws.proofs.Waits.{Told, quits-told}
+use Rattle.run_laws.proofs.Traces.{Asking, Finally, Traced, TracedBehind, Good, robust, good-step, entry_of, any-more, then-last}
+use Rattle.run_laws.proofs.Waits.{Told, told-on, quits-told, waits-told}
 
 -- Nothing is known of what was done.
 abbrev pub Whatever : List Entry → Type 0
@@ -49,67 +49,50 @@ kill-is m image n P handed h x fate t fact =
     ap (λ (o : Option Caller). step_by handed image o (Kill h x) fate t) found
     ∙ unfailing handed image (record { number = m; holds = hs }) (Kill h x) fate t tt
 
--- A fact lasts where those of a name leave.
-pub cut-keeps :
-    (m image n : ℕ) (P : Process → Type 0) (Quits : Generation → ℕ → Type 0) → Lasts m n P Quits →
-    (h : Generation) (x : ℕ) (t : Table) → Fact m image n P t → Fact m image n P (Cut m h x t)
-cut-keeps m image n P Quits lasts h x t fact =
-    subst (λ (st : Stepped). Fact m image n P st.table) (kill-is m image n P None h x None t fact)
-    (fact-steps m image n P Quits lasts None (Kill h x) None t tt fact)
-
--- And so it lasts through a wait.
+-- What a kill of a name keeps, a wait for its end keeps.
 pub wait-keeps :
-    (m image n : ℕ) (P : Process → Type 0) (Quits : Generation → ℕ → Type 0) → Lasts m n P Quits →
-    (handed : Handed) (h : Generation) (x : ℕ) (fate : Option Fate) (t : Table) → Fact m image n P t →
-    Fact m image n P (step_with handed image (AwaitGone h x) fate t).table
-wait-keeps m image n P Quits lasts handed h x fate t fact =
+    (m image n : ℕ) (P : Process → Type 0) (Q : Table → Type 0) (handed : Handed) (h : Generation) (x : ℕ)
+    (fate : Option Fate) (t : Table) → Fact m image n P t → Q t → Q (step_with None image (Kill h x) None t).table →
+    Q (step_with handed image (AwaitGone h x) fate t).table
+wait-keeps m image n P Q handed h x fate t fact late killed =
     let (hs, found) = one-found m image t.rows fact.one.all fact.one.some in
-    subst (λ (o : Option Caller). Fact m image n P (step_by handed image o (AwaitGone h x) fate t).table) (sym found)
-    (gone-cases handed image (record { number = m; holds = hs }) h x fate t (λ st. Fact m image n P st.table) fact
-    (cut-keeps m image n P Quits lasts h x t fact))
+    subst (λ (o : Option Caller). Q (step_by handed image o (AwaitGone h x) fate t).table) (sym found)
+    (gone-cases handed image (record { number = m; holds = hs }) h x fate t (λ st. Q st.table) late
+    (subst (λ (st : Stepped). Q st.table) (kill-is m image n P None h x None t fact) killed))
 
----- Where someone was waited for
+---- Where one was waited for
 
-abbrev pub Waits : List Entry → Type 0
-Waits past = list_any (λ e. is_wait (λ g k. true) e.call) past ≡ true
+abbrev pub Waits : Generation → ℕ → List Entry → Type 0
+Waits h k past = list_any (λ e. is_wait (bears h k) e.call) past ≡ true
 
--- What follows a wait is traced where nothing is asked of calls, and nothing of an end behind a wait.
-pub waited-any :
-    (post : Finally) (mild : Exiting) (co : Course)
-    (lost : (past : List Entry) (p : Progress) → post past Lost p)
-    (ends : (past : List Entry) (e : Ending) (q : Progress) → Waits past → post past e q)
-    (by : ℕ) (h : Generation) (x : ℕ) (ks : List ℕ) (rest : Tree) (past : List Entry) (q : Progress) →
-    Traced (λ past call t. ⊤) post mild co past (awaits_gone by h (x ∷ ks) rest) q
-waited-any post mild co lost ends by h x ks rest past q =
-    let more = awaits_gone by h ks rest in
-    let bs = gone_edges more (does by (Kill h x) (then_edge more)) in
-    good-step (λ past call t. ⊤) post mild co lost (λ t. ⊤) Whatever by (AwaitGone h x) [] bs refl
-    (λ es t spared mild h. tt) (λ past t known h. tt)
-    (λ past q' fate known none.
-    let st = step_with co.handed by (AwaitGone h x) fate q'.table in
-    robust-behind (λ past call t. ⊤) post mild (λ t. ⊤) Waits (λ es t h. tt) (λ handed by call fate t h. tt)
-    (λ past e w. any-more (λ e. is_wait (λ g k. true) e.call) past e w) (λ past call t w h. tt)
-    (λ past e q w h. ends past e q w) co bs
-    (past ++ entry_of by (AwaitGone h x) st.answer ∷ []) (reply_of [] st.answer)
-    (after_call by (Make (AwaitGone h x)) [] st q')
-    (any-last (λ e. is_wait (λ g k. true) e.call) past (entry_of by (AwaitGone h x) st.answer) refl) tt) past q tt tt
+second-of : (first second : Entry → Bool) (l : List Entry) → one_then first second l ≡ true → list_any second l ≡ true
+second-of first second [] e = absurd (cc e)
+second-of first second (x ∷ l) e =
+    or-right (second x) (list_any second l) (go (first x) (list_any second l) (one_then first second l) e (second-of first second l))
+  where
+    go : (a b c : Bool) → ((a && b) || c) ≡ true → (c ≡ true → b ≡ true) → b ≡ true
+    go true true c e rest = refl
+    go true false c e rest = rest e
+    go false b c e rest = rest e
 
--- They are told to quit, and waited for, and there is one at least.
-pub told-any :
+-- They are told to quit, and waited for, it among them: nothing is asked of the rest where nothing is asked behind such a wait.
+pub waited-for :
     (post : Finally) (mild : Exiting) (co : Course) (lost : (past : List Entry) (p : Progress) → post past Lost p)
-    (ends : (past : List Entry) (e : Ending) (q : Progress) → Waits past → post past e q)
-    (by : ℕ) (h : Generation) (ks : List ℕ) (x : ℕ) (rest : Tree) → is_in ks x ≡ true → (past : List Entry) (q : Progress) →
+    (by : ℕ) (h : Generation) (k : ℕ) (ends : (past : List Entry) (e : Ending) (q : Progress) → Waits h k past → post past e q)
+    (ks : List ℕ) (rest : Tree) → is_in ks k ≡ true → (past : List Entry) (q : Progress) →
     Traced (λ past call t. ⊤) post mild co past (quits by h ks (awaits_gone by h ks rest)) q
-told-any post mild co lost ends by h ks x rest in_it past q =
+waited-for post mild co lost by h k ends ks rest in_it past q =
     quits-told by h (λ past call t. ⊤) post mild co lost (λ t. ⊤) (λ es t spared mild h. tt) (λ past x t h. tt)
     (λ handed x fate t h. tt) ks (awaits_gone by h ks rest) Whatever (λ past e h. tt)
-    (λ past' q' known told none. go ks in_it past' q') past q tt tt
-  where
-    go :
-        (l : List ℕ) → is_in l x ≡ true → (past : List Entry) (q : Progress) →
-        Traced (λ past call t. ⊤) post mild co past (awaits_gone by h l rest) q
-    go [] e past q = absurd (cc e)
-    go (y ∷ ys) e past q = waited-any post mild co lost ends by h y ys rest past q
+    (λ past1 q1 known told none. waits-told by h (λ past call t. ⊤) post mild co lost (λ t. ⊤) (λ es t spared mild h. tt)
+    (λ past x t h. tt) (λ handed x fate t h. tt) (λ past x t late h. tt) (λ handed x fate t h. tt) ks rest
+    (λ l. (x : ℕ) → is_in ks x ≡ true → Told h x l) (λ l e told x on. told-on h x l e (told x on)) (λ l told. told)
+    (λ past2 q2 told2 waited none. robust (λ past call t. ⊤) post mild (λ t. ⊤) (Waits h k) (λ es t h. tt)
+    (λ handed by call fate t h. tt) (λ past e w. any-more (λ e. is_wait (bears h k) e.call) past e w) (λ past call t w h. tt)
+    (λ past e q w h. ends past e q w) co rest past2 q2
+    (second-of (λ e. is_quit (bears h k) e.call) (λ e. is_wait (bears h k) e.call) past2 (waited k in_it)) tt)
+    past1 q1 told tt)
+    past q tt tt
 
 ---- Kills
 
@@ -155,7 +138,9 @@ module _ (m image n : ℕ) (g : Generation) (k : ℕ) (low : k < 1024) (co : Cou
       fact-exits m image n _ _ (loose-lasts m image n g k low) es t (spares-each co.executing image es acts spared) h
 
   cut-loose : (x : ℕ) (t : Table) → Loose t → Loose (Cut m g x t)
-  cut-loose x t h = cut-keeps m image n _ _ (loose-lasts m image n g k low) g x t h
+  cut-loose x t h =
+      subst (λ (st : Stepped). Loose st.table) (kill-is m image n _ None g x None t h)
+      (fact-steps m image n _ _ (loose-lasts m image n g k low) None (Kill g x) None t tt h)
 
   cut-absent : (t : Table) → Loose t → Absent n (Cut m g k t)
   cut-absent t h = record {

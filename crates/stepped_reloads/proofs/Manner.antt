@@ -1,6 +1,6 @@
 -- The manner of a reload in steps.
-use Rattle.std.proofs.Common.{◌≡◌, ℕ, ◌<◌, Bool, true, false, List, [], ◌∷◌, ◌++◌, Option, None, refl, sym, ◌∙◌, subst, ◌⊎◌, inl, inr}
-use Rattle.std.specs.Prelude.{⊤, ◌&&◌, ◌==◌, reverse}
+use Rattle.std.proofs.Common.{◌≡◌, ℕ, ◌<◌, Bool, true, false, List, [], ◌∷◌, ◌++◌, Option, None, refl, ap, ◌⊎◌, inl, inr}
+use Rattle.std.specs.Prelude.{⊤, ◌&&◌, ◌||◌, ◌==◌, not, reverse}
 use Rattle.std.specs.List.{list_any}
 use Rattle.listener_set.specs.Numbers.{is_in, numbers_below}
 use Rattle.listener_set.specs.declared.generation.Generation.{Generation}
@@ -12,57 +12,31 @@ use Rattle.vocabulary.specs.declared.reports.Entry.{Entry}
 use Rattle.vocabulary.specs.declared.targets.Target.TheVariants.{Reload}
 use Rattle.vocabulary.specs.declared.plans.Side.TheVariants.{Old, Target}
 use Rattle.vocabulary.specs.Settings.{Settings}
-use Rattle.definitions.specs.Table.{Address, Table, bears, same_generation}
+use Rattle.definitions.specs.Table.{Address, Process, Table, bears, same_generation}
 use Rattle.definitions.specs.Calls.{after_exits, step_with, Handed}
 use Rattle.definitions.specs.Master.{Crew, Record, addresses_of, crew_of, reload_generation, sides_of}
 use Rattle.definitions.specs.After.{crew_wanted}
-use Rattle.definitions.specs.Run.{Tree, Pattern, Progress, Ending, At, Lost, start_at, outcome_of, report_of}
-use Rattle.definitions.specs.Plans.{reload_on, settle, awaits_gone, starts_any, only_in}
-use Rattle.definitions.specs.Claims.{has_ready, is_lost, is_old_side, is_wait, is_leave_call, names_any, IsStart, IsKillDue, KillsAreDue, refused_among}
-use Rattle.call_laws.specs.Pieces.{quits, lacked_last}
+use Rattle.definitions.specs.Run.{Tree, Outcome, Pattern, Progress, Ran, Ending, At, Lost, start_at, outcome_of, report_of}
+use Rattle.definitions.specs.Plans.{reload_on, settle, only_in}
+use Rattle.definitions.specs.Claims.{has_ready, is_lost, is_old_side, Stays, is_wait, names_any, IsStart, IsKillDue, KillsAreDue, refused_among}
+use Rattle.call_laws.specs.Pieces.{lacked_last}
 use Rattle.table_laws.proofs.Exits.{spares-each}
 use Rattle.table_laws.proofs.Views.{eqb-off}
-use Rattle.table_laws.proofs.Small.{in-reverse, true-false}
+use Rattle.table_laws.proofs.Small.{not-is}
 use Rattle.table_laws.proofs.Sets.{in-here}
 use Rattle.run_laws.proofs.Logic.{Course, Anyhow, Unasked, AllDue, are-mild-anyhow, refused_in, run_in}
 use Rattle.run_laws.proofs.Processes.{fact-any, fact-steps}
 use Rattle.run_laws.proofs.Lights.{any_end, settle-along, calm-along}
 use Rattle.run_laws.proofs.Calms.{calm-settle, calm-quits, calm-closes, free-along, ends-settle, ends-quits, ends-closes}
-use Rattle.run_laws.proofs.Staying.{Unlost, Stands, standing, stands-any, stands-exits, stands-steps}
-use Rattle.run_laws.proofs.Taken.{NotTaken, IsUntouched, untouched, loose, loosens, close-lasts, free-taken}
+use Rattle.run_laws.proofs.Staying.{Unlost, IsIt, Stands, standing, stands-any, stands-exits, stands-steps}
+use Rattle.run_laws.proofs.Taken.{NotTaken, OnlyOurs, IsUntouched, untouched, loose, loosens, close-lasts, free-taken}
 use Rattle.run_laws.proofs.Firsts.{first-low, first-stands, first-untouched, stands-ready}
 use Rattle.run_laws.proofs.Manners.{are-unlost, paired}
 use Rattle.run_laws.proofs.Traces.{Asking, Finally, Traced, AllTraced, from-traced, along-traced}
 use Rattle.theorems.proofs.Reload.{other-next}
-use Rattle.stepped_reloads.specs.Steps.{closes_opened, quits_new, plan_of, rollout_of, run_of, SteppedManner}
-use Rattle.stepped_reloads.proofs.Late.{Waits, wait-keeps, waited-any, told-any, LateFirst, not-taken-late, anyway, not-lost}
-use Rattle.stepped_reloads.proofs.Late.{Close, exits-close, told-and-waited}
-use Rattle.stepped_reloads.proofs.Walks.{Goes, quits-go, closes-go, starts-any-go, gone-go, stepped-goes}
-
--- Calls that keep what is known of a worker: those of other names, and those that are told to none.
-abbrev IsGentle : (Generation → ℕ → Type 0) → (Generation → ℕ → Type 0) → Call → Type 0
-IsGentle free waits (OpenAt a) = ⊤
-IsGentle free waits (CloseAt a) = ⊤
-IsGentle free waits (Fork g x fds) = ⊤
-IsGentle free waits (AwaitReady g x) = ⊤
-IsGentle free waits (Quit g x) = free g x
-IsGentle free waits (Kill g x) = free g x
-IsGentle free waits (Census g) = ⊤
-IsGentle free waits (AwaitGone g x) = waits g x
-IsGentle free waits (Ask q) = ⊤
-IsGentle free waits _ = ⊥
-
-gentle-stays : (free waits : Generation → ℕ → Type 0) (call : Call) → IsGentle free waits call → is_leave_call call ≡ false
-gentle-stays free waits (OpenAt a) ok = refl
-gentle-stays free waits (CloseAt a) ok = refl
-gentle-stays free waits (Fork g x fds) ok = refl
-gentle-stays free waits (AwaitReady g x) ok = refl
-gentle-stays free waits (Quit g x) ok = refl
-gentle-stays free waits (Kill g x) ok = refl
-gentle-stays free waits (Census g) ok = refl
-gentle-stays free waits (AwaitGone g x) ok = refl
-gentle-stays free waits (Ask q) ok = refl
-gentle-stays free waits _ ok = absurd ok
+use Rattle.stepped_reloads.specs.Steps.{plan_of, rollout_of, run_of, SteppedManner}
+use Rattle.stepped_reloads.proofs.Late.{wait-keeps, waited-for, LateFirst, not-taken-late, anyway, not-lost, Close, exits-close, told-and-waited}
+use Rattle.stepped_reloads.proofs.Walks.{IsGentle, Goes, closes-go, stepped-goes}
 
 module _ (t : Table) (r : Record) (st : Settings) (pattern : Pattern) (s : IsStart t r) (p k : ℕ) (on : has_ready t p k ≡ true) where
   abbrev g : Generation
@@ -101,8 +75,8 @@ module _ (t : Table) (r : Record) (st : Settings) (pattern : Pattern) (s : IsSta
       go false b e = refl
 
   -- and no other number is its own
-  free-of : (ks : List ℕ) → is_in ks k ≡ false → (x : ℕ) → is_in ks x ≡ true → IsFree g x
-  free-of ks off x e = go (same_generation g g) (k == x) (eqb-off k x (λ same. true-false (is_in ks k) (subst (λ z. is_in ks z ≡ true) (sym same) e) off))
+  free-other : (x : ℕ) → (k ≡ x → ⊥) → IsFree g x
+  free-other x ne = go (same_generation g g) (k == x) (eqb-off k x ne)
     where
       go : (a b : Bool) → b ≡ false → (a && b) ≡ false
       go true b e = e
@@ -113,11 +87,11 @@ module _ (t : Table) (r : Record) (st : Settings) (pattern : Pattern) (s : IsSta
   abbrev F : Table → Type 0
   F u = Stands r.pid g.image p g k low u
 
-  -- it stands at an end on the old side, unless its master had waited for some worker to go
+  -- it stands at an end on the old side, unless its master had waited for it to go
   abbrev stays : Finally
   stays past e q =
       is_old_side (outcome_of (sides_of r (Reload st)) e (lacked_last q.lacked)) ≡ true →
-      list_any (λ e. is_wait (λ g k. true) e.call) past ≡ false → F q.table
+      list_any (λ e. is_wait (bears g k) e.call) past ≡ false → F q.table
 
   abbrev unasked : Asking
   unasked past call u = ⊤
@@ -125,16 +99,12 @@ module _ (t : Table) (r : Record) (st : Settings) (pattern : Pattern) (s : IsSta
   never-lost : (past : List Entry) (q : Progress) → stays past Lost q
   never-lost past q back = absurd (cc back)
 
-  waited-ends : (past : List Entry) (e : Ending) (q : Progress) → Waits past → stays past e q
-  waited-ends past e q w back none = absurd (cc (w, none))
-
   exits-it : (es : List Name) (u : Table) → names_any co.executing es ≡ false → Unlost p es u.rows → F u → F (after_exits es u)
   exits-it es u spared mild h = stands-exits r.pid g.image p g k low es u (spares-each co.executing g.image es acts spared) mild h
 
-  abbrev GentleIt : Call → Type 0
-  GentleIt call = IsGentle IsFree (λ h x. ⊥) call
-
-  steps-it : (handed : Handed) (call : Call) (fate : Option Fate) (u : Table) → GentleIt call → F u → F (step_with handed g.image call fate u).table
+  steps-it :
+      (handed : Handed) (call : Call) (fate : Option Fate) (u : Table) → IsGentle IsFree call → F u →
+      F (step_with handed g.image call fate u).table
   steps-it handed (OpenAt a) fate u ok h = stands-steps r.pid g.image p g k low handed (OpenAt a) fate u (tt, tt) h
   steps-it handed (CloseAt a) fate u ok h = stands-steps r.pid g.image p g k low handed (CloseAt a) fate u (tt, tt) h
   steps-it handed (Fork f x fds) fate u ok h = stands-steps r.pid g.image p g k low handed (Fork f x fds) fate u (tt, tt) h
@@ -142,13 +112,14 @@ module _ (t : Table) (r : Record) (st : Settings) (pattern : Pattern) (s : IsSta
   steps-it handed (Quit f x) fate u ok h = stands-steps r.pid g.image p g k low handed (Quit f x) fate u (ok, tt) h
   steps-it handed (Kill f x) fate u ok h = stands-steps r.pid g.image p g k low handed (Kill f x) fate u (tt, ok) h
   steps-it handed (Census f) fate u ok h = stands-steps r.pid g.image p g k low handed (Census f) fate u (tt, tt) h
+  steps-it handed (AwaitGone f x) fate u ok h =
+      wait-keeps r.pid g.image p (IsIt r.pid g.image p g k low) F handed f x fate u h.fact h
+      (stands-steps r.pid g.image p g k low None (Kill f x) None u (tt, ok) h)
   steps-it handed (Ask q) fate u ok h = stands-any r.pid g.image p g k low handed g.image (Ask q) fate u tt h
   steps-it handed _ fate u ok h = absurd ok
 
   abbrev Keeps : Tree → Type 0
-  Keeps tree =
-      Goes unasked stays (Unlost p) co never-lost g.image F exits-it GentleIt (gentle-stays IsFree (λ h x. ⊥)) steps-it
-      (λ past call u ok h. tt) tree
+  Keeps tree = Goes unasked stays (Unlost p) co never-lost g.image F exits-it IsFree steps-it (λ past call u ok h. tt) tree
 
   settled-it : Keeps (settle g.image old r.ready Old r.retries)
   settled-it past q known h =
@@ -157,11 +128,6 @@ module _ (t : Table) (r : Record) (st : Settings) (pattern : Pattern) (s : IsSta
       (settle-along g.image (Unlost p) Unasked (standing r.pid g.image p g k low) (λ e q. F q.table)
       (λ e q stands. stands) co acts Old old r.ready r.retries q tt h)
       past
-
-  closes-it : (opened : List Address) → Keeps (closes_opened g.image old r.ready r.retries opened)
-  closes-it opened =
-      closes-go unasked stays (Unlost p) co never-lost g.image F exits-it GentleIt (gentle-stays IsFree (λ h x. ⊥)) steps-it
-      (λ past call u ok h. tt) opened (settle g.image old r.ready Old r.retries) (λ a. tt) settled-it
 
   -- On the way on nothing is asked of an end.
   on-it : (left : List ℕ) → Keeps (reload_on g.image old next left r.retries dropped st.workers)
@@ -176,39 +142,14 @@ module _ (t : Table) (r : Record) (st : Settings) (pattern : Pattern) (s : IsSta
       (ends-settle (λ e. (q : Progress) → post' (At e) q) g.image next (numbers_below st.workers) Target r.retries (λ q need. absurd (cc)) (λ q need. absurd (cc))))))
       past
 
-  relieves-it :
-      (ks : List ℕ) (rest : Tree) → (ks ≡ [] → Keeps rest) →
-      Keeps (quits g.image g (reverse ks) (awaits_gone g.image g (reverse ks) rest))
-  relieves-it [] rest h = h refl
-  relieves-it (x ∷ ks) rest h =
-      λ past q known stands.
-      told-any stays (Unlost p) co never-lost waited-ends g.image g (reverse (x ∷ ks)) x rest
-      (in-reverse (x ∷ ks) x ∙ in-here x x ks refl) past q
-
-  again-it : (ks : List ℕ) (rest : Tree) → ks ≡ [] → Keeps rest → Keeps (starts_any g.image old ks rest)
-  again-it ks rest is h = subst (λ l. Keeps (starts_any g.image old l rest)) (sym is) h
-
-  awaits-it : (ks : List ℕ) (rest : Tree) → Keeps rest → Keeps (awaits_gone g.image new ks rest)
-  awaits-it [] rest h = h
-  awaits-it (x ∷ ks) rest h = λ past q known stands. waited-any stays (Unlost p) co never-lost waited-ends g.image new x ks rest past q
-
-  undoes-it :
-      (waits : Bool) (numbers forked : List ℕ) (back : Tree) → Keeps back →
-      Keeps (quits_new g.image next waits numbers back forked)
-  undoes-it true numbers forked back h =
-      quits-go unasked stays (Unlost p) co never-lost g.image F exits-it GentleIt (gentle-stays IsFree (λ h x. ⊥)) steps-it
-      (λ past call u ok h. tt) new forked (awaits_gone g.image new (reverse numbers) back) (λ x e. free-new x)
-      (awaits-it (reverse numbers) back h)
-  undoes-it false numbers forked back h =
-      quits-go unasked stays (Unlost p) co never-lost g.image F exits-it GentleIt (gentle-stays IsFree (λ h x. ⊥)) steps-it
-      (λ past call u ok h. tt) new forked back (λ x e. free-new x) h
-
-  pub stays-traced : (asked : Bool) (surge : ℕ) → Traced unasked stays (Unlost p) co [] (plan_of asked surge r st) (start_at t r.note)
+  stays-traced : (asked : Bool) (surge : ℕ) → Traced unasked stays (Unlost p) co [] (plan_of asked surge r st) (start_at t r.note)
   stays-traced asked surge =
-      stepped-goes unasked stays (Unlost p) co never-lost g.image F exits-it GentleIt (gentle-stays IsFree (λ h x. ⊥)) steps-it
-      (λ past call u ok h. tt) old next (λ ks. ks ≡ []) (λ a. tt) (λ a. tt) (λ q. tt) (λ h. tt) (λ crew x. tt) (λ h x. tt)
-      (λ x. free-new x) relieves-it again-it undoes-it asked r.ready r.retries (addresses_of r) st.listeners st.workers
-      (rollout_of r st surge) (on-it (rollout_of r st surge).left) closes-it
+      stepped-goes unasked stays (Unlost p) co never-lost g.image F exits-it IsFree steps-it (λ past call u ok h. tt) old next k
+      free-new free-other
+      (λ ks rest in_it past q known stands. waited-for stays (Unlost p) co never-lost g.image g k (λ past e q w back none. absurd (cc (w, none))) ks rest in_it past q)
+      asked r.ready r.retries (addresses_of r) st.listeners st.workers (rollout_of r st surge)
+      (on-it (rollout_of r st surge).left)
+      (λ opened. closes-go unasked stays (Unlost p) co never-lost g.image F exits-it IsFree steps-it (λ past call u ok h. tt) opened (settle g.image old r.ready Old r.retries) settled-it)
       [] (start_at t r.note) tt (first-stands t r s p k on)
 
   ---- No kill takes it but when it was late
@@ -216,10 +157,12 @@ module _ (t : Table) (r : Record) (st : Settings) (pattern : Pattern) (s : IsSta
   abbrev C : Table → Type 0
   C u = Close r.pid g.image p g k low co acts u
 
-  abbrev GentleLate : Call → Type 0
-  GentleLate call = IsGentle IsFree (λ h x. ⊤) call
+  abbrev Untouched : Process → Type 0
+  Untouched row = OnlyOurs r.pid g.image p g k low (IsUntouched r.pid g.image p g k low) row
 
-  steps-late : (handed : Handed) (call : Call) (fate : Option Fate) (u : Table) → GentleLate call → C u → C (step_with handed g.image call fate u).table
+  steps-late :
+      (handed : Handed) (call : Call) (fate : Option Fate) (u : Table) → IsGentle IsFree call → C u →
+      C (step_with handed g.image call fate u).table
   steps-late handed (OpenAt a) fate u ok h = fact-steps r.pid g.image p _ _ (close-lasts r.pid g.image p g k low) handed (OpenAt a) fate u tt h
   steps-late handed (CloseAt a) fate u ok h = fact-steps r.pid g.image p _ _ (close-lasts r.pid g.image p g k low) handed (CloseAt a) fate u tt h
   steps-late handed (Fork f x fds) fate u ok h = fact-steps r.pid g.image p _ _ (close-lasts r.pid g.image p g k low) handed (Fork f x fds) fate u tt h
@@ -227,25 +170,29 @@ module _ (t : Table) (r : Record) (st : Settings) (pattern : Pattern) (s : IsSta
   steps-late handed (Quit f x) fate u ok h = fact-steps r.pid g.image p _ _ (close-lasts r.pid g.image p g k low) handed (Quit f x) fate u ok h
   steps-late handed (Kill f x) fate u ok h = fact-steps r.pid g.image p _ _ (close-lasts r.pid g.image p g k low) handed (Kill f x) fate u tt h
   steps-late handed (Census f) fate u ok h = fact-steps r.pid g.image p _ _ (close-lasts r.pid g.image p g k low) handed (Census f) fate u tt h
-  steps-late handed (AwaitGone f x) fate u ok h = wait-keeps r.pid g.image p _ _ (close-lasts r.pid g.image p g k low) handed f x fate u h
+  steps-late handed (AwaitGone f x) fate u ok h =
+      wait-keeps r.pid g.image p Untouched C handed f x fate u h h
+      (fact-steps r.pid g.image p _ _ (close-lasts r.pid g.image p g k low) None (Kill f x) None u tt h)
   steps-late handed (Ask q) fate u ok h = fact-any r.pid g.image p _ _ (close-lasts r.pid g.image p g k low) [] handed g.image (Ask q) fate u tt h
   steps-late handed _ fate u ok h = absurd ok
 
-  owes-late : (past : List Entry) (call : Call) (u : Table) → GentleLate call → C u → LateFirst p past call u
+  owes-late : (past : List Entry) (call : Call) (u : Table) → IsGentle IsFree call → C u → LateFirst p past call u
   owes-late past (Kill f x) u ok h =
       not-taken-late p past (Kill f x) u (free-taken r.pid g.image p g k low (IsUntouched r.pid g.image p g k low) f x u.rows ok h.all)
   owes-late past _ u ok h = tt
 
   abbrev Spares : Tree → Type 0
   Spares tree =
-      Goes (LateFirst p) anyway Anyhow co not-lost g.image C (exits-close r.pid g.image p g k low co acts) GentleLate
-      (gentle-stays IsFree (λ h x. ⊤)) steps-late owes-late tree
+      Goes (LateFirst p) anyway Anyhow co not-lost g.image C (exits-close r.pid g.image p g k low co acts) IsFree steps-late
+      owes-late tree
 
-  closes-late : (opened : List Address) → Spares (closes_opened g.image old r.ready r.retries opened)
-  closes-late opened =
-      closes-go (LateFirst p) anyway Anyhow co not-lost g.image C (exits-close r.pid g.image p g k low co acts) GentleLate
-      (gentle-stays IsFree (λ h x. ⊤)) steps-late owes-late opened (settle g.image old r.ready Old r.retries) (λ a. tt)
-      (λ past q known h. along-traced (LateFirst p) anyway Anyhow (NotTaken p) (λ e q. ⊤) (not-taken-late p) (λ past e q x. tt) co (settle g.image old r.ready Old r.retries) q (settle-along g.image Anyhow (NotTaken p) (untouched r.pid g.image p g k low) (λ e q. ⊤) (λ e q x. tt) co acts Old old r.ready r.retries q tt h) past)
+  settled-late : Spares (settle g.image old r.ready Old r.retries)
+  settled-late past q known h =
+      along-traced (LateFirst p) anyway Anyhow (NotTaken p) any_end (not-taken-late p) (λ past e q x. tt) co
+      (settle g.image old r.ready Old r.retries) q
+      (settle-along g.image Anyhow (NotTaken p) (untouched r.pid g.image p g k low) any_end (λ e q x. tt) co acts Old old r.ready
+      r.retries q tt h)
+      past
 
   -- The old workers that are left quit, and from then on new ones alone are killed.
   on-late : (left : List ℕ) → Spares (reload_on g.image old next left r.retries dropped st.workers)
@@ -260,44 +207,14 @@ module _ (t : Table) (r : Record) (st : Settings) (pattern : Pattern) (s : IsSta
       q (loosens r.pid g.image p g k low q.table h))
       past
 
-  relieves-late :
-      (ks : List ℕ) (rest : Tree) → (is_in ks k ≡ false → Spares rest) →
-      Spares (quits g.image g (reverse ks) (awaits_gone g.image g (reverse ks) rest))
-  relieves-late ks rest h = go (is_in ks k) refl
-    where
-      go : (b : Bool) → is_in ks k ≡ b → Spares (quits g.image g (reverse ks) (awaits_gone g.image g (reverse ks) rest))
-      go true e = told-and-waited r.pid g.image p g k low co acts (reverse ks) rest (in-reverse ks k ∙ e)
-      go false e =
-          let off = in-reverse ks k ∙ e in
-          quits-go (LateFirst p) anyway Anyhow co not-lost g.image C (exits-close r.pid g.image p g k low co acts) GentleLate
-          (gentle-stays IsFree (λ h x. ⊤)) steps-late owes-late g (reverse ks) (awaits_gone g.image g (reverse ks) rest)
-          (free-of (reverse ks) off)
-          (gone-go (LateFirst p) anyway Anyhow co not-lost g.image C (exits-close r.pid g.image p g k low co acts) GentleLate
-          (gentle-stays IsFree (λ h x. ⊤)) steps-late owes-late g (reverse ks) rest (λ x e. tt) (free-of (reverse ks) off) (h e))
-
-  again-late : (ks : List ℕ) (rest : Tree) → is_in ks k ≡ false → Spares rest → Spares (starts_any g.image old ks rest)
-  again-late ks rest off h =
-      starts-any-go (LateFirst p) anyway Anyhow co not-lost g.image C (exits-close r.pid g.image p g k low co acts) GentleLate
-      (gentle-stays IsFree (λ h x. ⊤)) steps-late owes-late old ks rest (λ x. tt) (λ x. tt) (free-of ks off) h
-
-  undoes-late :
-      (waits : Bool) (numbers forked : List ℕ) (back : Tree) → Spares back →
-      Spares (quits_new g.image next waits numbers back forked)
-  undoes-late true numbers forked back h =
-      quits-go (LateFirst p) anyway Anyhow co not-lost g.image C (exits-close r.pid g.image p g k low co acts) GentleLate
-      (gentle-stays IsFree (λ h x. ⊤)) steps-late owes-late new forked (awaits_gone g.image new (reverse numbers) back) (λ x e. free-new x)
-      (gone-go (LateFirst p) anyway Anyhow co not-lost g.image C (exits-close r.pid g.image p g k low co acts) GentleLate
-      (gentle-stays IsFree (λ h x. ⊤)) steps-late owes-late new (reverse numbers) back (λ x e. tt) (λ x e. free-new x) h)
-  undoes-late false numbers forked back h =
-      quits-go (LateFirst p) anyway Anyhow co not-lost g.image C (exits-close r.pid g.image p g k low co acts) GentleLate
-      (gentle-stays IsFree (λ h x. ⊤)) steps-late owes-late new forked back (λ x e. free-new x) h
-
-  pub late-traced : (asked : Bool) (surge : ℕ) → Traced (LateFirst p) anyway Anyhow co [] (plan_of asked surge r st) (start_at t r.note)
+  late-traced : (asked : Bool) (surge : ℕ) → Traced (LateFirst p) anyway Anyhow co [] (plan_of asked surge r st) (start_at t r.note)
   late-traced asked surge =
-      stepped-goes (LateFirst p) anyway Anyhow co not-lost g.image C (exits-close r.pid g.image p g k low co acts) GentleLate
-      (gentle-stays IsFree (λ h x. ⊤)) steps-late owes-late old next (λ ks. is_in ks k ≡ false) (λ a. tt) (λ a. tt) (λ q. tt)
-      (λ h. tt) (λ crew x. tt) (λ h x. tt) (λ x. free-new x) relieves-late again-late undoes-late asked r.ready r.retries
-      (addresses_of r) st.listeners st.workers (rollout_of r st surge) (on-late (rollout_of r st surge).left) closes-late
+      stepped-goes (LateFirst p) anyway Anyhow co not-lost g.image C (exits-close r.pid g.image p g k low co acts) IsFree steps-late
+      owes-late old next k free-new free-other
+      (λ ks rest in_it. told-and-waited r.pid g.image p g k low co acts ks rest in_it)
+      asked r.ready r.retries (addresses_of r) st.listeners st.workers (rollout_of r st surge)
+      (on-late (rollout_of r st surge).left)
+      (λ opened. closes-go (LateFirst p) anyway Anyhow co not-lost g.image C (exits-close r.pid g.image p g k low co acts) IsFree steps-late owes-late opened (settle g.image old r.ready Old r.retries) settled-late)
       [] (start_at t r.note) tt (first-untouched t r s p k on)
 
 ---- The manner
@@ -327,7 +244,7 @@ stays-or-lost :
     let ran = run_in (co t r st pattern s p k on) tree at in
     refused_in (co t r st pattern s p k on) tree at ≡ None →
     is_old_side (outcome_of (sides_of r (Reload st)) ran.ending (lacked_last ran.last.lacked)) ≡ true →
-    list_any (λ e. is_wait (λ g k. true) e.call) ran.entries ≡ false → (b : Bool) → is_lost p ran.passed ≡ b →
+    list_any (λ e. is_wait (bears r.generation k) e.call) ran.entries ≡ false → (b : Bool) → is_lost p ran.passed ≡ b →
     (has_ready ran.last.table p k ≡ true) ⊎ (is_lost p ran.passed ≡ true)
 stays-or-lost asked surge t r st pattern s p k on spared back none true e = inr e
 stays-or-lost asked surge t r st pattern s p k on spared back none false e =
@@ -344,15 +261,36 @@ stays-or-lost asked surge t r st pattern s p k on spared back none false e =
 pub stepped-manner :
     (asked : Bool) (surge : ℕ) (t : Table) (r : Record) (st : Settings) (pattern : Pattern) (s : IsStart t r) →
     refused_among (r.generation.image ∷ []) [] pattern 0 (run_of asked surge r st pattern t).entries ≡ None →
-    SteppedManner (report_of (sides_of r (Reload st)) (run_of asked surge r st pattern t)).outcome t
+    SteppedManner r (report_of (sides_of r (Reload st)) (run_of asked surge r st pattern t)).outcome t
     (run_of asked surge r st pattern t)
 stepped-manner asked surge t r st pattern s spared =
     let tree = plan_of asked surge r st in
     let at = start_at t r.note in
     let course : Course = record { handed = None; pattern = pattern; executing = r.generation.image ∷ []; heirs = [] } in
     let ran = run_of asked surge r st pattern t in (
-      λ back none p k on need. stays-or-lost asked surge t r st pattern s p k on spared back none (is_lost p ran.passed) refl,
+      λ back p k on need. stays-or-lost asked surge t r st pattern s p k on spared back
+          (not-is (list_any (λ e. is_wait (bears r.generation k) e.call) ran.entries) need) (is_lost p ran.passed) refl,
       kills-due t [] ran.entries ran.passed (paired None tree pattern at)
           (λ p k on. (from-traced (LateFirst p) anyway Anyhow course [] tree at
           (late-traced t r st pattern s p k on asked surge) spared (are-mild-anyhow course tree at)).dues),
     )
+
+-- Where it waited for nobody all stay.
+pub all-stay :
+    (r : Record) (end : Outcome) (first : Table) (ran : Ran) → SteppedManner r end first ran → is_old_side end ≡ true →
+    list_any (λ e. is_wait (λ g k. true) e.call) ran.entries ≡ false → Stays first (λ k. true) ran
+all-stay r end first ran manner back none p k on need = manner.0 back p k on (ap not (unwaited k ran.entries none))
+  where
+    or-false : (a b c d : Bool) → (a ≡ false → c ≡ false) → (b ≡ false → d ≡ false) → (a || b) ≡ false → (c || d) ≡ false
+    or-false true b c d here there e = absurd (cc e)
+    or-false false b c d here there e = rw (here refl) (there e)
+
+    one : (k : ℕ) (call : Call) → is_wait (λ g k. true) call ≡ false → is_wait (bears r.generation k) call ≡ false
+    one k (AwaitGone g x) e = absurd (cc e)
+    one k _ e = refl
+
+    unwaited :
+        (k : ℕ) (l : List Entry) → list_any (λ e. is_wait (λ g k. true) e.call) l ≡ false →
+        list_any (λ e. is_wait (bears r.generation k) e.call) l ≡ false
+    unwaited k [] e = refl
+    unwaited k (x ∷ l) e = or-false _ _ _ _ (one k x.call) (unwaited k l) e

@@ -6,7 +6,7 @@ use Rattle.listener_set.specs.Numbers.{lacks, numbers_below}
 use Rattle.vocabulary.specs.Settings.{Settings}
 use Rattle.vocabulary.specs.declared.plans.Side.TheVariants as side
 use Rattle.vocabulary.specs.declared.targets.Target.TheVariants.{Reload}
-use Rattle.definitions.specs.Table.{Address, Table, service}
+use Rattle.definitions.specs.Table.{Address, Table, bears, service}
 use Rattle.definitions.specs.Calls.{Quit, CloseAt, Census}
 use Rattle.definitions.specs.Master.{Crew, Record, addresses_of, crew_of, layout_of, layout_in, served, sides_of, want}
 use Rattle.definitions.specs.After.{crew_wanted}
@@ -129,12 +129,12 @@ plan_of asked surge r s =
 abbrev pub run_of : Bool → ℕ → Record → Settings → Pattern → Table → Ran
 run_of asked surge r s pattern t = run_with None (plan_of asked surge r s) pattern (start_at t r.note)
 
--- A run that ends on the old side leaves all workers, unless it waited for some worker to be gone. One that was Ready at first is
+-- A run that ends on the old side leaves each old worker but those that it waited for to be gone. One that was Ready at first is
 -- killed only after it was told to quit and was late.
-abbrev pub SteppedManner : Outcome → Table → Ran → Type 0
-SteppedManner end first ran =
-    let waited = list_any (λ e. is_wait (λ g k. true) e.call) ran.entries in
-    (is_old_side end ≡ true → waited ≡ false → Stays first (λ k. true) ran) × KillsOnlyLate first ran
+abbrev pub SteppedManner : Record → Outcome → Table → Ran → Type 0
+SteppedManner r end first ran =
+    let waited = λ (k : ℕ). list_any (λ e. is_wait (bears r.generation k) e.call) ran.entries in
+    (is_old_side end ≡ true → Stays first (λ k. not (waited k)) ran) × KillsOnlyLate first ran
 
 -- How it ends, and what is kept; where there is more than one step the faults so far excuse the floor.
 pub record KeepsSteps (surge : ℕ) (t : Table) (r : Record) (s : Settings) (ran : Ran) : Type 0 where
@@ -142,7 +142,7 @@ pub record KeepsSteps (surge : ℕ) (t : Table) (r : Record) (s : Settings) (ran
   pub after : IsSucceeded r (Reload s) t ran
   pub kept : AllByRecursion (λ p. Kept (service t) (want r (Reload s)) t p.table) ran.passed
   pub floor : AllByRecursion (Floor (λ p. if nat_lt 0 surge && nat_lt surge (length (numbers_below s.workers)) then p.faults else 0) t r (Reload s)) ran.passed
-  pub manner : SteppedManner (report_of (sides_of r (Reload s)) ran).outcome t ran
+  pub manner : SteppedManner r (report_of (sides_of r (Reload s)) ran).outcome t ran
   pub blamed : AllByRecursion IsBlamed ran.passed
   pub cause : HasCause (report_of (sides_of r (Reload s)) ran).outcome ran.last.cause
   pub paid : IsPaid r.retries (report_of (sides_of r (Reload s)) ran).outcome ran.last
