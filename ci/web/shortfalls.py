@@ -15,7 +15,7 @@ from typing import Any
 
 from gate.addresses import answer_of, free_address
 from gate.waiting import SECONDS, until
-from web.site import BIN, BROKEN, Scenario, Site, text_of
+from web.site import BIN, BROKEN, SERVICE, Scenario, Site, text_of
 from web.systemd import Systemd
 
 EVENTS = ("on-short", "on-healed")
@@ -26,6 +26,14 @@ if sys.argv[1:] == ["child"] and os.path.exists({there!r}):
     {needs}
 """
 BIND = "import socket; host, _, port = {address!r}.rpartition(':'); socket.socket().bind((host, int(port)))"
+# A crash loop: how many workers crash, for how many seconds of prefork-serve's own clock, and how much faster that goes
+# than the system's. What is allowed in that time, and the starts that there are at least.
+CRASHING, LOOP_SECONDS, FASTER = 4, 600, 20
+MOST_STARTS, MOST_LINES, LEAST_STARTS = 60, 20, 15
+FAST_CLOCK = SERVICE / "tests" / "programs" / "fast_clock.c"
+# An application that fails at its start, and notes each. What it says last is its reason.
+CRASHES = "#!/bin/sh\necho >>{starts}\n{says}\nexit 7\n"
+SAYS = {"the same reason": "echo no database >&2", "reasons of which no two are the same": "tr -dc a-z </dev/urandom | head -c 9 >&2"}
 ALLOCATE = "import resource; resource.setrlimit(resource.RLIMIT_AS, (1 << 28, 1 << 28)); bytearray(1 << 30)"
 
 
@@ -188,4 +196,47 @@ def fails(site: Site, views: Views, what: str, why: str, spoil: Callable, mend: 
     views.agree(f"the end of {what}", "serves", 2)
 
 
-SCENARIOS: list[Scenario] = [short_from_its_start, short_for_five_reasons]
+def crashes(site: Site, says: str) -> None:
+    """All workers of a service that serves are killed, and do not start again. After ten minutes of its own clock there were few
+    starts and few lines, and once it is mended it serves."""
+    library, starts = site.room / "fast_clock.so", site.room / "starts"
+    subprocess.run(["cc", "-O2", "-shared", "-fPIC", "-o", library, FAST_CLOCK], check=True)
+    clock = {"FAST_CLOCK": FASTER, "FAST_CLOCK_FROM": int(time.monotonic()), "FAST_CLOCK_OF": "/bin/prefork-serve", "LD_PRELOAD": library}
+    site.before = ["env", *(f"{name}={value}" for name, value in clock.items())]
+    # (what others take to answer is many of its seconds)
+    site.options = ["--answer-within", str(60 * FASTER)]
+    for file in ("from.toml", "to.toml", "site.toml"):
+        site.configure(file, workers=CRASHING)
+    site.serve = site.started()
+    until("the workers", lambda: len(site.workers()) == CRASHING and "\ndone " in site.blocks())
+    site.install(CRASHES.format(starts=starts, says=SAYS[says]))
+    before = len(lines_of(site))
+    for number in site.workers():
+        site.kill(number)
+    time.sleep(LOOP_SECONDS / FASTER)
+    lines, count = lines_of(site)[before:], len(text_of(starts).splitlines())
+    site.check(f"{says}: {count} starts", LEAST_STARTS < count <= MOST_STARTS)
+    site.check(f"{says}: it says {lines}", 0 < len(lines) <= MOST_LINES)
+    print(f"{site.name}: {count} starts and {len(lines)} lines in {LOOP_SECONDS} s of its clock")
+    site.install(site.app_text)
+    block, faults = site.sent("tick").communicate(timeout=SECONDS)
+    site.check(f"{says}: tick does not mend: {block}{faults}", block.rstrip().rpartition("\n")[2].startswith("done "))
+    site.check_workers("tick", CRASHING)
+    site.stop()
+    site.certify()
+
+
+def lines_of(site: Site) -> list[str]:
+    """What prefork-serve itself has said."""
+    return [line for line in text_of(site.room / "said").splitlines() if line.startswith("prefork-serve: ")]
+
+
+def crash_loop_for_one_reason(site: Site) -> None:
+    crashes(site, "the same reason")
+
+
+def crash_loop_for_many_reasons(site: Site) -> None:
+    crashes(site, "reasons of which no two are the same")
+
+
+SCENARIOS: list[Scenario] = [short_from_its_start, short_for_five_reasons, crash_loop_for_one_reason, crash_loop_for_many_reasons]

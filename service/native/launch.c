@@ -26,6 +26,7 @@
 #include "log.h"
 #include "reason.h"
 #include "recipe.h"
+#include "version.h"
 
 #include <errno.h>
 #include <fcntl.h>
@@ -224,6 +225,7 @@ static void end_with_parent(void) {
 
 int main(int count, char **words) {
     char generation[32], own[4096];
+    tell_version(count, words, "prefork-launch");
     if (count == 2 && !strcmp(words[1], "child")) {
         unsigned number = read_generation(generation, sizeof generation);
         char name[64];
