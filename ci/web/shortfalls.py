@@ -28,8 +28,10 @@ if sys.argv[1:] == ["child"] and os.path.exists({there!r}):
 BIND = "import socket; host, _, port = {address!r}.rpartition(':'); socket.socket().bind((host, int(port)))"
 # A crash loop: how many workers crash, for how many seconds of prefork-serve's own clock, and how much faster that goes
 # than the system's. What is allowed in that time, and the starts that there are at least.
-CRASHING, LOOP_SECONDS, FASTER = 4, 600, 20
+CRASHING, LOOP_SECONDS, FASTER = 4, 600, 10
 MOST_STARTS, MOST_LINES, LEAST_STARTS = 60, 20, 15
+# The word that the core of prefork-serve has, once it has begun.
+CORE = "--core"
 FAST_CLOCK = SERVICE / "tests" / "programs" / "fast_clock.c"
 # An application that fails at its start, and notes each. What it says last is its reason.
 CRASHES = "#!/bin/sh\necho >>{starts}\n{says}\nexit 7\n"
@@ -201,7 +203,7 @@ def crashes(site: Site, says: str) -> None:
     starts and few lines, and once it is mended it serves."""
     library, starts = site.room / "fast_clock.so", site.room / "starts"
     subprocess.run(["cc", "-O2", "-shared", "-fPIC", "-o", library, FAST_CLOCK], check=True)
-    clock = {"FAST_CLOCK": FASTER, "FAST_CLOCK_FROM": int(time.monotonic()), "FAST_CLOCK_OF": "/bin/prefork-serve", "LD_PRELOAD": library}
+    clock = {"FAST_CLOCK": FASTER, "FAST_CLOCK_FROM": int(time.monotonic()), "FAST_CLOCK_OF": CORE, "LD_PRELOAD": library}
     site.before = ["env", *(f"{name}={value}" for name, value in clock.items())]
     # (what others take to answer is many of its seconds)
     site.options = ["--answer-within", str(60 * FASTER)]

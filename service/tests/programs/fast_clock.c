@@ -1,5 +1,5 @@
-/* fast_clock.c: a library for tests. In the program that FAST_CLOCK_OF names, time goes FAST_CLOCK times as fast from the
- * second FAST_CLOCK_FROM of the system's clock on: ten minutes pass in half a minute. Other programs have the usual clock. */
+/* fast_clock.c: a library for tests. In a process whose first arguments have the word FAST_CLOCK_OF, time goes FAST_CLOCK times
+ * as fast from the second FAST_CLOCK_FROM of the system's clock on. Other processes have the usual clock. */
 #define _GNU_SOURCE
 #include <errno.h>
 #include <poll.h>
@@ -12,18 +12,17 @@
 #include <unistd.h>
 
 #define BILLION 1000000000LL
+#define FIRST_WORDS 3
 
 static long long factor = 1, from;
 
 __attribute__((constructor)) static void begin(int count, char **words) {
-    const char *times = getenv("FAST_CLOCK"), *since = getenv("FAST_CLOCK_FROM"), *program = getenv("FAST_CLOCK_OF");
-    for (int at = 0; times && since && program && at < count && at < 2; at++) {
-        size_t length = strlen(words[at]), tail = strlen(program);
-        if (length >= tail && !strcmp(words[at] + length - tail, program)) {
+    const char *times = getenv("FAST_CLOCK"), *since = getenv("FAST_CLOCK_FROM"), *word = getenv("FAST_CLOCK_OF");
+    for (int at = 0; times && since && word && at < count && at < FIRST_WORDS; at++)
+        if (!strcmp(words[at], word)) {
             factor = atoll(times);
             from = atoll(since) * BILLION;
         }
-    }
 }
 
 /* A limit in milliseconds: none stays none, and a short one is no busy loop. */
