@@ -6,7 +6,7 @@ import time
 
 TICKS = os.sysconf("SC_CLK_TCK")
 # The least time between two measures, and which part of a processor they may take.
-LEAST_SECONDS, SHARE = 2.0, 0.002
+LEAST_SECONDS, SHARE = 2.0, 0.001
 PSS = re.compile(r"^Pss:\s+(\d+) kB$", re.M)
 
 
