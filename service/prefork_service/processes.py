@@ -1,8 +1,21 @@
 """Processes of a service, as the system tells of them."""
+import os
 import pathlib
 
 # A flag of the system: a process is about to end.
 PF_EXITING = 4
+# More than the system says of a process in one line.
+MOST_BYTES = 4096
+
+
+def line_of(path: str) -> str:
+    """What a short file of the system says. A status reads hundreds of them: this takes three calls for each. The name of a
+    process may be no text."""
+    file = os.open(path, os.O_RDONLY | os.O_CLOEXEC)
+    try:
+        return os.read(file, MOST_BYTES).decode(errors="replace")
+    finally:
+        os.close(file)
 
 
 def fields_of(process: int) -> list[str]:
@@ -16,7 +29,7 @@ def fields_of(process: int) -> list[str]:
 def read_fields(process: int) -> list[str]:
     """The same. Raises OSError if the system can't be asked just now, where descriptors have run out, say."""
     try:
-        return pathlib.Path(f"/proc/{process}/stat").read_text().rpartition(")")[2].split()
+        return line_of(f"/proc/{process}/stat").rpartition(")")[2].split()
     except (FileNotFoundError, ProcessLookupError):
         return []
 
@@ -47,10 +60,10 @@ def masters_of(first: int) -> list[int]:
         is_more = False
         for child in children_of(found[-1]):
             try:
-                words = pathlib.Path(f"/proc/{child}/cmdline").read_bytes().split(b"\0")
+                words = line_of(f"/proc/{child}/cmdline").split("\0")
             except OSError:
                 continue
-            if words[1:2] == [b"adopt"]:
+            if words[1:2] == ["adopt"]:
                 found.append(child)
                 is_more = True
                 break
