@@ -13,8 +13,8 @@ import time
 from collections.abc import Callable
 from typing import Any
 
-from gate.addresses import answer_of, free_address
-from gate.waiting import SECONDS, until
+from gate.addresses import answer_of, free_address, place_of
+from gate.waiting import SECONDS, comes, until
 from web.site import BIN, BROKEN, SERVICE, Scenario, Site, text_of
 from web.systemd import Systemd
 
@@ -26,6 +26,8 @@ if sys.argv[1:] == ["child"] and os.path.exists({there!r}):
     {needs}
 """
 BIND = "import socket; host, _, port = {address!r}.rpartition(':'); socket.socket().bind((host, int(port)))"
+# How many connections wait, if the machine allows it.
+CROWD, SOMAXCONN = 5000, pathlib.Path("/proc/sys/net/core/somaxconn")
 # A crash loop: how many workers crash, for how many seconds of prefork-serve's own clock, and how much faster that goes
 # than the system's. What is allowed in that time, and the starts that there are at least.
 CRASHING, LOOP_SECONDS, FASTER = 4, 600, 10
@@ -89,6 +91,21 @@ class Views:
         same = {name: re.sub(r"once|\d+ times", "N times", str(line)) for name, line in lines.items()}
         wrong += [f"their lines are {same}"] if len(set(same.values())) > 1 else []
         return wrong + [f"{name}: not {why}" for name, said in reasons.items() if state == "short" and why not in said]
+
+    def queue_is(self, waiting: int, most: int, wrong: list[str]) -> bool:
+        """Whether all that tells of queues has this number of connections; what does not is put into a list."""
+        address = self.site.first
+        wanted = {"address": address, "waiting": waiting, "most": most, "dropped": 0}
+        told, page = json.loads(answer_of(self.page, "/status.json") or "{}"), answer_of(self.page)
+        metrics, text = answer_of(self.page, "/metrics").splitlines(), self.ctl("status")
+        line = f"queue       {address}: {waiting} of at most {most} connections wait"
+        looks = {
+            "json": json.loads(self.ctl("--json", "status") or "{}").get("queues") == [wanted], "status.json": told.get("queues") == [wanted],
+            "metrics": f'prefork_queue_length{{address="{address}"}} {waiting}' in metrics,
+            "status": line in text, "page": f'value="{waiting}" aria-label="queue at {address}"' in page,
+        }
+        wrong[:] = [name for name, is_well in looks.items() if not is_well]
+        return not wrong
 
     def agree(self, what: str, state: str, running: int, why: str = "") -> None:
         """Waits until all tell the same, and says how long that took."""
@@ -198,6 +215,32 @@ def fails(site: Site, views: Views, what: str, why: str, spoil: Callable, mend: 
     views.agree(f"the end of {what}", "serves", 2)
 
 
+def a_crowd_waits(site: Site) -> None:
+    """As many connections as the machine lets wait, and 5,000 at most: status, JSON, page and metrics have their number,
+    and that nobody waits once workers take them."""
+    views = began(site)
+    clients: list[socket.socket] = []
+    try:
+        until("two workers", lambda: "serves: wanted 2, runs 2" in views.ctl("status"))
+        # Nobody accepts.
+        site.wants("WINCH", 0, "done ", 0)
+        most = int(SOMAXCONN.read_text())
+        for _ in range(min(CROWD, most)):
+            clients.append(socket.create_connection(place_of(site.first)))
+        differences: list[str] = []
+        site.check(f"the crowd: {differences}", comes(lambda: views.queue_is(len(clients), most, differences)))
+        print(f"{site.name}: {len(clients)} of at most {most} connections wait")
+        while clients:
+            clients.pop().close()
+        site.wants("HUP", 0, "done ", 2)
+        site.check(f"nobody: {differences}", comes(lambda: views.queue_is(0, most, differences)))
+        site.stop()
+    finally:
+        for client in clients:
+            client.close()
+        views.systemd.close()
+
+
 def crashes(site: Site, says: str) -> None:
     """All workers of a service that serves are killed, and do not start again. After ten minutes of its own clock there were few
     starts and few lines, and once it is mended it serves."""
@@ -241,4 +284,4 @@ def crash_loop_for_many_reasons(site: Site) -> None:
     crashes(site, "reasons of which no two are the same")
 
 
-SCENARIOS: list[Scenario] = [short_from_its_start, short_for_five_reasons, crash_loop_for_one_reason, crash_loop_for_many_reasons]
+SCENARIOS: list[Scenario] = [short_from_its_start, short_for_five_reasons, a_crowd_waits, crash_loop_for_one_reason, crash_loop_for_many_reasons]
