@@ -14,8 +14,15 @@ from shipping.room import SERVICE, Room, ran
 
 UNIT, ADDRESS, FOLDER = "prefork@site", "127.0.0.1:8080", "/run/prefork/site"
 CONFIG, PAGE, HELD = "/etc/prefork/site.toml", "/srv/site/page.py", f"{FOLDER}/held"
-PLAIN = f'listeners = ["{ADDRESS}"]\nworkers = 2\n'
-SETTINGS = f"OPTIONS=--env HELD={HELD}\nPROGRAM=-- /usr/bin/python3 {PAGE}\n"
+# All of the service: the unit has no other file.
+PLAIN = f"""listeners = ["{ADDRESS}"]
+workers = 2
+
+[service]
+program = ["/usr/bin/python3", "{PAGE}"]
+ready = "notify"
+environment = {{ VERSION = "1", HELD = "{HELD}" }}
+"""
 BROKEN = "raise SystemExit(3)\n"
 # A service that hangs is found sooner than the unit has it.
 DROP_IN = "[Service]\nWatchdogSec=6\n"
@@ -60,8 +67,8 @@ class Site:
         until(what, lambda: int(self.shown("NRestarts")) > before and self.shown("SubState") == "running")
         self.check(f"{what}: the same process serves", self.main() != old)
 
-    def loses_nothing(self, what: str, act: Callable[[], Any]) -> None:
-        """Does something while clients ask all the time."""
+    def loses_nothing(self, what: str, act: Callable[[], Any]) -> list[str]:
+        """Does something while clients ask all the time: the versions that have answered."""
         words = ["prefork-load", "--again", "--json", "--clients", "4", "--rate", "40", "--patience", "90", ADDRESS]
         load = subprocess.Popen(self.machine.command(*words), stdin=subprocess.DEVNULL, stdout=subprocess.PIPE, text=True)
         try:
@@ -73,6 +80,7 @@ class Site:
             load.wait()
         self.check(f"{what}: {said['failed']} of {said['answered']} requests are lost: {said['failures'][:3]}",
                    said["answered"] and not said["failed"])
+        return sorted(said["versions"])
 
 
 def end(command: subprocess.Popen) -> None:
@@ -89,7 +97,6 @@ def begins(site: Site, package: pathlib.Path) -> None:
     site.check(f"useradd: {found.stdout}", found.returncode == 0)
     installs(site, package)
     machine.write(CONFIG, PLAIN)
-    machine.write("/etc/prefork/site.env", SETTINGS)
     machine.write(PAGE, site.text)
     machine.write(f"{LINKS}/prefork@.service.d/sooner.conf", DROP_IN)
     site.systemctl("daemon-reload")
@@ -113,9 +120,10 @@ def reloads(site: Site) -> None:
         site.machine.write(PAGE, site.text)
         site.machine.write(CONFIG, PLAIN.replace("workers", "workerz"))
         site.systemctl("reload", UNIT, wanted=1)
-        site.machine.write(CONFIG, PLAIN.replace("workers = 2", "workers = 3"))
+        site.machine.write(CONFIG, PLAIN.replace("workers = 2", "workers = 3").replace('"1"', '"2"'))
         site.systemctl("reload", UNIT)
-    site.loses_nothing("reloads", all_kinds)
+    versions = site.loses_nothing("reloads", all_kinds)
+    site.check(f"a reload leaves the environment as it is: {versions}", versions == ["1", "2"])
     until("the status after a reload", lambda: site.shown("StatusText").startswith("3 workers of generation "))
 
 
@@ -204,7 +212,7 @@ def is_removed(site: Site) -> None:
     dangling = site.machine.run("find", LINKS, "-xtype", "l", "-name", "prefork*").stdout
     site.check(f"links lead nowhere: {dangling}", not dangling)
     left = sorted(os.listdir(site.machine.path("/etc/prefork")))
-    site.check(f"a purge leaves {left}", left == ["site.env", "site.toml"])
+    site.check(f"a purge leaves {left}", left == ["site.toml"])
 
 
 def is_run(room: Room) -> None:

@@ -13,9 +13,9 @@ import time
 from collections.abc import Callable
 from typing import Any
 
-from gate.addresses import answer_of, free_address
-from gate.waiting import SECONDS, until
-from web.site import BIN, BROKEN, Scenario, Site, text_of
+from gate.addresses import answer_of, free_address, place_of
+from gate.waiting import SECONDS, comes, until
+from web.site import BIN, BROKEN, SERVICE, Scenario, Site, text_of
 from web.systemd import Systemd
 
 EVENTS = ("on-short", "on-healed")
@@ -26,6 +26,18 @@ if sys.argv[1:] == ["child"] and os.path.exists({there!r}):
     {needs}
 """
 BIND = "import socket; host, _, port = {address!r}.rpartition(':'); socket.socket().bind((host, int(port)))"
+# How many connections wait, if the machine allows it.
+CROWD, SOMAXCONN = 5000, pathlib.Path("/proc/sys/net/core/somaxconn")
+# A crash loop: how many workers crash, for how many seconds of prefork-serve's own clock, and how much faster that goes
+# than the system's. What is allowed in that time, and the starts that there are at least.
+CRASHING, LOOP_SECONDS, FASTER = 4, 600, 10
+MOST_STARTS, MOST_LINES, LEAST_STARTS = 60, 20, 15
+# The word that the core of prefork-serve has, once it has begun.
+CORE = "--core"
+FAST_CLOCK = SERVICE / "tests" / "programs" / "fast_clock.c"
+# An application that fails at its start, and notes each. What it says last is its reason.
+CRASHES = "#!/bin/sh\necho >>{starts}\n{says}\nexit 7\n"
+SAYS = {"the same reason": "echo no database >&2", "reasons of which no two are the same": "tr -dc a-z </dev/urandom | head -c 9 >&2"}
 ALLOCATE = "import resource; resource.setrlimit(resource.RLIMIT_AS, (1 << 28, 1 << 28)); bytearray(1 << 30)"
 
 
@@ -79,6 +91,21 @@ class Views:
         same = {name: re.sub(r"once|\d+ times", "N times", str(line)) for name, line in lines.items()}
         wrong += [f"their lines are {same}"] if len(set(same.values())) > 1 else []
         return wrong + [f"{name}: not {why}" for name, said in reasons.items() if state == "short" and why not in said]
+
+    def queue_is(self, waiting: int, most: int, wrong: list[str]) -> bool:
+        """Whether all that tells of queues has this number of connections; what does not is put into a list."""
+        address = self.site.first
+        wanted = {"address": address, "waiting": waiting, "most": most, "dropped": 0}
+        told, page = json.loads(answer_of(self.page, "/status.json") or "{}"), answer_of(self.page)
+        metrics, text = answer_of(self.page, "/metrics").splitlines(), self.ctl("status")
+        line = f"queue       {address}: {waiting} of at most {most} connections wait"
+        looks = {
+            "json": json.loads(self.ctl("--json", "status") or "{}").get("queues") == [wanted], "status.json": told.get("queues") == [wanted],
+            "metrics": f'prefork_queue_length{{address="{address}"}} {waiting}' in metrics,
+            "status": line in text, "page": f'value="{waiting}" aria-label="queue at {address}"' in page,
+        }
+        wrong[:] = [name for name, is_well in looks.items() if not is_well]
+        return not wrong
 
     def agree(self, what: str, state: str, running: int, why: str = "") -> None:
         """Waits until all tell the same, and says how long that took."""
@@ -188,4 +215,73 @@ def fails(site: Site, views: Views, what: str, why: str, spoil: Callable, mend: 
     views.agree(f"the end of {what}", "serves", 2)
 
 
-SCENARIOS: list[Scenario] = [short_from_its_start, short_for_five_reasons]
+def a_crowd_waits(site: Site) -> None:
+    """As many connections as the machine lets wait, and 5,000 at most: status, JSON, page and metrics have their number,
+    and that nobody waits once workers take them."""
+    views = began(site)
+    clients: list[socket.socket] = []
+    try:
+        until("two workers", lambda: "serves: wanted 2, runs 2" in views.ctl("status"))
+        # Nobody accepts.
+        site.wants("WINCH", 0, "done ", 0)
+        most = int(SOMAXCONN.read_text())
+        for _ in range(min(CROWD, most)):
+            clients.append(socket.create_connection(place_of(site.first)))
+        differences: list[str] = []
+        site.check(f"the crowd: {differences}", comes(lambda: views.queue_is(len(clients), most, differences)))
+        print(f"{site.name}: {len(clients)} of at most {most} connections wait")
+        while clients:
+            clients.pop().close()
+        site.wants("HUP", 0, "done ", 2)
+        site.check(f"nobody: {differences}", comes(lambda: views.queue_is(0, most, differences)))
+        site.stop()
+    finally:
+        for client in clients:
+            client.close()
+        views.systemd.close()
+
+
+def crashes(site: Site, says: str) -> None:
+    """All workers of a service that serves are killed, and do not start again. After ten minutes of its own clock there were few
+    starts and few lines, and once it is mended it serves."""
+    library, starts = site.room / "fast_clock.so", site.room / "starts"
+    subprocess.run(["cc", "-O2", "-shared", "-fPIC", "-o", library, FAST_CLOCK], check=True)
+    clock = {"FAST_CLOCK": FASTER, "FAST_CLOCK_FROM": int(time.monotonic()), "FAST_CLOCK_OF": CORE, "LD_PRELOAD": library}
+    site.before = ["env", *(f"{name}={value}" for name, value in clock.items())]
+    # (what others take to answer is many of its seconds)
+    site.options = ["--answer-within", str(60 * FASTER)]
+    for file in ("from.toml", "to.toml", "site.toml"):
+        site.configure(file, workers=CRASHING)
+    site.serve = site.started()
+    until("the workers", lambda: len(site.workers()) == CRASHING and "\ndone " in site.blocks())
+    site.install(CRASHES.format(starts=starts, says=SAYS[says]))
+    before = len(lines_of(site))
+    for number in site.workers():
+        site.kill(number)
+    time.sleep(LOOP_SECONDS / FASTER)
+    lines, count = lines_of(site)[before:], len(text_of(starts).splitlines())
+    site.check(f"{says}: {count} starts", LEAST_STARTS < count <= MOST_STARTS)
+    site.check(f"{says}: it says {lines}", 0 < len(lines) <= MOST_LINES)
+    print(f"{site.name}: {count} starts and {len(lines)} lines in {LOOP_SECONDS} s of its clock")
+    site.install(site.app_text)
+    block, faults = site.sent("tick").communicate(timeout=SECONDS)
+    site.check(f"{says}: tick does not mend: {block}{faults}", block.rstrip().rpartition("\n")[2].startswith("done "))
+    site.check_workers("tick", CRASHING)
+    site.stop()
+    site.certify()
+
+
+def lines_of(site: Site) -> list[str]:
+    """What prefork-serve itself has said."""
+    return [line for line in text_of(site.room / "said").splitlines() if line.startswith("prefork-serve: ")]
+
+
+def crash_loop_for_one_reason(site: Site) -> None:
+    crashes(site, "the same reason")
+
+
+def crash_loop_for_many_reasons(site: Site) -> None:
+    crashes(site, "reasons of which no two are the same")
+
+
+SCENARIOS: list[Scenario] = [short_from_its_start, short_for_five_reasons, a_crowd_waits, crash_loop_for_one_reason, crash_loop_for_many_reasons]

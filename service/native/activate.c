@@ -12,6 +12,7 @@
 #include "survival.h"
 #include "waiting.h"
 #include "worker.h"
+#include "version.h"
 
 #include <errno.h>
 #include <fcntl.h>
@@ -371,6 +372,7 @@ static void show_name(void) {
 }
 
 int main(int count, char **words) {
+    tell_version(count, words, "prefork-activate");
     read_options(count, words, &options);
     if (options.is_check)
         return 0;

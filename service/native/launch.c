@@ -28,6 +28,7 @@
 #include "reason.h"
 #include "recipe.h"
 #include "relay.h"
+#include "version.h"
 
 #include <errno.h>
 #include <fcntl.h>
@@ -236,6 +237,7 @@ static void become_master(void) {
 
 int main(int count, char **words) {
     char generation[32], own[4096];
+    tell_version(count, words, "prefork-launch");
     if (count == 2 && !strcmp(words[1], "child")) {
         unsigned number = read_generation(generation, sizeof generation);
         char name[64];

@@ -11,6 +11,7 @@
 #define _GNU_SOURCE
 #include "ask.h"
 #include "reason.h"
+#include "version.h"
 
 #include <errno.h>
 #include <fcntl.h>
@@ -194,6 +195,7 @@ static int await_end(int preloader, int worker, int signals) {
 
 int main(int count, char **words) {
     int lifeline[2];
+    tell_version(count, words, "prefork-shim");
     if (count != 2) {
         dprintf(2, "usage: prefork-shim SOCKET\n");
         return 2;

@@ -1,20 +1,14 @@
 """What processes take: processor time, and memory by shares of what they have in common with others."""
 import os
-import pathlib
 import re
 import time
 
+from .processes import children_of, fields_of, line_of
+
 TICKS = os.sysconf("SC_CLK_TCK")
 # The least time between two measures, and which part of a processor they may take.
-LEAST_SECONDS, SHARE = 2.0, 0.002
+LEAST_SECONDS, SHARE = 2.0, 0.001
 PSS = re.compile(r"^Pss:\s+(\d+) kB$", re.M)
-
-
-def children_of(process: int) -> list[int]:
-    try:
-        return [int(word) for word in pathlib.Path(f"/proc/{process}/task/{process}/children").read_text().split()]
-    except OSError:
-        return []
 
 
 def tree_of(process: int) -> list[int]:
@@ -30,7 +24,7 @@ def memory_of(process: int) -> int:
     total = 0
     for one in tree_of(process):
         try:
-            found = PSS.search(pathlib.Path(f"/proc/{one}/smaps_rollup").read_text())
+            found = PSS.search(line_of(f"/proc/{one}/smaps_rollup"))
         except OSError:
             # It has ended, or belongs to another user.
             continue
@@ -42,11 +36,7 @@ def processor_seconds_of(process: int) -> float:
     """The time that a process has computed, and those that it has started and that run or were waited for."""
     total = 0.0
     for one in tree_of(process):
-        try:
-            fields = pathlib.Path(f"/proc/{one}/stat").read_text().rpartition(")")[2].split()
-        except OSError:
-            continue
-        total += sum(map(int, fields[11:15])) / TICKS
+        total += sum(map(int, fields_of(one)[11:15])) / TICKS
     return total
 
 

@@ -1,10 +1,23 @@
 """Processes of a service, as the system tells of them."""
+import os
 import pathlib
 
 # A flag of the system: a process is about to end.
 PF_EXITING = 4
 # What passes on lines between masters, or is the deputy of one.
-RELAY = b"/prefork-launch"
+RELAY = "/prefork-launch"
+# More than the system says of a process in one line.
+MOST_BYTES = 4096
+
+
+def line_of(path: str) -> str:
+    """What a short file of the system says. A status reads hundreds of them: this takes three calls for each. The name of a
+    process may be no text."""
+    file = os.open(path, os.O_RDONLY | os.O_CLOEXEC)
+    try:
+        return os.read(file, MOST_BYTES).decode(errors="replace")
+    finally:
+        os.close(file)
 
 
 def fields_of(process: int) -> list[str]:
@@ -18,7 +31,7 @@ def fields_of(process: int) -> list[str]:
 def read_fields(process: int) -> list[str]:
     """The same. Raises OSError if the system can't be asked just now, where descriptors have run out, say."""
     try:
-        return pathlib.Path(f"/proc/{process}/stat").read_text().rpartition(")")[2].split()
+        return line_of(f"/proc/{process}/stat").rpartition(")")[2].split()
     except (FileNotFoundError, ProcessLookupError):
         return []
 
@@ -47,18 +60,18 @@ def masters_of(first: int) -> list[int]:
     the master before; the deputy of one is not counted."""
     found, waiting = [first], [first]
     while waiting:
-        adopting = [child for child in children_of(waiting.pop(0)) if words_of(child)[1:2] == [b"adopt"]]
+        adopting = [child for child in children_of(waiting.pop(0)) if words_of(child)[1:2] == ["adopt"]]
         found += [child for child in adopting if not words_of(child)[0].endswith(RELAY)]
         waiting += adopting
     return found
 
 
-def words_of(process: int) -> list[bytes]:
-    """The words by which a process was started."""
+def words_of(process: int) -> list[str]:
+    """The words by which a process was started; those after some thousand bytes may be missing."""
     try:
-        return pathlib.Path(f"/proc/{process}/cmdline").read_bytes().split(b"\0")
+        return line_of(f"/proc/{process}/cmdline").split("\0")
     except OSError:
-        return [b""]
+        return [""]
 
 
 def children_of(process: int) -> list[int]:

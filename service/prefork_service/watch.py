@@ -13,6 +13,7 @@ import socket
 import sys
 from typing import Any
 
+from . import VERSION
 from .answers import Answers
 from .barrier import Barrier, Broken
 from .blocks import block_of
@@ -154,6 +155,9 @@ def is_told(reason: str, why: list[str]) -> bool:
 
 
 def main() -> int:
+    if sys.argv[1:] == ["--version"]:
+        print(f"prefork-watch {VERSION}")
+        return 0
     take_standard()
     stream, askers, parent = map(int, sys.argv[1:4])
     set_title("prefork-watch")

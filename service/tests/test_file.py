@@ -10,9 +10,11 @@ import unittest
 from typing import Any
 
 from kit import BIN, PROGRAMS, PYTHON, built, free_address, until
+from prefork_service.keys import KEYS
 from prefork_service.options import arguments
 from prefork_service.recipes import Told, setup_of
 from prefork_service.beginning import text_of
+from test_keys import WRONG
 
 SECONDS = 60
 SECRET = "hunter2"
@@ -51,6 +53,19 @@ class FileTest(unittest.TestCase):
         for line, begin in zip(lines, ("site.toml, line 5: service.thread ", "site.toml, line 6: service.nice is 99: ", "site.toml, line 8: service.environment.A ")):
             self.assertTrue(line.startswith(begin), line)
         self.assertEqual(self.checked('program = ["true"]\n'), (0, "site.toml: fits: 1 addresses, 2 workers\n"))
+
+    def test_a_check_tells_each_key_that_is_wrong_and_starts_nothing(self) -> None:
+        """All keys at once, each with a value of another kind. (ci/mistakes has a key that is given twice: the program finds it.)"""
+        values = {name: kinds[0] for name, (kinds, _) in WRONG.items()}
+        status, said = self.checked("".join(f"{name} = {value}\n" for name, value in values.items()))
+        found = [line for line in said.splitlines() if not line.startswith(" ")]
+        self.assertEqual((status, len(found)), (1, len(values)), said)
+        for at, (name, line) in enumerate(zip(values, found), 4):
+            self.assertTrue(line.startswith(f"prefork-serve: site.toml, line {at}: service.{name} is "), line)
+            self.assertTrue(line.endswith(f": {KEYS[name].allowed} is allowed"), line)
+        marker = self.room / "started"
+        self.assertEqual(self.checked(f'program = ["touch", "{marker}"]\n')[0], 0)
+        self.assertFalse(marker.exists())
 
     def test_a_check_finds_what_is_missing(self) -> None:
         for table, wanted in (
