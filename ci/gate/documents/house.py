@@ -7,12 +7,14 @@ from gate.documents.sources import Function, crates, functions, types
 
 MOST_LINES, MOST_FUNCTIONS = 1_400, 100
 MOST_PARAMETERS, MOST_BODY = 6, 40
+# Scripts of the gate and of measurements, and the lines of one at most.
+SCRIPTS, MOST_OF_SCRIPT = ("ci/[a-z]*", "ci/*/*.py", "ci/gate/documents/*.py", "bench/*"), 400
 # Crates of tests have long tables of values.
 TESTS = "tests_of_"
 
 
 def size_faults(tree: Tree) -> Iterator[str]:
-    """Crates with too many lines or functions, which is a reason to split them by layers."""
+    """Crates and scripts that are too long, or have too many functions: a reason to split them."""
     for name, sources in crates(tree):
         lines = sum(text.count("\n") for text in sources.values())
         count = sum(len(list(functions(text))) for text in sources.values())
@@ -20,6 +22,9 @@ def size_faults(tree: Tree) -> Iterator[str]:
             yield f"crates/{name}: {lines} lines, more than {MOST_LINES}"
         if count > MOST_FUNCTIONS:
             yield f"crates/{name}: {count} functions, more than {MOST_FUNCTIONS}"
+    for path in tree.paths(*SCRIPTS):
+        if (tree.root / path).is_file() and tree.text(path).count("\n") > MOST_OF_SCRIPT:
+            yield f"{path}: more than {MOST_OF_SCRIPT} lines: make modules of its parts"
 
 
 def faults_of(function: Function) -> Iterator[str]:

@@ -102,6 +102,7 @@ MISTAKES = (
     Mistake("words", "docs/prefork-explore.1", "Standard input is not read.", "Lines are passed over.", "passed over"),
     Mistake("sizes", "crates/certifier/src/lib.rt", "\nmod blocks;", "\n" * 1_400 + "mod blocks;", "more than 1400"),
     Mistake("sizes", "crates/certifier/src/lib.rt", "\nmod blocks;", 100 * "\nfn add() {\n}\n", "more than 100"),
+    Mistake("sizes", "ci/soak", "\ndef main", "\n" * 400 + "def main", "more than 400 lines"),
     Mistake("functions", EXECUTION, "plan: &Plan, ", MORE, "7 parameters"),
     Mistake("functions", EXECUTION, "    course.report()\n", "    course.report()\n" * 40, "more than 40"),
     Mistake("types", EXECUTION, "\npub fn execute", "\nstruct Replay {\n}\n\npub fn execute", "certifier and of plan_walk"),

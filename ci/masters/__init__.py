@@ -1,0 +1,1 @@
+"""What ci/children tries: masters with real workers and real new masters."""
