@@ -38,6 +38,7 @@ import time
 from typing import Any
 
 from . import beginning, places, programs
+from .becoming import become_core, has_journal
 from .bounds import ADAPTER_SECONDS, end_seconds
 from .claiming import ClaimedFolder
 from .commands import Commands
@@ -55,9 +56,8 @@ from .recipes import Runs
 from .records import MEGABYTE
 from .refusing import refusal_of
 from .sites import is_site
-from .starting import become_core, take_signals
+from .starting import take_signals
 from .state import workers_in
-from .systemd import has_journal
 from .titles import set_title
 from .web import opened
 

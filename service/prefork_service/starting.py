@@ -4,7 +4,6 @@ import json
 import os
 import signal
 import sys
-from collections.abc import Iterable
 from typing import Any
 
 from .words import STOPS
@@ -24,20 +23,6 @@ def take_signals() -> None:
     for name in STOPS:
         signal.signal(signal.Signals[f"SIG{name}"], end_early)
     signal.pthread_sigmask(signal.SIG_SETMASK, ())
-
-
-def become_core(settings: dict[str, Any], descriptors: Iterable[int]) -> None:
-    """Becomes the core: the same process, with what was found out. It is told in a file that has no name."""
-    file = os.memfd_create("settings")
-    os.write(file, json.dumps(settings).encode())
-    os.lseek(file, 0, os.SEEK_SET)
-    for number in [file, *descriptors]:
-        os.set_inheritable(number, True)
-    # A stop that comes now is heard once the core hears words.
-    signal.pthread_sigmask(signal.SIG_BLOCK, [signal.Signals[f"SIG{name}"] for name in STOPS])
-    sys.stderr.flush()
-    # (what follows is for people who look at processes)
-    os.execv(sys.executable, [sys.executable, sys.argv[0], CORE, str(file), *sys.argv[1:]])
 
 
 def settings_of(number: int) -> dict[str, Any]:

@@ -29,15 +29,6 @@ def may_store() -> bool:
     return bool(os.environ.get("NOTIFY_SOCKET"))
 
 
-def has_journal() -> bool:
-    """Whether standard error goes to the journal of systemd, which notes times itself."""
-    try:
-        found = os.fstat(2)
-    except OSError:
-        return False
-    return os.environ.get("JOURNAL_STREAM", "") == f"{found.st_dev}:{found.st_ino}"
-
-
 class Watchdog:
     """Tells systemd twice in its time (WatchdogSec) that the loop of the service goes round."""
 

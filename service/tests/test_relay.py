@@ -57,7 +57,7 @@ class RelayTest(unittest.TestCase):
         return int(self.asked("process", self.image + 1))
 
     def deputy(self) -> int:
-        return next(number for number in children_of(self.master) if words_of(number)[0].endswith(b"/prefork-launch"))
+        return next(number for number in children_of(self.master) if words_of(number)[0].endswith("/prefork-launch"))
 
     def wants_gone(self, *processes: int) -> None:
         self.assertTrue(until(lambda: all(map(is_ending, processes))), [words_of(one) for one in processes])
