@@ -61,7 +61,7 @@ from . import VERSION
 from .blocks import ends_block, report_of
 from .certifying import certify
 from .errors import take_standard
-from .finding import COMMANDS, Unnamed, folder_of, nearest, word_of
+from .finding import COMMANDS, Unnamed, folder_of, not_known, word_of
 from .folder import content_of
 from .following import Follower
 from .guarding import OutputFault, complain, guarded, put
@@ -278,8 +278,8 @@ def tell(given: argparse.Namespace, word: str) -> int:
     report = block.splitlines()[-1]
     outcome = report_of(report).outcome
     status = 0 if word == STATE else ENDS.get(outcome, 1)
-    if outcome == "unread" and (near := nearest(word)):
-        notes = f"{notes.rstrip()}. Do you mean {near}?\n"
+    if outcome == "unread":
+        notes = f"{notes.rstrip()}. {not_known(word)}\n"
     # (the status is that of the word, also where its block can't be written)
     put(as_json(block, notes, status) if given.json else block, status)
     if not given.json:

@@ -29,6 +29,13 @@ def nearest(text: str) -> str | None:
     return known[found[0]] if found else None
 
 
+def not_known(text: str) -> str:
+    """What is said of a text that is no word, beside the words of the service: what else there is, and what is meant."""
+    near = nearest(text)
+    others = [*NAMES, *(name for name in COMMANDS if name != "status")]
+    return f"prefork-ctl knows {', '.join(others)} too.{f' Do you mean {near}?' if near else ''}"
+
+
 def services(units: pathlib.Path = UNITS) -> list[pathlib.Path]:
     """The folders of services that units run."""
     try:
