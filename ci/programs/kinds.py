@@ -100,6 +100,8 @@ class Reloads(Run):
             self.goes_over("HUP")
         for breaks in BROKEN:
             self.is_rolled_back(breaks)
+        # (it is waited for once, and not for each worker and each of its tries: that would take longer than a word may)
+        self.is_rolled_back("hangs", "USR2")
         self.goes_over("USR2")
         self.end_load()
         self.stop()

@@ -225,11 +225,8 @@ static void end_with_parent(void) {
     prctl(PR_SET_PDEATHSIG, SIGKILL);
 }
 
-/* Becomes the new master of an upgrade. */
-static void become_master(void) {
-    char own[4096];
-    ssize_t length = readlink("/proc/self/exe", own, sizeof own - 1);
-    own[length > 0 ? length : 0] = 0;
+/* Becomes the new master of an upgrade, with the program of this path for its workers. */
+static void become_master(const char *own) {
     const char *program = setting("PREFORK_PROGRAM");
     execlp(program, program, "adopt", "--program", own, (char *)0);
     fail("%s: %s", program, strerror(errno));
@@ -268,7 +265,9 @@ int main(int count, char **words) {
         known_as = "adopt";
         end_with_parent();
         take_errors();
-        relay(become_master);
+        ssize_t length = readlink("/proc/self/exe", own, sizeof own - 1);
+        own[length > 0 ? length : 0] = 0;
+        relay(become_master, own);
     }
     if (count > 3 && !strcmp(words[1], "bound")) {
         end_with_parent();

@@ -8,6 +8,9 @@
  * `mI leave`, the relay takes its place at the pipes of the next one, and kills it. If that can't be, the old master stays
  * and passes lines on, as masters do.
  *
+ * A relay is often older than the program of its file, which a deputy runs: so a deputy says its path, and where the two do
+ * not understand each other it becomes a relay itself.
+ *
  * All masters that it has started are killed when the relay ends, and it is killed when the first master ends. */
 #define _GNU_SOURCE
 #include "relay.h"
@@ -29,11 +32,14 @@
 
 #define ROOM 65536
 #define LONGEST_LINE 128
+#define LONGEST_PATH 4096
 /* The descriptors that a deputy gives: input, output and standard error. */
 #define GIVEN 3
 /* How long one of them may take to give them. */
 #define ASK_MILLISECONDS 1000
 enum { DOWN, UP, LISTENER, CHILDREN, DEPUTY, PLACES };
+
+typedef void (*Become)(const char *own);
 
 /* Bytes on their way from one descriptor to another, and what is known of the line that is read. */
 struct way {
@@ -72,23 +78,21 @@ static bool place_of(struct sockaddr_un *place) {
     return length > 0 && length < (int)sizeof place->sun_path;
 }
 
-/* Sends or receives the descriptors of a deputy; whether all of them have come. */
-static bool pass(int connection, int *given, bool sends) {
+/* Sends or receives the path of a deputy with its descriptors; whether all of it has come. */
+static bool pass(int connection, char *path, int *given, bool sends) {
     union {
         struct cmsghdr header;
         char bytes[CMSG_SPACE(GIVEN * sizeof(int))];
     } control;
-    char byte = '+';
-    struct iovec piece = {&byte, 1};
+    struct iovec piece = {path, sends ? strlen(path) + 1 : LONGEST_PATH};
     struct msghdr message = {.msg_iov = &piece, .msg_iovlen = 1, .msg_control = &control, .msg_controllen = sizeof control};
     if (sends) {
         control.header = (struct cmsghdr){CMSG_LEN(GIVEN * sizeof(int)), SOL_SOCKET, SCM_RIGHTS};
         memcpy(CMSG_DATA(&control.header), given, GIVEN * sizeof(int));
-        return sendmsg(connection, &message, MSG_NOSIGNAL) == 1;
+        return sendmsg(connection, &message, MSG_NOSIGNAL) > 0;
     }
-    if (recvmsg(connection, &message, MSG_CMSG_CLOEXEC | MSG_DONTWAIT) != 1)
-        return false;
-    struct cmsghdr *header = CMSG_FIRSTHDR(&message);
+    ssize_t length = recvmsg(connection, &message, MSG_CMSG_CLOEXEC | MSG_DONTWAIT);
+    struct cmsghdr *header = length > 0 && !path[length - 1] ? CMSG_FIRSTHDR(&message) : 0;
     if (!header || header->cmsg_type != SCM_RIGHTS || header->cmsg_len != CMSG_LEN(GIVEN * sizeof(int)))
         return false;
     memcpy(given, CMSG_DATA(header), GIVEN * sizeof(int));
@@ -105,12 +109,14 @@ static bool hears(int connection) {
 }
 
 /* Is the deputy of a master that the relay above starts, until that has ended. Returns where no relay does so. */
-static void be_deputy(void) {
+static void be_deputy(const char *own) {
+    char path[LONGEST_PATH];
+    snprintf(path, sizeof path, "%s", own);
     struct sockaddr_un place;
     int given[GIVEN] = {0, 1, 2}, asked = place_of(&place) ? socket(AF_UNIX, SOCK_SEQPACKET | SOCK_CLOEXEC, 0) : -1;
     if (asked < 0)
         return;
-    if (connect(asked, (struct sockaddr *)&place, sizeof place) == 0 && pass(asked, given, true) && hears(asked)) {
+    if (connect(asked, (struct sockaddr *)&place, sizeof place) == 0 && pass(asked, path, given, true) && hears(asked)) {
         prctl(PR_SET_NAME, "prefork-deputy");
         close(0);
         close(1);
@@ -135,7 +141,7 @@ static bool is_of_master(pid_t process) {
 }
 
 /* Starts a master with these descriptors; its process, or -1. */
-static pid_t start(void (*become)(void), const int *given) {
+static pid_t start(Become become, const char *path, const int *given) {
     pid_t own = getpid(), process = fork();
     if (process)
         return process;
@@ -146,7 +152,7 @@ static pid_t start(void (*become)(void), const int *given) {
         if (given[number] != number)
             dup2(given[number], number);
     if (getppid() == own)
-        become();
+        become(path);
     _exit(1);
 }
 
@@ -166,25 +172,26 @@ static void forget_next(void) {
 
 /* Receives the connection of a process that asks to be deputy, with what it gives; -1 if it may not: there is a next master
  * already, or the master in charge has not started that process. */
-static int accepted(int *given) {
+static int accepted(char *path, int *given) {
     struct ucred peer;
     socklen_t size = sizeof peer;
     int asker = accept4(all.listener, 0, 0, SOCK_CLOEXEC);
     struct pollfd asked = {asker, POLLIN, 0};
     if (asker < 0 || getsockopt(asker, SOL_SOCKET, SO_PEERCRED, &peer, &size) < 0 || !is_of_master(peer.pid) ||
-        all.next.process > 0 || poll(&asked, 1, ASK_MILLISECONDS) <= 0 || !pass(asker, given, false))
+        all.next.process > 0 || poll(&asked, 1, ASK_MILLISECONDS) <= 0 || !pass(asker, path, given, false))
         drop(&asker);
     return asker;
 }
 
 /* Starts the next master, for its deputy. */
-static void start_next(void (*become)(void)) {
-    int given[GIVEN], asker = accepted(given);
+static void start_next(Become become) {
+    char path[LONGEST_PATH];
+    int given[GIVEN], asker = accepted(path, given);
     if (asker < 0)
         return;
     all.next = (struct next){-1, asker, opened_again(given[0], O_PATH), opened_again(given[1], O_PATH)};
     if (all.next.input >= 0 && all.next.output >= 0)
-        all.next.process = start(become, given);
+        all.next.process = start(become, path, given);
     if (all.next.process > 0 && send(asker, "+", 1, MSG_NOSIGNAL) != 1)
         kill(all.next.process, SIGKILL);
     for (int number = 0; number < GIVEN; number++)
@@ -327,7 +334,7 @@ static int listener(void) {
 }
 
 /* Starts the first new master; whether it could be. */
-static bool begin(void (*become)(void)) {
+static bool begin(Become become, const char *own) {
     int down[2], up[2];
     sigset_t children;
     sigemptyset(&children);
@@ -337,7 +344,7 @@ static bool begin(void (*become)(void)) {
     all.next = (struct next){-1, -1, -1, -1};
     if (all.children < 0 || pipe2(down, O_CLOEXEC) < 0 || pipe2(up, O_CLOEXEC) < 0)
         return false;
-    all.master = start(become, (int[GIVEN]){down[0], up[1], 2});
+    all.master = start(become, own, (int[GIVEN]){down[0], up[1], 2});
     close(down[0]);
     close(up[1]);
     all.down = (struct way){.from = 0, .to = down[1]};
@@ -348,12 +355,12 @@ static bool begin(void (*become)(void)) {
     return all.master > 0;
 }
 
-void relay(void (*become)(void)) {
-    be_deputy();
-    if (!begin(become)) {
+void relay(Become become, const char *own) {
+    be_deputy(own);
+    if (!begin(become, own)) {
         /* Without a relay it passes lines on by itself. */
         sigprocmask(SIG_SETMASK, &all.before, 0);
-        become();
+        become(own);
         _exit(1);
     }
     signal(SIGPIPE, SIG_IGN);

@@ -1,6 +1,7 @@
 """What is between the first master and that in charge: new masters one after another, and the end of each process."""
 import os
 import pathlib
+import shutil
 import signal
 import subprocess
 import tempfile
@@ -30,9 +31,10 @@ class RelayTest(unittest.TestCase):
         self.room = pathlib.Path(room.name)
         # (so the words of its process are those of a master: python3 adopt --program ..)
         (self.room / "adopt").symlink_to(CHAINED)
-        more = {"PREFORK_FOLDER": str(self.room), "PREFORK_PROGRAM": PYTHON, "LAUNCH": str(LAUNCH)}
+        self.launch = pathlib.Path(shutil.copy(LAUNCH, self.room / "prefork-launch"))
+        more = {"PREFORK_FOLDER": str(self.room), "PREFORK_PROGRAM": PYTHON, "LAUNCH": str(self.launch)}
         pipes: dict[str, Any] = {"stdin": subprocess.PIPE, "stdout": subprocess.PIPE, "cwd": self.room}
-        self.relay: Any = subprocess.Popen([LAUNCH, "adopt"], env={**os.environ, **more}, text=True, **pipes)
+        self.relay: Any = subprocess.Popen([self.launch, "adopt"], env={**os.environ, **more}, text=True, **pipes)
         self.addCleanup(self.end)
         self.image = 2
         self.master = int(self.asked("process"))
@@ -57,7 +59,7 @@ class RelayTest(unittest.TestCase):
         return int(self.asked("process", self.image + 1))
 
     def deputy(self) -> int:
-        return next(number for number in children_of(self.master) if words_of(number)[0].endswith("/prefork-launch"))
+        return next(number for number in children_of(self.master) if words_of(number)[0] == str(self.launch))
 
     def wants_gone(self, *processes: int) -> None:
         self.assertTrue(until(lambda: all(map(is_ending, processes))), [words_of(one) for one in processes])
@@ -81,6 +83,17 @@ class RelayTest(unittest.TestCase):
         self.begin_next()
         self.assertEqual(self.asked("leave"), "ok")
         self.assertEqual(self.asked(f"echo {text}", 3), text)
+
+    def test_workers_are_started_by_the_program_that_is_there(self) -> None:
+        for _ in range(2):
+            # (an update replaces the file, and the relay is that from before)
+            shutil.copy(LAUNCH, self.room / "new")
+            (self.room / "new").replace(self.launch)
+            self.begin_next()
+            self.assertEqual(self.asked("program", self.image + 1), str(self.launch))
+            self.assertEqual(self.asked("leave"), "ok")
+            self.image += 1
+            self.assertEqual(len(self.chain()), 1)
 
     def test_the_master_that_is_named_leaves(self) -> None:
         new = self.begin_next()

@@ -27,7 +27,7 @@ def answer(line: str) -> str:
         child.stdin.close()
         child.wait()
         child = None
-    return {"process": str(os.getpid()), "echo": "".join(about)}.get(call, "ok")
+    return {"process": str(os.getpid()), "echo": "".join(about), "program": sys.argv[-1]}.get(call, "ok")
 
 
 for text in sys.stdin:
