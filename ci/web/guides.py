@@ -29,7 +29,7 @@ HELLO = "hello from process"
 ALONE = "file.md"
 # The pages, each with the set-ups and programs of ci/adapters that it needs, what an answer has, and the options of curl.
 PAGES = {
-    "wsgi.md": ({"wsgi"}, HELLO), "gunicorn.md": ({"gunicorn"}, HELLO), "uvicorn.md": ({"uvicorn"}, HELLO),
+    "wsgi.md": ({"wsgi"}, HELLO), "gunicorn.md": ({"gunicorn"}, HELLO), "uvicorn.md": ({"uvicorn", "the command uvicorn"}, HELLO),
     "node.md": ({"node"}, HELLO), "ruby.md": ({"unicorn", "puma"}, HELLO), "nginx.md": ({"nginx"}, "Welcome to nginx"),
     ALONE: ({"gunicorn"}, HELLO), "haproxy.md": ({"haproxy"}, HELLO), "uwsgi.md": ({"uwsgi"}, HELLO), "go.md": ({"go"}, HELLO),
     "django.md": ({"wsgi", "django", "nginx", "gunicorn"}, HELLO),

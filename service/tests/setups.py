@@ -240,7 +240,7 @@ SETUPS = [
     Setup("uwsgi", ["--no-listen-fds"], UWSGI_START, {"app.py": WSGI}, "app.py", has("uwsgi")),
 ]
 # What guides alone need.
-OTHERS = {"django": lambda: python_with("waitress", "django") is not None}
+OTHERS = {"django": lambda: python_with("waitress", "django") is not None, "the command uvicorn": has("uvicorn")}
 PACKAGES = [
     "python3-waitress", "python3-flask", "gunicorn", "uvicorn", "unicorn", "puma", "nodejs", "nginx-light", "lighttpd",
     "python3-django", "haproxy", "uwsgi", "uwsgi-plugin-python3", "golang-go", "php-fpm", "openssl",
