@@ -1,23 +1,16 @@
 """Processes of a service, as the system tells of them."""
-import os
 import pathlib
 
-# A flag of the system: a process is about to end.
-PF_EXITING = 4
+# A flag of the system: a process is about to end. And more than the system says of a process in one line.
+PF_EXITING, MOST_BYTES = 4, 4096
 # What passes on lines between masters, or is the deputy of one.
 RELAY = "/prefork-launch"
-# More than the system says of a process in one line.
-MOST_BYTES = 4096
 
 
 def line_of(path: str) -> str:
-    """What a short file of the system says. A status reads hundreds of them: this takes three calls for each. The name of a
-    process may be no text."""
-    file = os.open(path, os.O_RDONLY | os.O_CLOEXEC)
-    try:
-        return os.read(file, MOST_BYTES).decode(errors="replace")
-    finally:
-        os.close(file)
+    """What a short file of the system says, by few calls: a status reads hundreds. The name of a process may be no text."""
+    with open(path, "rb", 0) as file:
+        return file.read(MOST_BYTES).decode(errors="replace")
 
 
 def fields_of(process: int) -> list[str]:
