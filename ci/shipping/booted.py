@@ -57,6 +57,10 @@ class Site:
     def answers(self) -> bool:
         return self.machine.run("prefork-load", "--clients", "1", "--seconds", "0.1", ADDRESS).returncode == 0
 
+    def is_answered_by(self, version: str) -> bool:
+        found = self.machine.run("prefork-load", "--json", "--clients", "1", "--seconds", "0.1", ADDRESS)
+        return found.returncode == 0 and version in json.loads(found.stdout)["versions"]
+
     def signal(self, name: str) -> None:
         self.machine.run("kill", f"-{name}", str(self.main()))
 
@@ -122,6 +126,8 @@ def reloads(site: Site) -> None:
         site.systemctl("reload", UNIT, wanted=1)
         site.machine.write(CONFIG, PLAIN.replace("workers = 2", "workers = 3").replace('"1"', '"2"'))
         site.systemctl("reload", UNIT)
+        # (the clients ask then too)
+        until("an answer by the next environment", lambda: site.is_answered_by("2"))
     versions = site.loses_nothing("reloads", all_kinds)
     site.check(f"a reload leaves the environment as it is: {versions}", versions == ["1", "2"])
     until("the status after a reload", lambda: site.shown("StatusText").startswith("3 workers of generation "))
