@@ -13,6 +13,8 @@ from .words import CHANGES
 
 NOT_ACCEPTED, NOT_COMPARED = 5, 1
 BEGINNING = "its beginning is no longer there"
+# How often the records of a master are read anew, since the service removes old parts meanwhile.
+MOST_TRIES = 5
 
 
 @dataclasses.dataclass
@@ -20,26 +22,39 @@ class Life:
     """What is there of one master: its blocks from its start on, and the configurations that they go over to, by the
     number of the block that reads it first."""
 
-    folder: pathlib.Path
-    begin: pathlib.Path
+    name: str
+    since: str
+    # The configuration of its start, if that is still there.
+    begin: bytes | None
     blocks: list[str]
     targets: dict[int, bytes]
     lacks: str
     # The blocks before which a new master had ended, as prefork-serve saw.
     lost: list[int]
 
-    @property
-    def since(self) -> str:
-        moment = self.begin.stat().st_mtime if self.begin.exists() else self.folder.stat().st_mtime
-        return datetime.datetime.fromtimestamp(moment).astimezone().isoformat(timespec="seconds")
+
+def lives_in(place: pathlib.Path) -> list[Life]:
+    """What is there of each master, oldest first. What the service removes meanwhile is left out."""
+    return [life for folder in masters_in(place) if (life := read_life(folder))]
+
+
+def read_life(folder: pathlib.Path) -> Life | None:
+    """What is there of a master; nothing if its folder has been removed."""
+    for tries in range(MOST_TRIES, -1, -1):
+        try:
+            return life_of(folder)
+        except FileNotFoundError:
+            if folder.is_dir() and not tries:
+                raise
+    return None
 
 
 def life_of(folder: pathlib.Path) -> Life:
-    """Joins the parts of a master."""
+    """Joins the parts of a master. Raises FileNotFoundError if one is removed meanwhile."""
     files, begin = files_of(folder), folder / "from.toml"
     parts = [file for file in files if file.name.startswith("blocks.")]
     targets = {part_number(file): file.read_bytes() for file in files if file.name.startswith("to.")}
-    is_whole = begin.exists() and (not parts or part_number(parts[0]) == 1)
+    is_whole = begin in files and (not parts or part_number(parts[0]) == 1)
     lacks, text = "" if is_whole else BEGINNING, ""
     for file in parts:
         if file.name.endswith(GAP):
@@ -47,7 +62,12 @@ def life_of(folder: pathlib.Path) -> Life:
             break
         text += file.read_text()
     lost = [part_number(file) for file in files if file.name.startswith(LOST)]
-    return Life(folder, begin, blocks_of(text), dict(sorted(targets.items())), lacks, lost)
+    first = begin.read_bytes() if begin in files else None
+    return Life(folder.name, since(begin if begin in files else folder), first, blocks_of(text), dict(sorted(targets.items())), lacks, lost)
+
+
+def since(file: pathlib.Path) -> str:
+    return datetime.datetime.fromtimestamp(file.stat().st_mtime).astimezone().isoformat(timespec="seconds")
 
 
 def blocks_of(text: str) -> list[str]:
@@ -84,12 +104,12 @@ def goals_of(life: Life) -> list[bytes]:
 
 def target_at(life: Life, number: int) -> bytes:
     read = [text for first, text in life.targets.items() if first <= number]
-    return read[-1] if read else life.begin.read_bytes()
+    return read[-1] if read else life.begin or b""
 
 
 def certified(life: Life, prefork: str) -> tuple[str, int]:
     """What certify says of a master, and the status: 0 if all that was compared is accepted."""
-    head = f"{life.folder.name}, since {life.since}"
+    head = f"{life.name}, since {life.since}"
     if life.lacks.startswith(BEGINNING):
         return f"{head}: {life.lacks}; {len(life.blocks)} blocks are not compared", 0
     found = answered(life, prefork)
@@ -119,9 +139,10 @@ def answered(life: Life, prefork: str) -> tuple[int, str] | str:
     """The number of the block that `prefork certify` does not accept, and why; or why it compares nothing; or nothing."""
     chosen = [(number, block) for number, block in enumerate(life.blocks, 1) if not is_refused(block)]
     with tempfile.TemporaryDirectory(prefix="certify-") as room:
-        files = goal_files(pathlib.Path(room), goals_of(life))
+        begin, files = pathlib.Path(room) / "from.toml", goal_files(pathlib.Path(room), goals_of(life))
+        begin.write_bytes(life.begin or b"")
         goals = [argument for file in files for argument in ("--to", file)]
-        command: list[Any] = [prefork, "certify", "--bare", "--from", life.begin, *goals]
+        command: list[Any] = [prefork, "certify", "--bare", "--from", begin, *goals]
         text = "".join(block for _, block in chosen)
         found = subprocess.run(command, input=text, capture_output=True, text=True)
     said = re.match(r"prefork: certify (\d+) (.*)", found.stderr)
@@ -140,7 +161,7 @@ def goal_files(room: pathlib.Path, goals: list[bytes]) -> list[pathlib.Path]:
 
 def certify(place: pathlib.Path, prefork: str) -> tuple[list[str], int]:
     """What certify says of each master, oldest first, and the gravest status."""
-    lives = [life_of(folder) for folder in masters_in(place)]
+    lives = lives_in(place)
     if not lives:
         return [f"{place}: no records"], NOT_COMPARED
     found = [certified(life, prefork) for life in lives]

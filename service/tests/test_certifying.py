@@ -1,8 +1,12 @@
 """Records that are certified: what is joined, what is compared, and what is said."""
 import pathlib
+import shutil
 import tempfile
 import unittest
+from typing import Any
+from unittest import mock
 
+from prefork_service import certifying
 from prefork_service.certifying import certify
 
 DONE = "done cause none pid no-file\n"
@@ -108,6 +112,37 @@ class CertifyingTest(unittest.TestCase):
         self.keep("1", from_toml="a", blocks_1=START)
         (self.room / "wrong").write_text("prefork: config C1\n")
         self.assertIn("nothing was compared: prefork: config C1", self.said(1)[0])
+
+    def test_a_part_that_is_removed_while_it_is_read(self) -> None:
+        self.keep("1", from_toml="a", blocks_1=START, blocks_2=HUP)
+        with removing(self.place / "1" / "blocks.1"):
+            self.assertIn("its beginning is no longer there; 1 blocks are not compared", self.said(1)[0])
+
+    def test_a_master_that_is_removed_while_it_is_read(self) -> None:
+        for master in ("1", "2"):
+            self.keep(master, from_toml="a", blocks_1=START)
+        with removing(self.place / "1"):
+            self.assertEqual([line.split(",")[0] for line in self.said(0)], ["2"])
+
+    def test_a_master_that_is_removed_while_it_is_compared(self) -> None:
+        self.keep("1", from_toml="a", blocks_1=START + HUP)
+        lives = certifying.lives_in(self.place)
+        shutil.rmtree(self.place / "1")
+        with mock.patch.object(certifying, "lives_in", lambda place: lives):
+            self.assertIn(": 2 blocks are accepted", self.said(0)[0])
+        self.assertEqual(self.given("configurations"), "aa")
+
+
+def removing(path: pathlib.Path) -> Any:
+    """Removes a file or a folder once it was listed, as the service does with what is old."""
+    def listed(folder: pathlib.Path) -> list[pathlib.Path]:
+        found = files_of(folder)
+        if path in (folder, *found):
+            shutil.rmtree(path) if path.is_dir() else path.unlink()
+        return found
+
+    files_of = certifying.files_of
+    return mock.patch.object(certifying, "files_of", listed)
 
 
 if __name__ == "__main__":
