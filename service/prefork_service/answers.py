@@ -15,6 +15,7 @@ from .feed import NOTES
 from .folder import text_of
 from .recipes import Setup, file_of, setup_of, told_in
 from .refusing import mistake_of, refusal_of
+from .sockets import given_sockets
 from .toml_lines import line_of
 from .words import NOTE, STATUS, TRY
 
@@ -48,7 +49,7 @@ class Answers:
 
     def admit(self, source: socket.socket) -> None:
         text, numbers = socket.recv_fds(source, MOST_BYTES, MOST_GIVEN)[:2]
-        given = [socket.socket(fileno=number) for number in numbers]
+        given = given_sockets(numbers)
         if not text:
             self.events.unregister(source)
             return

@@ -2,6 +2,8 @@
 import os
 import socket
 
+from .sockets import given_sockets
+
 KEEPER_SECONDS = 10.0
 
 
@@ -26,7 +28,7 @@ class Hold:
             said, given = self.ask(address)
         if said != b"ok" or not given:
             raise Unfit(f"{address}: {said.decode('latin-1')[3:] or 'the keeper has gone'}")
-        return socket.socket(fileno=given[0])
+        return given_sockets(given)[0]
 
     def ask(self, address: str) -> tuple[bytes, list[int]]:
         """What the keeper answers; nothing if it has ended."""

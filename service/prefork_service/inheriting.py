@@ -13,7 +13,7 @@ from .folder import Folder, say
 from .leaving import Leaving
 from .opening import is_taken
 from .packets import ENDS, INHERITS, LONGEST_ADDRESS, OPENED
-from .sockets import seal
+from .sockets import seal, given_sockets
 from .surviving import Survivors, counted
 
 # How long that keeper may take to answer, and how long it may take it to see that its service has ended.
@@ -87,7 +87,7 @@ def received(connection: socket.socket) -> dict[str, socket.socket] | None:
                 return found
             if kind != OPENED or not given:
                 break
-            found[address] = socket.socket(fileno=given[0])
+            found[address] = given_sockets(given)[0]
     except OSError:
         close_all(found)
         raise

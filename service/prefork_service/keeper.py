@@ -60,7 +60,7 @@ from .opening import Wanted, listening
 from .packets import (
     ANSWERS, ASKS, CLOSED, DROPS, ENDS, INHERITS, LONGEST_ADDRESS, LONGEST_TOLD, LOST, OPENED, REFUSED, RENEWS, SETTLED, WANTS,
 )
-from .sockets import QUEUE, file_of
+from .sockets import QUEUE, file_of, given_sockets
 from .titles import set_title
 
 LINGER = 2.0
@@ -136,7 +136,7 @@ class Channel:
             said, given, _, _ = socket.recv_fds(self.socket, LONGEST_TOLD, 1)
         except OSError:
             return "", None
-        return said.decode(), socket.socket(fileno=given[0]) if given else None
+        return said.decode(), given_sockets(given)[0] if given else None
 
 
 class Keeper:

@@ -17,7 +17,7 @@ from .burying import started
 from .holding import Hold
 from .folder import Folder, plain, say
 from .packets import ANSWERS, ASKS, CLOSED, DROPS, ENDS, LONGEST_ADDRESS, LOST, OPENED, REFUSED, RENEWS, SETTLED, WANTS
-from .sockets import QUEUE, file_of, seal
+from .sockets import QUEUE, file_of, seal, given_sockets
 from .systemd import may_store, store, unstore
 
 if TYPE_CHECKING:
@@ -129,7 +129,7 @@ class Keeping:
         kind, text = said.decode()[:1], said.decode()[1:]
         if kind == OPENED and given:
             self.forget(text)
-            self.held[text] = socket.socket(fileno=given[0])
+            self.held[text] = given_sockets(given)[0]
             self.files[text] = file_of(text)
             store(text, self.held[text])
         elif kind == CLOSED:

@@ -1,6 +1,7 @@
 """Listening sockets that are open: what tells them from others, and how they refuse new connections."""
 import os
 import socket
+from collections.abc import Sequence
 
 # Of a door.
 QUEUE = 1024
@@ -25,6 +26,20 @@ def seal(one: socket.socket) -> None:
         one.setsockopt(socket.SOL_SOCKET, socket.SO_REUSEPORT, 1)
     except OSError:
         pass
+
+
+def given_sockets(numbers: Sequence[int]) -> list[socket.socket]:
+    """The sockets of descriptors that another process has given. If one can't be taken, all are closed: who waits for an
+    answer there would wait for ever. Raises OSError."""
+    found: list[socket.socket] = []
+    try:
+        for number in numbers:
+            found.append(socket.socket(fileno=number))
+        return found
+    except OSError:
+        for number in [*(one.detach() for one in found), *numbers[len(found) :]]:
+            os.close(number)
+        raise
 
 
 def file_of(address: str) -> tuple[int, int] | None:
