@@ -144,7 +144,10 @@ def answered(life: Life, prefork: str) -> tuple[int, str] | str:
         goals = [argument for file in files for argument in ("--to", file)]
         command: list[Any] = [prefork, "certify", "--bare", "--from", begin, *goals]
         text = "".join(block for _, block in chosen)
-        found = subprocess.run(command, input=text, capture_output=True, text=True)
+        try:
+            found = subprocess.run(command, input=text, capture_output=True, text=True)
+        except OSError as fault:
+            return f"{prefork}: {fault.strerror}"
     said = re.match(r"prefork: certify (\d+) (.*)", found.stderr)
     if said:
         return chosen[int(said[1]) - 1][0], said[2]

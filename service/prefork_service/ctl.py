@@ -326,11 +326,12 @@ def rehearse(given: argparse.Namespace) -> int:
 def certify_records(given: argparse.Namespace) -> int:
     """Prints what certify says of the records."""
     try:
-        service = whole(status_of(given.folder))["service"]
-    except (OSError, ValueError):
-        service = {"records": str(pathlib.Path(given.folder) / "records"), "prefork": "prefork"}
-    place = pathlib.Path(given.records or service["records"])
-    lines, status = certify(place, given.prefork or service["prefork"])
+        # (what is told in short will do)
+        service = status_of(given.folder)["service"]
+        place, prefork = service["records"], service["prefork"]
+    except (OSError, ValueError, KeyError, TypeError):
+        place, prefork = pathlib.Path(given.folder) / "records", "prefork"
+    lines, status = certify(pathlib.Path(given.records or place), given.prefork or prefork)
     text = json.dumps({"status": status, "lines": lines}) if given.json else "\n".join(lines)
     put(f"{text}\n", status)
     return status

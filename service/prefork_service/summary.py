@@ -1,6 +1,5 @@
 """The state of a service as prefork-serve knows it, without a look at any process: what prefork-watch tells everybody, and
 what is told in short where that does not run."""
-import os
 import time
 from typing import TYPE_CHECKING, Any
 
@@ -86,6 +85,7 @@ class Summary:
         names = ("addresses", "generation", "workers", "master", "master_restarts", "keeper", "doing", "question", "waiting")
         return {
             "brief": True,
-            "service": {"process": os.getpid(), "seconds": int(time.monotonic() - of.began), "folder": str(of.folder.path)},
+            "service": {name: of.feed.hello[name] for name in ("process", "folder", "prefork", "records")}
+            | {"seconds": int(time.monotonic() - of.began)},
             **{name: state[name] for name in names}, **state["whole"],
         }

@@ -1,4 +1,5 @@
 """prefork-ctl ends with a status and one line, whatever it is answered and wherever its output goes."""
+import json
 import os
 import pathlib
 import signal
@@ -146,6 +147,22 @@ class CtlTest(unittest.TestCase):
         self.answers, self.keeps = [BACK], True
         found = self.ctl("HUP")
         self.assertEqual((found.returncode, found.stdout.encode()), (3, BACK))
+
+    def test_certify_takes_the_status_in_short(self) -> None:
+        master = self.room / "records" / "1"
+        master.mkdir(parents=True)
+        (master / "from.toml").write_text("")
+        (master / "blocks.1").write_text("word tick 0\ndone cause none pid no-file\n")
+        for program, status, line in (
+            ("/bin/true", 0, ": 1 block is accepted, from the first on\n"),
+            ("/missing", 1, ": nothing was compared: /missing: No such file or directory\n"),
+        ):
+            service = {"process": 7, "seconds": 9, "folder": "/x", "prefork": program, "records": str(master.parent)}
+            self.asked.clear()
+            self.answers = [b"", json.dumps({"brief": True, "service": service}).encode() + b"\n"]
+            found = self.ctl("certify")
+            self.assertEqual((found.returncode, found.stderr, self.asked), (status, "", ["status\n", "status brief\n"]))
+            self.assertIn(line, found.stdout)
 
     def test_a_status_that_does_not_come_is_asked_for_in_short(self) -> None:
         brief = b'{"brief": true, "service": {"process": 7, "seconds": 9, "folder": "/x"}, "line": "serves: wanted 2, runs 2", "state": "serves", ' \
