@@ -1,8 +1,8 @@
 -- Names of which each is alive once at most, and which of them drain: what exits and calls do to that.
-use Rattle.std.proofs.Common.{◌≡◌, ℕ, zero, suc, ◌+◌, ◌<◌, ◌≤◌, Bool, true, false, not, List, [], ◌∷◌, ◌++◌, length, Option, Some, None, refl, sym, ap, ◌∙◌, subst, arith, ◌⊎◌, inl, inr, ⊎_elim}
-use Rattle.std.specs.Prelude.{⊤, ◌&&◌, ◌||◌, ◌==◌, reverse, filter_map, if◌then◌else◌}
-use Rattle.std.specs.List.{AllByRecursion, list_any}
-use Rattle.listener_set.specs.Numbers.{is_in, lacks, numbers_below}
+use Rattle.std.proofs.Common.{◌≡◌, ℕ, ◌+◌, ◌≤◌, Bool, true, false, not, List, [], ◌∷◌, length, Option, Some, None, refl, sym, ap, subst, arith, ◌⊎◌, inl, inr, ⊎_elim}
+use Rattle.std.specs.Prelude.{⊤, ◌&&◌, ◌||◌, ◌==◌}
+use Rattle.std.specs.List.{list_any}
+use Rattle.listener_set.specs.Numbers.{is_in}
 use Rattle.listener_set.specs.declared.generation.Generation.{Generation}
 use Rattle.vocabulary.specs.declared.names.Name.{Name}
 use Rattle.vocabulary.specs.declared.table.Stance.{Stance}
@@ -10,36 +10,22 @@ use Rattle.vocabulary.specs.declared.table.Stance.TheVariants.{Starting, Ready, 
 use Rattle.vocabulary.specs.declared.calls.Call.{Call}
 use Rattle.vocabulary.specs.declared.calls.Call.TheVariants.{OpenAt, CloseAt, Fork, AwaitReady, Quit, Kill, Census, AwaitGone, Ask}
 use Rattle.vocabulary.specs.declared.calls.Fate.{Fate}
-use Rattle.vocabulary.specs.declared.calls.Reply.{Reply}
-use Rattle.vocabulary.specs.declared.calls.Reply.TheVariants as reply
-use Rattle.vocabulary.specs.declared.calls.Answer.TheVariants as answer
-use Rattle.vocabulary.specs.declared.plans.PidNote.{PidNote}
-use Rattle.vocabulary.specs.declared.plans.Side.{Side}
-use Rattle.vocabulary.specs.declared.plans.Order.{Order}
-use Rattle.vocabulary.specs.declared.plans.Order.TheVariants.{Make, ForkLacking, AwaitLacking, KillLacking}
-use Rattle.definitions.specs.Table.{Address, Hold, Process, Master, Worker, Foreign, Table, Caller, live_master, is_worker, is_active, same_generation, bears}
-use Rattle.definitions.specs.Calls.{after_exits, without_exited, Stepped, gives, each_row, drop_where, census_of, is_exited_of, step_by, step_with, with_new_row, shared, Handed}
-use Rattle.definitions.specs.Master.{Crew, fork_of, fds_of}
-use Rattle.definitions.specs.Run.{Tree, Branches, Ends, Does, Nothing, Branch, Progress, Ending, At, Lost, reply_of, call_of, lacked_by, lacked_after, Lack, after_call, after_moment}
-use Rattle.definitions.specs.Plans.{settle, round, full_end, short_end, await_any_edges, then_edge, on, asks, awaits, awaits_any, awaits_gone, forks, forks_any, starts, starts_any}
-use Rattle.definitions.specs.Plans.{opens, only_in, reload_on}
-use Rattle.definitions.specs.Claims.{names_any}
-use Rattle.call_laws.specs.Pieces.{among, noted, answered, is_draining, is_any, lowest, fork_edges, await_edges, gone_edges, census_edges, quits, closes, full_or_short, went_wrong, first_cause}
-use Rattle.call_laws.proofs.Cases.{fork-cases, await-cases, gone-cases, unfailing}
+use Rattle.definitions.specs.Table.{Hold, Process, Master, Worker, Foreign, Table, Caller, is_worker, is_active, same_generation, bears}
+use Rattle.definitions.specs.Calls.{after_exits, without_exited, Stepped, step_by, step_with, with_new_row, shared, Handed}
+use Rattle.definitions.specs.Run.{Nothing, At}
+use Rattle.definitions.specs.Plans.{on, starts}
+use Rattle.call_laws.specs.Pieces.{is_draining}
+use Rattle.call_laws.proofs.Cases.{fork-cases}
 use Rattle.call_laws.proofs.Choices.{and-left, and-right}
-use Rattle.table_laws.proofs.Rows.{one, one-le, weigh, weigh-append, weigh-add, weigh-le-all, any-none, both-true, or-left, or-right, FitsIn}
-use Rattle.table_laws.proofs.Views.{Names, named, live_named, eqb-refl, eqb-is}
-use Rattle.table_laws.proofs.Effects.{none, bears-is, bears-refl, same-refl}
-use Rattle.table_laws.proofs.Exits.{Spares, spares-each}
-use Rattle.table_laws.proofs.Sets.{in-here, in-there, in-cases}
-use Rattle.table_laws.proofs.Small.{in-reverse, or-elim, not-is}
-use Rattle.run_laws.proofs.Logic.{Anyhow, Course, Along, Behind, Unasked, course_after}
-use Rattle.run_laws.proofs.Refusals.{is_leave}
-use Rattle.run_laws.proofs.Lights.{first-lacks}
-use Rattle.run_laws.proofs.Processes.{Fact, Lasts, one-found, fact-exits, fact-steps, fact-census, fact-any}
+use Rattle.table_laws.proofs.Rows.{one, one-le, weigh, weigh-append, weigh-add, weigh-le-all, any-none, both-true, FitsIn}
+use Rattle.table_laws.proofs.Views.{Names, named, live_named, eqb-refl}
+use Rattle.table_laws.proofs.Effects.{bears-is}
+use Rattle.table_laws.proofs.Exits.{Spares}
+use Rattle.table_laws.proofs.Sets.{in-cases}
+use Rattle.table_laws.proofs.Small.{or-elim}
+use Rattle.run_laws.proofs.Processes.{Fact, Lasts, one-found, fact-exits, fact-steps, fact-any}
 use Rattle.run_laws.proofs.Rules.{minus}
-use Rattle.stepped_reloads.specs.Steps.{Step, Rollout, is_living, staying, rolled, quits_new, taken_back, in_steps, last_step, closes_opened, stepped_tree, most_of}
-use Rattle.vocabulary.specs.declared.plans.End.{End}
+use Rattle.stepped_reloads.specs.Steps.{is_living}
 use Rattle.stepped_reloads.proofs.Late.{Cut, kill-is, wait-keeps}
 use Rattle.stepped_reloads.proofs.Living.{lives, is_left, lives-sub, lives-exits, lives-steps, Lowers, lives-cut}
 
@@ -138,8 +124,12 @@ module _ (m image : ℕ) (dr : ℕ → Bool) where
         once = λ h k. omega (arith, a.once h k, low (bears h k));
         within = omega (arith, a.within, low (λ h k. not (s h k)));
         calm =
-            omega (arith, a.calm, subst (λ (o : Option Caller). at is_draining (λ h k. not (d h k)) o ≤ D (λ h k. not (d h k)) t.rows) (sym found)
-            (lives-steps is_draining refl refl m dr (λ h k. not (d h k)) handed image hs call fate t ok_d));
+            omega (
+              arith,
+              a.calm,
+              subst (λ (o : Option Caller). at is_draining (λ h k. not (d h k)) o ≤ D (λ h k. not (d h k)) t.rows) (sym found)
+                  (lives-steps is_draining refl refl m dr (λ h k. not (d h k)) handed image hs call fate t ok_d),
+            );
       }
 
   -- A living worker of a name is active, or drains.

@@ -1,18 +1,14 @@
 -- The walk of a reload in steps: at each table at most so many workers live.
-use Rattle.std.proofs.Common.{◌≡◌, ℕ, zero, suc, ◌+◌, ◌<◌, ◌≤◌, Bool, true, false, not, List, [], ◌∷◌, ◌++◌, length, Option, Some, None, refl, sym, ap, ◌∙◌, subst, arith, ◌⊎◌, inl, inr, ⊎_elim}
-use Rattle.std.specs.Prelude.{⊤, ◌&&◌, ◌||◌, ◌==◌, ◌-◌, reverse, filter_map, take, drop, nat_lt, if◌then◌else◌}
+use Rattle.std.proofs.Common.{◌≡◌, ℕ, zero, suc, ◌+◌, ◌≤◌, Bool, true, false, not, List, [], ◌∷◌, ◌++◌, length, Option, Some, None, refl, sym, ap, ◌∙◌, subst, arith, ◌⊎◌, inl, inr, ⊎_elim}
+use Rattle.std.specs.Prelude.{⊤, ◌&&◌, ◌||◌, ◌==◌, ◌-◌, reverse, take, drop, nat_lt, if◌then◌else◌}
 use Rattle.std.proofs.lemmas.List.{length-append, take-append-drop}
 use Rattle.vocabulary.specs.declared.plans.Side.TheVariants as side
 use Rattle.table_laws.proofs.Counts.{Distinct, is_in-append}
 use Rattle.stepped_reloads.proofs.Rolling.{stays, parted}
-use Rattle.std.specs.List.{AllByRecursion, list_any}
 use Rattle.listener_set.specs.Numbers.{is_in, lacks, numbers_below}
 use Rattle.listener_set.specs.declared.generation.Generation.{Generation}
-use Rattle.vocabulary.specs.declared.names.Name.{Name}
-use Rattle.vocabulary.specs.declared.table.Stance.{Stance}
-use Rattle.vocabulary.specs.declared.table.Stance.TheVariants.{Starting, Ready, Draining, Exited}
 use Rattle.vocabulary.specs.declared.calls.Call.{Call}
-use Rattle.vocabulary.specs.declared.calls.Call.TheVariants.{OpenAt, CloseAt, Fork, AwaitReady, Quit, Kill, Census, AwaitGone, Ask}
+use Rattle.vocabulary.specs.declared.calls.Call.TheVariants.{OpenAt, CloseAt, AwaitReady, Quit, Kill, Census, AwaitGone, Ask}
 use Rattle.vocabulary.specs.declared.calls.Fate.{Fate}
 use Rattle.vocabulary.specs.declared.calls.Reply.{Reply}
 use Rattle.vocabulary.specs.declared.calls.Reply.TheVariants as reply
@@ -21,31 +17,30 @@ use Rattle.vocabulary.specs.declared.plans.PidNote.{PidNote}
 use Rattle.vocabulary.specs.declared.plans.Side.{Side}
 use Rattle.vocabulary.specs.declared.plans.Order.{Order}
 use Rattle.vocabulary.specs.declared.plans.Order.TheVariants.{Make, ForkLacking, AwaitLacking, KillLacking}
-use Rattle.definitions.specs.Table.{Address, Hold, Process, Master, Worker, Foreign, Table, Caller, live_master, is_worker, is_active, same_generation, bears}
-use Rattle.definitions.specs.Calls.{after_exits, without_exited, Stepped, gives, each_row, drop_where, census_of, is_exited_of, step_by, step_with, with_new_row, shared, Handed}
-use Rattle.definitions.specs.Master.{Crew, fork_of, fds_of}
-use Rattle.definitions.specs.Run.{Tree, Branches, Ends, Does, Nothing, Branch, Progress, Ending, At, Lost, reply_of, call_of, lacked_by, lacked_after, Lack, after_call, after_moment}
+use Rattle.definitions.specs.Table.{Address, Table, Caller, same_generation, bears}
+use Rattle.definitions.specs.Calls.{Stepped, gives, each_row, drop_where, census_of, is_exited_of, step_by, step_with}
+use Rattle.definitions.specs.Master.{Crew, fork_of}
+use Rattle.definitions.specs.Run.{Tree, Branches, Ends, Does, Nothing, Branch, Progress, Ending, reply_of, call_of, lacked_by, lacked_after, Lack, after_call, after_moment}
 use Rattle.definitions.specs.Plans.{settle, round, full_end, short_end, await_any_edges, then_edge, on, asks, awaits, awaits_any, awaits_gone, forks, forks_any, starts, starts_any}
 use Rattle.definitions.specs.Plans.{opens, only_in, reload_on}
 use Rattle.definitions.specs.Claims.{names_any}
-use Rattle.call_laws.specs.Pieces.{among, noted, answered, is_draining, is_any, lowest, fork_edges, await_edges, gone_edges, census_edges, quits, closes, full_or_short, went_wrong, first_cause}
-use Rattle.call_laws.proofs.Cases.{fork-cases, await-cases, gone-cases, unfailing}
+use Rattle.call_laws.specs.Pieces.{among, noted, answered, fork_edges, await_edges, gone_edges, census_edges, quits, closes, full_or_short, went_wrong, first_cause}
+use Rattle.call_laws.proofs.Cases.{gone-cases}
 use Rattle.call_laws.proofs.Choices.{and-left, and-right}
-use Rattle.table_laws.proofs.Rows.{one, one-le, weigh, weigh-append, weigh-add, weigh-le-all, any-none, both-true, or-left, or-right, FitsIn}
-use Rattle.table_laws.proofs.Views.{Names, named, live_named, eqb-refl, eqb-is}
-use Rattle.table_laws.proofs.Effects.{none, bears-is, bears-refl, same-refl, same-is}
-use Rattle.table_laws.proofs.Exits.{Spares, spares-each}
+use Rattle.table_laws.proofs.Rows.{one, weigh, both-true, or-left, or-right}
+use Rattle.table_laws.proofs.Views.{Names, named, eqb-refl, eqb-is}
+use Rattle.table_laws.proofs.Effects.{none, same-refl, same-is}
+use Rattle.table_laws.proofs.Exits.{spares-each}
 use Rattle.table_laws.proofs.Sets.{in-here, in-there, in-cases}
 use Rattle.table_laws.proofs.Small.{in-reverse, or-elim, not-is, true-false}
 use Rattle.run_laws.proofs.Logic.{Anyhow, Course, Along, Behind, Unasked, course_after}
 use Rattle.run_laws.proofs.Refusals.{is_leave}
 use Rattle.run_laws.proofs.Lights.{first-lacks}
-use Rattle.run_laws.proofs.Processes.{Fact, Lasts, one-found, fact-exits, fact-steps, fact-census, fact-any}
+use Rattle.run_laws.proofs.Processes.{one-found, fact-census}
 use Rattle.run_laws.proofs.Rules.{minus}
 use Rattle.stepped_reloads.specs.Steps.{Step, Rollout, is_living, staying, rolled, quits_new, taken_back, in_steps, last_step, closes_opened, stepped_tree, most_of}
 use Rattle.vocabulary.specs.declared.plans.End.{End}
-use Rattle.stepped_reloads.proofs.Late.{Cut, kill-is, wait-keeps}
-use Rattle.stepped_reloads.proofs.Living.{lives, is_left, lives-sub, lives-exits, lives-steps, Lowers, lives-cut}
+use Rattle.stepped_reloads.proofs.Late.{Cut, kill-is}
 use Rattle.stepped_reloads.proofs.Alive.{Any, Alive, more, exits-alive, Ok, steps-alive, cut-alive, both_in, alive-few}
 
 -- these names without those of these numbers
@@ -235,9 +230,11 @@ module _ (m image : ℕ) (dr : ℕ → Bool) (B : ℕ) (co : Course) (acts : is_
         let killed = Does image (KillLacking crew.generation) [] (then_edge rest) in
         let wait = Does image (AwaitLacking crew.generation) [] (await_any_edges rest killed) in
         step-at (ForkLacking crew) [] (fork_edges wait rest) s d p refl low
-        (λ l e. subst (λ (l : List ℕ). Ok m image dr s d (call_of (ForkLacking crew) l)) (sym (e ∙ is)) may)
-        ((λ q b. step-at (AwaitLacking crew.generation) [] (await_any_edges rest killed) s d q refl low (λ l e. tt)
-        (h, ((λ q b. step-at (KillLacking crew.generation) [] (then_edge rest) s d q refl low (λ l e. tt) (h, tt) b), tt)) b), (h, tt)) a
+        (λ l e. subst (λ (l : List ℕ). Ok m image dr s d (call_of (ForkLacking crew) l)) (sym (e ∙ is)) may) (
+          (λ q b. step-at (AwaitLacking crew.generation) [] (await_any_edges rest killed) s d q refl low (λ l e. tt)
+              (h, ((λ q b. step-at (KillLacking crew.generation) [] (then_edge rest) s d q refl low (λ l e. tt) (h, tt) b), tt)) b),
+          (h, tt),
+        ) a
 
     counted-run :
         (ok short : Tree) (g : Generation) (set : List ℕ) → Runs s d ok →

@@ -1,8 +1,8 @@
 -- At each table of a reload in steps at most so many workers live as its fullest step has.
-use Rattle.std.proofs.Common.{◌≡◌, ℕ, ◌+◌, ◌<◌, ◌≤◌, Bool, true, false, not, List, [], ◌∷◌, length, None, refl, sym, ap, ◌∙◌, subst, arith, inl}
-use Rattle.std.specs.Prelude.{◌&&◌, ◌||◌, ◌==◌, count_by}
-use Rattle.std.specs.List.{AllByRecursion, list_any}
-use Rattle.listener_set.specs.Numbers.{is_in, numbers_below}
+use Rattle.std.proofs.Common.{◌≡◌, ℕ, ◌<◌, ◌≤◌, Bool, true, false, not, List, [], ◌∷◌, None, refl, arith, inl}
+use Rattle.std.specs.Prelude.{◌&&◌, ◌||◌, ◌==◌}
+use Rattle.std.specs.List.{AllByRecursion}
+use Rattle.listener_set.specs.Numbers.{is_in}
 use Rattle.listener_set.specs.declared.generation.Generation.{Generation}
 use Rattle.vocabulary.specs.Settings.{Settings}
 use Rattle.vocabulary.specs.declared.targets.Target.TheVariants.{Reload}
@@ -10,21 +10,20 @@ use Rattle.vocabulary.specs.declared.table.Stance.TheVariants.{Starting, Ready, 
 use Rattle.definitions.specs.Table.{Process, Master, Worker, Foreign, Table, bears, same_generation, same_stance, is_worker_where}
 use Rattle.definitions.specs.Master.{Record, reload_generation, addresses_of, crew_of}
 use Rattle.definitions.specs.After.{crew_wanted}
-use Rattle.definitions.specs.Run.{Pattern, Progress, start_at}
+use Rattle.definitions.specs.Run.{Pattern, start_at}
 use Rattle.definitions.specs.Plans.{only_in}
 use Rattle.definitions.specs.Claims.{IsStart, refused_among}
 use Rattle.call_laws.specs.Pieces.{is_draining}
-use Rattle.call_laws.proofs.Choices.{and-left, and-right}
-use Rattle.table_laws.proofs.Rows.{one, weigh, weigh-le, every-more, every-both, count-weigh, both-true, or-left}
+use Rattle.table_laws.proofs.Rows.{one, weigh, weigh-le, every-more, every-both, count-weigh, both-true}
 use Rattle.table_laws.proofs.Counts.{every-any_of}
-use Rattle.table_laws.proofs.Views.{Names, named, View, Fine, live_named, eqb-refl}
+use Rattle.table_laws.proofs.Views.{named, View, Fine, live_named, eqb-refl}
 use Rattle.table_laws.proofs.Effects.{none}
 use Rattle.table_laws.proofs.Services.{sole-fine}
 use Rattle.table_laws.proofs.Begins.{first_view, begin, rising-distinct}
 use Rattle.table_laws.proofs.Duo.{master-below}
 use Rattle.table_laws.proofs.Sets.{in-here}
 use Rattle.run_laws.proofs.Logic.{Course, from-along, are-mild-anyhow, Anyhow, Unasked}
-use Rattle.run_laws.proofs.Processes.{IsOf, Fact}
+use Rattle.run_laws.proofs.Processes.{IsOf}
 use Rattle.theorems.proofs.Reload.{other-next}
 use Rattle.stepped_reloads.specs.Steps.{drained_in, is_living, living_of, is_enough, ceiling_of, plan_of, run_of}
 use Rattle.stepped_reloads.proofs.Living.{lives, is_left}
@@ -47,9 +46,6 @@ module _ (t : Table) (r : Record) (s : IsStart t r) where
       every-both (Fine u) (λ p. (n : ℕ) → is_worker_where (same_stance Draining) (λ m. m == n) (λ g k. true) p ≡ true → dr n ≡ true) t.rows
       (sole-fine u (λ n. refl) t.rows (begin t r s).fine)
       (every-any_of (λ n. is_worker_where (same_stance Draining) (λ m. m == n) (λ g k. true)) t.rows)
-
-  its-own : (n q : ℕ) (g : Generation) (k : ℕ) → Known (Worker n q g k Draining []) → dr n ≡ true
-  its-own n q g k h = h.1 n (both-true (n == n) true (eqb-refl n n refl) refl)
 
   gone : (a b c d : Bool) → c ≡ true → one (a && (b && (not c && d))) ≤ 0
   gone true true true d e = omega arith

@@ -7,4 +7,5 @@ pub mod Living
 pub mod Alive
 pub mod Ceiling
 pub mod Crowd
+pub mod Fullest
 pub mod Stepped

@@ -1,26 +1,25 @@
 -- How many workers of a master live: what exits and calls do to the weight of those whose names pass a test.
-use Rattle.std.proofs.Common.{◌≡◌, ℕ, ◌+◌, ◌≤◌, Bool, true, false, not, List, [], ◌∷◌, Option, Some, None, refl, sym, ap, ◌∙◌, subst, arith, ◌⊎◌, inl, inr, ⊎_elim}
-use Rattle.std.specs.Prelude.{⊤, ◌&&◌, ◌||◌, ◌==◌, filter_map, if◌then◌else◌}
+use Rattle.std.proofs.Common.{◌≡◌, ℕ, ◌+◌, ◌≤◌, Bool, true, false, not, List, [], ◌∷◌, Option, Some, None, refl, sym, ap, ◌∙◌, subst, arith, ◌⊎◌, ⊎_elim}
+use Rattle.std.specs.Prelude.{⊤, ◌&&◌, ◌==◌, filter_map}
 use Rattle.std.specs.List.{list_any}
 use Rattle.std.specs.Bool.{then_some}
-use Rattle.listener_set.specs.Numbers.{is_in}
 use Rattle.listener_set.specs.declared.generation.Generation.{Generation}
 use Rattle.vocabulary.specs.declared.names.Name.{Name}
 use Rattle.vocabulary.specs.declared.names.Name.TheVariants as name
 use Rattle.vocabulary.specs.declared.table.Stance.{Stance}
 use Rattle.vocabulary.specs.declared.table.Stance.TheVariants.{Starting, Ready, Draining, Exited}
 use Rattle.vocabulary.specs.declared.calls.Call.{Call}
-use Rattle.vocabulary.specs.declared.calls.Call.TheVariants.{OpenAt, CloseAt, Fork, AwaitReady, Quit, Kill, Census, AwaitGone, Ask}
+use Rattle.vocabulary.specs.declared.calls.Call.TheVariants.{OpenAt, CloseAt, AwaitReady, Quit, Kill, Census, AwaitGone, Ask}
 use Rattle.vocabulary.specs.declared.calls.Fate.{Fate}
-use Rattle.definitions.specs.Table.{Hold, Process, Master, Worker, Foreign, Table, Caller, live_master, is_worker, is_active, same_generation, same_stance, bears}
-use Rattle.definitions.specs.Calls.{change, first_changed, without_exited, exited, all_exited, Stepped, each_row, drop_where}
+use Rattle.definitions.specs.Table.{Hold, Process, Master, Worker, Foreign, Table, Caller, live_master, is_worker, is_active, same_stance, bears}
+use Rattle.definitions.specs.Calls.{change, first_changed, without_exited, exited, all_exited, Stepped, drop_where}
 use Rattle.definitions.specs.Calls.{with_holds, put_hold, is_of, is_exited_of, step_by, Handed}
 use Rattle.call_laws.specs.Pieces.{is_live_master, is_named, is_starting, is_draining, is_exited, is_any, is_row, caller_exits, lacks_address}
 use Rattle.call_laws.specs.Pieces.{made_exited, made_ready, made_draining}
 use Rattle.call_laws.proofs.Cases.{unfailing, open-cases, await-cases, gone-cases, ask-cases}
 use Rattle.call_laws.proofs.Choices.{pick, and-left, and-right}
 use Rattle.table_laws.proofs.Rows.{one, weigh, worth, weigh-le-all, weigh-filter_map, change-le, every-any}
-use Rattle.table_laws.proofs.Views.{Names, named}
+use Rattle.table_laws.proofs.Views.{Names}
 use Rattle.table_laws.proofs.Effects.{bears-is}
 
 -- a worker of the master in such a stance, whose name passes, and which did not drain at first
