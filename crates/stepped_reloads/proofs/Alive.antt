@@ -12,8 +12,6 @@ use Rattle.vocabulary.specs.declared.calls.Call.TheVariants.{OpenAt, CloseAt, Fo
 use Rattle.vocabulary.specs.declared.calls.Fate.{Fate}
 use Rattle.definitions.specs.Table.{Hold, Process, Master, Worker, Foreign, Table, Caller, is_worker, is_active, same_generation, bears}
 use Rattle.definitions.specs.Calls.{after_exits, without_exited, Stepped, step_by, step_with, with_new_row, shared, Handed}
-use Rattle.definitions.specs.Run.{Nothing, At}
-use Rattle.definitions.specs.Plans.{on, starts}
 use Rattle.call_laws.specs.Pieces.{is_draining}
 use Rattle.call_laws.proofs.Cases.{fork-cases}
 use Rattle.call_laws.proofs.Choices.{and-left, and-right}

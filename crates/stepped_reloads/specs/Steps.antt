@@ -187,7 +187,7 @@ CeilingIsLow =
     ≤ (if nat_lt 0 surge && nat_lt surge (length (numbers_below s.workers)) then max (length r.ready) s.workers + surge
     else length r.ready + s.workers)
 
----- Examples: in one step, and not asked, it is the tree of a reload; and surge 0 is one step
+---- Examples: in one step, as with surge 0, and not asked, it is the tree of a reload; three in steps of one, of which four live at most
 
 at_once :
     (by : ℕ) (old new : Crew) (ready : List ℕ) (retries : ℕ) (held wanted : List Address) (n : ℕ) →
@@ -198,3 +198,6 @@ at_once by old new ready retries held wanted n = refl
 three_in_steps : rolled (λ started left. nat_le 3 (length started + length left)) 3 1 [] (numbers_below 3) (numbers_below 3)
     ≡ record { steps = record { starts = 0 ∷ []; quits = 2 ∷ [] } ∷ record { starts = 1 ∷ []; quits = 1 ∷ [] } ∷ []; last = 2 ∷ []; left = 0 ∷ [] }
 three_in_steps = refl
+
+four_live : most_of 3 (record { starts = 0 ∷ []; quits = 2 ∷ [] } ∷ record { starts = 1 ∷ []; quits = 1 ∷ [] } ∷ []) (2 ∷ []) ≡ 4
+four_live = refl
