@@ -73,6 +73,7 @@ use Rattle.stepped_reloads.specs.Steps.{closes_opened, plan_of, run_of, SteppedH
 use Rattle.stepped_reloads.proofs.Rolling.{stays, parted, Parted, every-at, enough-first, enough-more}
 use Rattle.stepped_reloads.proofs.Owed.{owed_scene, fewer, forks-owed, awaits-owed}
 use Rattle.stepped_reloads.proofs.Manner.{stepped-manner}
+use Rattle.stepped_reloads.proofs.Crowd.{stepped-ceiling}
 use Rattle.std.proofs.Common.{Option}
 use Rattle.table_laws.proofs.Addresses.{any-put}
 use Rattle.run_laws.proofs.Rules.{weigh-sub}
@@ -1419,6 +1420,7 @@ stepped_headline asked surge t rec st pattern s accepts spared =
           (λ q h address common.
           let in_A0 = sym (first-keys t rec s address) ∙ held-of t rec st pattern s range ds numbered many address common.0 in
           omega (arith, h.1 address common, f-is t rec st pattern s range ds numbered many address in_A0)) ran.passed all.always;
+      ceiling = stepped-ceiling asked surge t rec st pattern s (next-other rec.generation) spared;
       manner = stepped-manner asked surge t rec st pattern s spared;
       blamed = every-more i IsBlamed (λ q h. h.2) ran.passed all.always;
       cause = all.last.2;

@@ -1,12 +1,12 @@
 -- A reload in steps: its tree, and what is promised of its run. It stands beside the definitions: a configuration does not say
 -- yet how many workers a step starts.
-use Rattle.std.specs.Prelude.{◌≡◌, refl, ℕ, zero, suc, ◌+◌, ◌&&◌, ◌==◌, ◌∷◌, ◌++◌, not, filter, if◌then◌else◌, Bool, true, false, List, [], length, min, map, reverse, take, drop, nat_lt, nat_le, None}
+use Rattle.std.specs.Prelude.{◌≡◌, refl, ℕ, zero, suc, ◌+◌, ◌-◌, ◌≤◌, ◌&&◌, ◌==◌, ◌∷◌, ◌++◌, not, filter, if◌then◌else◌, Bool, true, false, List, [], length, min, max, map, reverse, take, drop, nat_lt, nat_le, count_by, None}
 use Rattle.std.specs.List.{AllByRecursion, list_any}
 use Rattle.listener_set.specs.Numbers.{lacks, numbers_below}
 use Rattle.vocabulary.specs.Settings.{Settings}
 use Rattle.vocabulary.specs.declared.plans.Side.TheVariants as side
 use Rattle.vocabulary.specs.declared.targets.Target.TheVariants.{Reload}
-use Rattle.definitions.specs.Table.{Address, Table, bears, service}
+use Rattle.definitions.specs.Table.{Address, Process, Worker, Table, Draining, Exited, same_stance, is_worker_where, bears, service}
 use Rattle.definitions.specs.Calls.{Quit, CloseAt, Census}
 use Rattle.definitions.specs.Master.{Crew, Record, addresses_of, crew_of, layout_of, layout_in, served, sides_of, want}
 use Rattle.definitions.specs.After.{crew_wanted}
@@ -124,6 +124,29 @@ plan_of asked surge r s =
     stepped_tree asked r.generation.image (crew_of r) (crew_wanted r (Reload s)) r.ready r.retries (addresses_of r) s.listeners
     s.workers (rollout_of r s surge)
 
+---- How many live at once
+
+-- the process drained at first
+abbrev pub drained_in : Table → ℕ → Bool
+drained_in first n = list_any (is_worker_where (same_stance Draining) (λ m. m == n) (λ g k. true)) first.rows
+
+-- a worker of the master that is Starting, Ready or Draining, and did not drain at first
+abbrev pub is_living : ℕ → (ℕ → Bool) → Process → Bool
+is_living master drained (Worker n q g k s hs) = not (same_stance Exited s) && ((q == master) && not (drained n))
+is_living master drained _ = false
+
+abbrev pub living_of : Table → Record → Table → ℕ
+living_of first r t = count_by (is_living r.pid (drained_in first)) t.rows
+
+-- So many live before these steps: in each its new workers come, and then its old ones go. The most at once.
+abbrev pub most_of : ℕ → List Step → List ℕ → ℕ
+most_of live [] last = live + length last
+most_of live (step ∷ steps) last =
+    max (live + length step.starts) (most_of (live + length step.starts - length step.quits) steps last)
+
+abbrev pub ceiling_of : Record → Settings → ℕ → ℕ
+ceiling_of r s surge = most_of (length r.ready) (rollout_of r s surge).steps (rollout_of r s surge).last
+
 ---- What is promised
 
 abbrev pub run_of : Bool → ℕ → Record → Settings → Pattern → Table → Ran
@@ -142,6 +165,7 @@ pub record KeepsSteps (surge : ℕ) (t : Table) (r : Record) (s : Settings) (ran
   pub after : IsSucceeded r (Reload s) t ran
   pub kept : AllByRecursion (λ p. Kept (service t) (want r (Reload s)) t p.table) ran.passed
   pub floor : AllByRecursion (Floor (λ p. if nat_lt 0 surge && nat_lt surge (length (numbers_below s.workers)) then p.faults else 0) t r (Reload s)) ran.passed
+  pub ceiling : AllByRecursion (λ p. living_of t r p.table ≤ ceiling_of r s surge) ran.passed
   pub manner : SteppedManner r (report_of (sides_of r (Reload s)) ran).outcome t ran
   pub blamed : AllByRecursion IsBlamed ran.passed
   pub cause : HasCause (report_of (sides_of r (Reload s)) ran).outcome ran.last.cause
@@ -154,7 +178,16 @@ SteppedHeadline =
     refused_among (r.generation.image ∷ []) [] pattern 0 (run_of asked surge r s pattern t).entries ≡ None →
     KeepsSteps surge t r s (run_of asked surge r s pattern t)
 
----- Examples: in one step, and not asked, it is the tree of a reload; and surge 0 is one step
+-- Where neither side has more than one group, at most so many live at once as were ready, or are wanted, whichever is more, and those
+-- of one step; where there is one step alone, as were ready and are wanted.
+abbrev pub CeilingIsLow : Type 0
+CeilingIsLow =
+    (surge : ℕ) (t : Table) (r : Record) (s : Settings) → IsStart t r → length r.posts.groups ≡ 1 → length s.groups ≡ 1 →
+    ceiling_of r s surge
+    ≤ (if nat_lt 0 surge && nat_lt surge (length (numbers_below s.workers)) then max (length r.ready) s.workers + surge
+    else length r.ready + s.workers)
+
+---- Examples: in one step, as with surge 0, and not asked, it is the tree of a reload; three in steps of one, of which four live at most
 
 at_once :
     (by : ℕ) (old new : Crew) (ready : List ℕ) (retries : ℕ) (held wanted : List Address) (n : ℕ) →
@@ -165,3 +198,6 @@ at_once by old new ready retries held wanted n = refl
 three_in_steps : rolled (λ started left. nat_le 3 (length started + length left)) 3 1 [] (numbers_below 3) (numbers_below 3)
     ≡ record { steps = record { starts = 0 ∷ []; quits = 2 ∷ [] } ∷ record { starts = 1 ∷ []; quits = 1 ∷ [] } ∷ []; last = 2 ∷ []; left = 0 ∷ [] }
 three_in_steps = refl
+
+four_live : most_of 3 (record { starts = 0 ∷ []; quits = 2 ∷ [] } ∷ record { starts = 1 ∷ []; quits = 1 ∷ [] } ∷ []) (2 ∷ []) ≡ 4
+four_live = refl
