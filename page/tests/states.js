@@ -77,7 +77,8 @@ const CHECKS = {
     const start = { ...state, words: [] };
     const words = ['certify', ...Asked.options(start), ...Asked.held(start), '--json'];
     const certified = told.errors ? { status: 1 } : ask(words, Asked.files(state), told.output);
-    if (certified.status) return true;
+    // (which pattern was refused with E4 is in no block)
+    if (certified.status || /^refused E4 /m.test(told.output)) return true;
     const blocks = Blocks.read(told.output);
     const again = { ...state, words: Blocks.explained(blocks, JSON.parse(certified.output).patterns) };
     return blocks.length === state.words.length && ask(...Asked.enacting(again, again.words.length)).output === told.output;
