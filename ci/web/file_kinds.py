@@ -108,7 +108,7 @@ KINDS = (
     # It closes connections that it has not heard from: it is given none.
     Kind("puma", "app.ru", RACK, lambda home, version: [
         found_at("puma"), "--bind-to-activated-sockets", "only", "-q", "-t", f"4:{4 + version}", "-e", "production", str(home / "app.ru")],
-        ("--defer-accept",)),
+        ("--defer-accept",), closes_kept=True),
     Kind("node", "app.js", NODE, lambda home, version: [found_at("node"), str(home / "app.js"), f"--version-{version}"], closes_kept=True),
     Kind("php", "app.php", PHP, lambda home, version: [
         found_at("php-fpm8.2"), "-R", "-d", f"memory_limit={64 + version}M", "-y", str(home / "fpm.conf")], more=FPM_KEYS),
