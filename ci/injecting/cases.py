@@ -15,7 +15,7 @@ from gate.tally import Tally
 from gate.waiting import Wrong, until
 
 from .errors import errors_of
-from .target import CLIENTS, UNANSWERED, WORKERS, Target, Tree, killed_in, slow_answer
+from .target import CLIENTS, DROPPED, UNANSWERED, WORKERS, Target, Tree, killed_in, slow_answer
 from .tracing import LISTS, Calls, Fault, Tracer, injected_in, text_of
 
 # Who is traced while it runs, and what is started under strace.
@@ -91,11 +91,14 @@ def words_of(target: Target, phase: str) -> list[str]:
 
 
 def stop(target: Target) -> list[str]:
-    """Stops a service with a slow request on its way, which is answered."""
+    """Stops a service with a slow request on its way, which is answered. Who is dropped before its word is heard says it
+    again."""
     with concurrent.futures.ThreadPoolExecutor(1) as pool:
         slow = pool.submit(slow_answer, target.address)
         time.sleep(0.3)
         said = target.told("QUIT")
+        if said.report() == DROPPED and target.status():
+            said = target.told("QUIT")
         answer = slow.result()
     return [str(said), "slow" if answer.startswith("version ") else f"slow: {answer!r}"]
 

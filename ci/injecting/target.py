@@ -79,7 +79,7 @@ class Tree:
 
 
 REPORT = re.compile(r"^(done|rolled-back|degraded|refused|lost|nothing|unread|\{)", re.M)
-UNANSWERED = "unanswered"
+UNANSWERED, DROPPED = "unanswered", "dropped"
 
 
 @dataclasses.dataclass
@@ -92,7 +92,7 @@ class Said:
     def report(self) -> str:
         """The first word of the report; a status has none. An asker may be dropped, and is not left without an answer."""
         found = REPORT.findall(self.text)
-        return found[-1].replace("{", "told") if found else UNANSWERED if "timed out" in self.text else "dropped"
+        return found[-1].replace("{", "told") if found else UNANSWERED if "timed out" in self.text else DROPPED
 
     def __str__(self) -> str:
         return f"{self.word} {self.report()}"
