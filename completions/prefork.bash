@@ -40,10 +40,10 @@ _prefork() {
         enact) options='--from --to --workers --bare --json --why --held --state --help' ;;
         plan) options='--from --to --workers --bare --json --why --dot --help' ;;
         explore) options='--from --to --workers --bare --json --why --held --events --turns --limit --forbid --require --least --list --progress --deaths --help' ;;
-        certify) options='--from --to --workers --bare --json --why --held --help' ;;
+        certify) options='--from --to --workers --bare --json --why --life --held --help' ;;
         supervise) options='--program --from --to --answer-within --ready-within --verbose --why --help' ;;
         adopt) options='--program --answer-within --ready-within --help' ;;
-        check) options='--help' ;;
+        check) options='--json --help' ;;
         child) options='--help' ;;
         explain) options='--help' ;;
         *) return ;;

@@ -1,4 +1,4 @@
-/* What the program asks of the system, answered over texts in memory: arguments, standard input, two files, and what is
+/* What the program asks of the system, answered over texts in memory: arguments, standard input, files, and what is
  * written. It starts no process, and reads and writes no real file. Each thread has texts of its own. Compiled for
  * WebAssembly, it is the system of the page too. */
 typedef unsigned char byte;
@@ -26,7 +26,7 @@ extern int main(void);
 
 /* Numbers of faults, as on Linux. */
 enum { NO_FILE = 2, BAD_NUMBER = 9, NO_CHILD = 10, NO_MEMORY = 12, IS_FOLDER = 21, NO_SEEK = 29, NOT_HERE = 38 };
-enum { FILES = 2, FIRST = 3, OPEN = 4, FOLDER = FILES };
+enum { FILES = 64, FIRST = 3, OPEN = 4, FOLDER = FILES };
 
 struct text { const byte *at; size length; };
 struct reading { const struct text *text; size at; int is_open, is_folder; };
@@ -166,20 +166,29 @@ int rattle_set_nonblocking(int, _Bool) { return -1; }
 static unsigned leaf[16] = {~0u, ~0u, ~0u, ~0u, ~0u, ~0u, ~0u, ~0u, ~0u, ~0u, ~0u, ~0u, ~0u, ~0u, ~0u, ~0u};
 void *__x86_get_cpuid_feature_leaf(unsigned) { return leaf; }
 
-/* 0 the words, the program's name first; 1 standard input; 2 and 3 a file's name and text, 4 and 5 those of another. They
- * are not copied. */
-SHOWN(prefork_give) void prefork_give(int which, const byte *at, size length) {
-    struct text *all[] = {&words, &input, &names[0], &texts[0], &names[1], &texts[1]};
-    if (which >= 0 && which < 6) *all[which] = (struct text){at, length};
+/* 0 the words, the program's name first; 1 standard input; 2 and 3 a file's name and text, 4 and 5 those of the next, and
+ * so on. They are not copied. */
+static struct text *place_of(int which) {
+    if (which == 0) return &words;
+    if (which == 1) return &input;
+    if (which < 0 || which >= 2 + 2 * FILES) return 0;
+    return which % 2 ? &texts[which / 2 - 1] : &names[which / 2 - 1];
 }
 
-/* Runs the program over what was given, and answers its exit status. */
+SHOWN(prefork_give) void prefork_give(int which, const byte *at, size length) {
+    struct text *place = place_of(which);
+    if (place) *place = (struct text){at, length};
+}
+
+/* Runs the program over what was given, forgets that, and answers the program's exit status. */
 SHOWN(prefork_run) int prefork_run(void) {
     error = 0;
     standard = (struct reading){&input, 0, 1, 0};
     for (int i = 0; i < OPEN; i++) opened[i].is_open = 0;
     for (int i = 0; i < 2; i++) written[i].length = 0;
-    return MAIN;
+    int status = MAIN;
+    for (int which = 0; which < 2 + 2 * FILES; which++) *place_of(which) = (struct text){0, 0};
+    return status;
 }
 
 /* What it wrote to standard output (0) or standard error (1), until the next run of this thread. */

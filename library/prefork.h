@@ -1,4 +1,4 @@
-/* Prefork's program in this process: what it would print of a command line, of two texts that stand for files, and of a
+/* Prefork's program in this process: what it would print of a command line, of texts that stand for files, and of a
  * standard input. It starts no process, and reads and writes no file. Each thread has texts of its own, so that many may
  * run at once. */
 #ifndef PREFORK_H
@@ -9,13 +9,14 @@
 extern "C" {
 #endif
 
-enum { PREFORK_WORDS, PREFORK_INPUT, PREFORK_NAME, PREFORK_TEXT, PREFORK_OTHER_NAME, PREFORK_OTHER_TEXT };
+/* PREFORK_NAME + 2 * N and PREFORK_TEXT + 2 * N are the name and the text of file N, below PREFORK_FILES. */
+enum { PREFORK_WORDS, PREFORK_INPUT, PREFORK_NAME, PREFORK_TEXT, PREFORK_FILES = 64 };
 
-/* Gives one of these texts for all later runs of this thread. It is not copied, and must stay until the last of them. Each
+/* Gives one of these texts for the next run of this thread. It is not copied, and must stay until that run has ended. Each
  * word ends with a byte 0, the program's name first: "prefork\0explain\0C4\0". */
 void prefork_give(int which, const uint8_t *at, size_t length);
 
-/* Runs the program, and answers its exit status. */
+/* Runs the program over what was given, forgets that, and answers the program's exit status. */
 int prefork_run(void);
 
 /* What it wrote to standard output (0) or standard error (1). It stays until the next run of this thread. */

@@ -17,9 +17,7 @@ from typing import Any, NamedTuple
 
 Text = str | bytes
 File = tuple[Text, Text]
-MOST_FILES = 2
-# A name and a text of a file that is not there.
-NO_FILE = ("", "")
+MOST_FILES = 64
 
 
 class Told(NamedTuple):
@@ -67,7 +65,7 @@ def written(which: int) -> str:
 
 
 def answer(*words: Text, files: Iterable[File] = (), input: Text = "") -> Told:
-    """What `prefork WORDS` prints, with these files (at most two pairs of a name and a text) and this standard input."""
+    """What `prefork WORDS` prints, with these files (pairs of a name and a text) and this standard input."""
     named = list(files)
     if len(named) > MOST_FILES:
         raise ValueError(f"at most {MOST_FILES} files")
@@ -75,7 +73,7 @@ def answer(*words: Text, files: Iterable[File] = (), input: Text = "") -> Told:
     if any(b"\0" in word for word in line):
         raise ValueError("a word has a byte 0")
     texts = [b"".join(word + b"\0" for word in line), as_bytes(input)]
-    for file in [*named, NO_FILE, NO_FILE][:MOST_FILES]:
+    for file in named:
         texts += map(as_bytes, file)
     for which, text in enumerate(texts):
         LIBRARY.prefork_give(which, text, len(text))
@@ -129,9 +127,13 @@ def explore(a: Text | None, b: Text | None, word: str, *options: str, **start: A
     return answer(*line, *options, "--", word, files=files)
 
 
-def certify(a: Text | None, b: Text | None, blocks: Text, **start: Any) -> Told:
-    """The patterns that explain blocks, if these are a master's."""
+def certify(a: Text | None, b: Text | None, blocks: Text, *later: Text, **start: Any) -> Told:
+    """The patterns that explain blocks, if these are a master's. Its first change went over to `b`, the next ones to the
+    configurations in `later`, and all that follow to the last."""
     line, files = asked("certify", a, b, Start(**start))
+    for number, text in enumerate(later, 2):
+        line += ["--to", f"b{number}.toml"]
+        files.append((f"b{number}.toml", text))
     return answer(*line, files=files, input=blocks)
 
 

@@ -16,6 +16,8 @@ const Asked = (() => {
     'await-gone': ['late'], 'spawn-master': ['again', 'no-memory', 'no-image'], 'adopt': ['refused'],
     'write-pid': ['io-fault'], 'move-pid': ['io-fault'], 'remove-pid': ['io-fault'], 'ask': ['back'],
   };
+  // The module has room for this number of files.
+  const MOST_FILES = 64;
   const wordOf = (word, events = [], turns = '') => ({ word, turns, events });
   // `at` is the word whose run is shown, and `open` the call whose choices are.
   const start = () => ({
@@ -33,6 +35,15 @@ const Asked = (() => {
     return words;
   };
   const held = state => state.held === '' ? [] : ['--held', state.held];
+  // How `certify` is asked of a record that goes over to the second file, and then to these configurations.
+  const certifying = (state, later) => {
+    const [, b] = names(state);
+    const known = new Map([[state.b, b]]);
+    for (const text of later) if (!known.has(text)) known.set(text, `later-${known.size}-${b}`);
+    const goals = later.flatMap(text => ['--to', known.get(text)]);
+    const others = [...known].slice(1).map(([text, name]) => [name, text]);
+    return [['certify', ...options(state), ...goals, ...held(state), '--json'], [...files(state), ...others]];
+  };
   const inOrder = events => [...events].sort((p, q) => p.n - q.n || (p.fate ? 1 : 0) - (q.fate ? 1 : 0));
   const lineOf = event => event.fate ? `${event.n} fail ${event.fate}` : `${event.n} exit ${event.name}`;
   const eventOf = line => {
@@ -85,6 +96,6 @@ const Asked = (() => {
     state.at = Math.min(Math.max(0, state.at | 0), state.words.length - 1);
     return state;
   };
-  return { EXAMPLES, WORDS, FATES, start, wordOf, names, files, options, held, lineOf, eventOf, inOrder, section, patternOf, enacting, commandLine, toLink, fromLink };
+  return { EXAMPLES, WORDS, FATES, MOST_FILES, start, wordOf, names, files, options, held, certifying, lineOf, eventOf, inOrder, section, patternOf, enacting, commandLine, toLink, fromLink };
 })();
 if (typeof module !== 'undefined') module.exports = Asked;

@@ -2,6 +2,8 @@
 // `certify` of pasted blocks, beside the page: whether they are accepted, what explains them, and each run, drawn.
 const Certificate = (() => {
   const MOST_BLOCKS = 200, MOST_WORDS = 300;
+  // The configurations that came after the second one, and before which blocks a service saw that a new master had ended.
+  let later = [], lost = [];
   const FAULT = /^prefork: certify (\d+) (\S+)(?: (\d+))?/;
   const LINE = /^prefork: transcript \S+ (\d+)/;
   const answerOf = told => {
@@ -18,6 +20,12 @@ const Certificate = (() => {
     byId('end').scrollIntoView({ block: 'nearest' });
     byId('end').focus();
   };
+  // Why the run of the last of these blocks cannot be drawn: the page rehearses one change.
+  const hinders = (state, blocks, count) => {
+    const changes = blocks.filter(block => Records.goesOver({ ...block, report: block.report || '' })).length;
+    if (later.slice(0, Math.max(0, changes - 1)).some(text => text !== state.b)) return ' It comes after a change to another configuration: the page rehearses one.';
+    return count > MOST_WORDS ? ` It comes after more than ${MOST_WORDS} words: too many for the page.` : '';
+  };
   const itemOf = (page, { blocks, patterns, fault }, block, i) => {
     const lines = patterns ? patterns[i] || [] : [], isWrong = fault && fault.block === i + 1;
     const summary = make('summary', {}, make('strong', {}, block.word === null ? block.report : block.word), ` ${block.word === null ? '' : block.report || 'without a report'}`);
@@ -25,8 +33,8 @@ const Certificate = (() => {
     const inside = [make('ol', { class: 'made' }, ...block.calls.map(call => callRow(call, isWrong && call.number === fault.entry)))];
     if (patterns && block.word !== null) {
       const count = Blocks.explained(blocks.slice(0, i + 1), patterns).length;
-      const draw = button('Draw this run in the page', () => rehearse(page, blocks, patterns, i), { class: 'draw', disabled: count > MOST_WORDS });
-      inside.unshift(make('p', {}, draw, count > MOST_WORDS ? ` It comes after more than ${MOST_WORDS} words: too many for the page.` : ''));
+      const why = hinders(page.state, blocks.slice(0, i + 1), count);
+      inside.unshift(make('p', {}, button('Draw this run in the page', () => rehearse(page, blocks, patterns, i), { class: 'draw', disabled: why !== '' }), why));
     }
     return make('li', {}, make('details', { class: `block ${kindOf(block.report)}${isWrong ? ' wrong' : ''}`, open: !!isWrong }, summary, ...inside));
   };
@@ -41,6 +49,11 @@ const Certificate = (() => {
       head.textContent = `Accepted: ${many(found.patterns.length, 'block')}`;
       head.className = 'good';
       more.textContent = wrong ? `Failures and exits explain ${wrong} of them.` : 'Nothing went wrong in them.';
+    } else if (lost.includes(answerOf(told).block)) {
+      const { block } = answerOf(told);
+      head.textContent = `Accepted: ${many(block - 1, 'block')}`;
+      head.className = 'good';
+      more.textContent = `Before block ${block} the new master had ended. The service saw that, and started the next master, which has a record of its own.`;
     } else {
       found.fault = answerOf(told);
       head.textContent = told.status === 5 ? 'Not accepted' : 'Not read';
@@ -55,21 +68,59 @@ const Certificate = (() => {
   const certify = async page => {
     const { state } = page, text = byId('record').value;
     const start = { ...state, bare: byId('recordBare').checked };
-    const words = ['certify', ...Asked.options(start), ...Asked.held(state), '--json'];
-    byId('certified').replaceChildren(make('p', { class: 'hint', role: 'status' }, 'Certifying ..'));
+    const [words, files] = Asked.certifying(start, later);
+    const line = make('p', { class: 'hint', role: 'status' }, 'Certifying ..');
+    byId('certified').replaceChildren(line);
+    if (files.length > Asked.MOST_FILES) { line.textContent = `It has ${files.length} different configurations, and the page has room for ${Asked.MOST_FILES}: use prefork-ctl certify.`; return; }
     byId('endCertify').hidden = false;
-    show(page, await Beside.ask([words, Asked.files(state), text], () => {}), text);
+    const running = clock(line, count => `Certifying for ${count} s.`);
+    const told = await Beside.ask([words, files, text], () => {});
+    running.stop();
+    show(page, told, text);
+  };
+  // A text for each configuration that came later.
+  const showLater = () => byId('later').replaceChildren(...later.map((text, i) => {
+    const area = make('textarea', { rows: 3, spellcheck: 'false', 'aria-label': `configuration ${i + 3}` });
+    area.value = text;
+    area.addEventListener('input', () => { later[i] = area.value; });
+    const remove = button('Remove', () => { later.splice(i, 1); showLater(); byId('addLater').focus(); }, { 'aria-label': `remove configuration ${i + 3}` });
+    return make('li', { value: i + 3 }, area, remove);
+  }));
+  const addLater = page => {
+    later.push(later.length ? later[later.length - 1] : page.state.b);
+    showLater();
+    byId('later').querySelectorAll('textarea')[later.length - 1].focus();
+  };
+  // The files of a master's record, in their places.
+  const take = async (page, chosen) => {
+    const found = Records.read(await Promise.all(chosen.map(async file => [file.name, await file.text()])));
+    const told = found.missing || (found.hasGap ? 'Blocks after these could not be written.' : 'The files are in their places.');
+    byId('certified').replaceChildren(make('p', { class: found.missing ? 'bad' : 'hint', role: 'status' }, told));
+    if (found.missing) return;
+    const [b, ...others] = found.goals;
+    later = others;
+    lost = found.lost;
+    byId('record').value = found.text;
+    byId('recordBare').checked = true;
+    showLater();
+    page.take({ a: found.from, b, nameA: 'from.toml', nameB: 'to.toml' });
   };
   // The page's own run as a record, to see what `certify` says of it.
   const example = page => {
     const told = page.ask(...Asked.enacting(page.state, page.state.words.length));
     byId('record').value = told.output;
     byId('recordBare').checked = page.state.bare;
+    later = [];
+    lost = [];
+    showLater();
   };
   const listen = page => {
     byId('certify').addEventListener('click', () => certify(page));
     byId('endCertify').addEventListener('click', Beside.end);
     byId('recordExample').addEventListener('click', () => example(page));
+    byId('record').addEventListener('input', () => { lost = []; });
+    byId('addLater').addEventListener('click', () => addLater(page));
+    byId('recordFiles').addEventListener('change', () => take(page, [...byId('recordFiles').files]));
   };
   return { listen };
 })();

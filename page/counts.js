@@ -2,7 +2,6 @@
 // `explore` of the word, beside the page: how its runs end, and each pattern that is named, as a button that loads it.
 const Counts = (() => {
   let seconds = null;
-  const stopClock = () => { clearInterval(seconds); seconds = null; };
   const itemOf = (page, line) => {
     const under = line.indexOf(' under ');
     if (under < 0) return make('li', {}, line);
@@ -18,7 +17,6 @@ const Counts = (() => {
     return make('li', {}, `${line.slice(0, under)} `, button(`show: ${text}`, load));
   };
   const show = (page, told) => {
-    stopClock();
     byId('endExplore').hidden = true;
     if (!told) return byId('explored').replaceChildren(make('p', { class: 'hint' }, 'Ended.'));
     if (!told.output) return byId('explored').replaceChildren(make('p', { class: 'bad' }, told.errors.trim()));
@@ -27,17 +25,18 @@ const Counts = (() => {
   };
   // All runs with at most this number of events, from the start: the word must be the first one.
   const count = async (page, events) => {
-    const { state } = page, word = page.word(), began = Date.now();
+    const { state } = page, word = page.word();
     const turns = word.turns !== '' ? ['--turns', word.turns] : [];
     const words = ['explore', ...Asked.options(state), ...Asked.held(state), '--events', String(events), ...turns, '--progress', '--', word.word];
     const line = make('p', { class: 'hint', role: 'status' }, 'Counting ..');
     let runs = '';
-    const told = () => { line.textContent = `Counting for ${Math.round((Date.now() - began) / 1000)} s. ${runs}`; };
     byId('explored').replaceChildren(line);
     byId('endExplore').hidden = false;
-    stopClock();
-    seconds = setInterval(told, 1000);
-    show(page, await Beside.ask([words, Asked.files(state)], text => { runs = text.replace('prefork: ', '').trim(); told(); }));
+    if (seconds) seconds.stop();
+    const mine = seconds = clock(line, count => `Counting for ${count} s. ${runs}`);
+    const told = await Beside.ask([words, Asked.files(state)], text => { runs = text.replace('prefork: ', '').trim(); mine.tell(); });
+    mine.stop();
+    if (seconds === mine) show(page, told);
   };
   const clear = () => byId('explored').replaceChildren();
   return { count, clear };

@@ -13,6 +13,15 @@ const make = (name, given = {}, ...inside) => {
 };
 const button = (text, onclick, given = {}) => make('button', { type: 'button', onclick, ...given }, text);
 const many = (count, what) => `${count} ${what}${count === 1 ? '' : 's'}`;
+// A text whose words are broken between two lines only if they do not fit into one: a browser breaks a line after a hyphen.
+const whole = text => text.split(' ').flatMap((word, i) => [...(i ? [' '] : []), make('span', { class: 'whole' }, word)]);
+// Tells the seconds of a long question in a line, until it is stopped.
+const clock = (line, told) => {
+  const began = Date.now();
+  const tell = () => { line.textContent = told(Math.round((Date.now() - began) / 1000)); };
+  const running = setInterval(tell, 1000);
+  return { tell, stop: () => clearInterval(running) };
+};
 // Copies a text, and says so in the button. A page from disk may have no clipboard: then the text is selected.
 const copyTo = async (pressed, text, holder) => {
   const before = pressed.textContent;

@@ -32,11 +32,11 @@ function preforkEngine() {
       new Uint8Array(this.it.memory.buffer).set(bytes, Number(at));
       return [at, BigInt(bytes.length)];
     }
-    // What `prefork WORDS` prints of these files (at most two pairs of a name and a text) and this input, and its exit
-    // status. After a failure of the module itself the next call has a new one.
+    // What `prefork WORDS` prints of these files (pairs of a name and a text) and this input, and its exit status. After a
+    // failure of the module itself the next call has a new one.
     answer(words, files = [], input = '') {
       const line = joined(['prefork', ...words].flatMap(word => [bytesOf(word), new Uint8Array(1)]));
-      const texts = [line, input, ...(files[0] || ['', '']), ...(files[1] || ['', ''])];
+      const texts = [line, input, ...files.flat()];
       try {
         const given = texts.map(text => this.put(bytesOf(text)));
         given.forEach(([at, length], i) => this.it.prefork_give(i, at, length));

@@ -32,6 +32,13 @@ const Page = (() => {
     fill();
     page.refresh();
   };
+  // Shows other files.
+  page.take = given => {
+    Object.assign(page.state, given);
+    Counts.clear();
+    fill();
+    page.refresh();
+  };
   const shown = fault => fault.replace(/^prefork: /, '').trim();
   const check = which => {
     const i = which === 'A' ? 0 : 1, file = Asked.files(page.state)[i];
@@ -52,7 +59,7 @@ const Page = (() => {
     const first = before.length ? table(before, Asked.patternOf(before)) : table([Asked.wordOf('beat 1023 0')], '');
     const tables = Tables.drawn(first, block.calls, Asked.inOrder(page.word().events));
     const last = table(all, Asked.patternOf(all));
-    const isSame = Tables.servers(last) === Tables.servers(tables[tables.length - 1]);
+    const isSame = Tables.seen(last) === Tables.seen(tables[tables.length - 1]);
     byId('doubt').textContent = isSame ? '' : 'The last table is not the program\'s: do not trust the columns of addresses.';
     return tables;
   };
@@ -104,7 +111,7 @@ const Page = (() => {
     const { state } = page, began = performance.now();
     for (const which of ['A', 'B']) check(which);
     byId('turnsLabel').hidden = !page.word().word.startsWith('USR2');
-    byId('command').textContent = Asked.commandLine(state);
+    byId('command').replaceChildren(...whole(Asked.commandLine(state)));
     history.replaceState(null, '', `#${Asked.toLink(state)}`);
     const told = enacted(state.words.length, ['--json']);
     const blocks = told.errors ? [] : JSON.parse(told.output).blocks;
@@ -129,12 +136,9 @@ const Page = (() => {
     choice.append(make('option', { value: '' }, 'examples'), ...Object.keys(Asked.EXAMPLES).map(name => make('option', {}, name)));
     choice.addEventListener('change', () => {
       if (!choice.value) return;
-      page.state[which.toLowerCase()] = Asked.EXAMPLES[choice.value];
-      page.state[`name${which}`] = choice.value;
+      const name = choice.value;
       choice.value = '';
-      Counts.clear();
-      fill();
-      page.refresh();
+      page.take({ [which.toLowerCase()]: Asked.EXAMPLES[name], [`name${which}`]: name });
     });
   };
   const addWord = () => {

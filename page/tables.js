@@ -97,9 +97,10 @@ const Tables = (() => {
     for (const call of calls) tables.push(after(tables[tables.length - 1], call, events));
     return tables;
   };
-  // Who serves what, to compare two tables.
-  const servers = table => table.workers.filter(row => row.stance === 'ready' && row.addresses.length).map(row => `${row.who} ${row.addresses}`).sort().join('; ');
+  // All that is drawn of a table, to compare two: workers that have addresses, and what each master has open.
+  const drawnRow = row => `${row.who} ${row.stance} ${[...row.addresses].sort()}`;
+  const seen = table => [...table.workers.filter(row => row.addresses.length), ...table.masters.filter(row => row.stance === 'live')].map(drawnRow).sort().join('; ');
   const generation = who => who.slice(1, who.lastIndexOf('.'));
-  return { NONE, read, drawn, servers, setOf, generation };
+  return { NONE, read, drawn, seen, setOf, generation };
 })();
 if (typeof module !== 'undefined') module.exports = Tables;

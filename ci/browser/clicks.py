@@ -1,14 +1,16 @@
 """The page under random clicks: what it shows beside what the program prints for the command line that it shows."""
+import json
 import pathlib
 import random
 import re
 import subprocess
 import tempfile
 from collections.abc import Iterator
-from typing import Any, NamedTuple
+from typing import Any
 
 from browser.chromium import BrowserFault, Page
 from browser.looks import faults as look_faults
+from gate.tally import ROOT
 
 READY = "document.body.dataset.ready === 'yes'"
 SECONDS = 300
@@ -25,6 +27,21 @@ SET = """
   field.value = value;
   field.dispatchEvent(new Event(field.tagName === 'SELECT' ? 'change' : 'input', { bubbles: true }));
 })
+"""
+# Which cases the module answers otherwise, by their places, and how.
+CASES_AT_ONCE = 100
+ANSWERED = """
+(async () => {
+  const { load, fromBase64 } = preforkEngine();
+  const lines = [], module = await load(fromBase64(PREFORK_WASM), line => lines.push(line));
+  const bytes = text => Uint8Array.from(text, it => it.charCodeAt(0)), shown = text => new TextDecoder().decode(bytes(text));
+  return CASES.flatMap(([, words, files, input, [status, output, errors]], i) => {
+    lines.length = 0;
+    const told = module.answer(words.map(bytes), files.map(pair => pair.map(bytes)), bytes(input));
+    const isSame = told.status === status && told.output === shown(output) && told.errors === shown(errors) && lines.join('') === told.errors;
+    return isSame ? [] : [[i, JSON.stringify(told).slice(0, 300)]];
+  });
+})()
 """
 # What a reader sees of the word that is chosen, as the program would print it.
 SEEN = """
@@ -169,6 +186,17 @@ def keyboard_faults(page: Page) -> Iterator[str]:
         yield "Tab leads nowhere"
 
 
+def case_faults(page: Page) -> Iterator[tuple[str, list[str]]]:
+    """The cases that need no process, answered by the module in the browser."""
+    found = subprocess.run([ROOT / "library" / "cases", "--json"], capture_output=True, text=True, check=True).stdout
+    cases = json.loads(found)
+    for first in range(0, len(cases), CASES_AT_ONCE):
+        some = cases[first:first + CASES_AT_ONCE]
+        wrong = page.value(ANSWERED.replace("CASES", json.dumps(some)))
+        for number, (name, *_) in enumerate(some):
+            yield f"case {name}", [f"the module answers otherwise: {told}" for place, told in wrong if place == number]
+
+
 def explore_faults(page: Page, program: str) -> Iterator[str]:
     """`explore` beside the page says what the program prints, and each pattern that it names can be shown."""
     for which, events in (("explore", "1"), ("pairs", "2")):
@@ -199,55 +227,3 @@ def end_faults(page: Page) -> Iterator[str]:
     page.becomes("document.getElementById('explored').textContent === 'Ended.' && document.getElementById('endExplore').hidden")
     click(page, "#explore")
     page.becomes("document.querySelectorAll('#explored li').length > 0")
-
-
-class Record(NamedTuple):
-    """What a master wrote, with the texts of the configurations that it started with and went over to."""
-
-    blocks: str
-    start: str
-    next: str
-
-
-def certified(program: str, record: Record) -> subprocess.CompletedProcess:
-    """What the program says of a record."""
-    with tempfile.TemporaryDirectory(prefix="page-record-") as folder:
-        for name, text in (("a.toml", record.start), ("b.toml", record.next)):
-            (pathlib.Path(folder) / name).write_text(text)
-        words = [program, "certify", "--bare", "--from", "a.toml", "--to", "b.toml"]
-        return subprocess.run(words, input=record.blocks, capture_output=True, text=True, timeout=SECONDS, cwd=folder)
-
-
-def certificate_faults(page: Page, program: str, record: Record) -> Iterator[str]:
-    """`certify` in the page answers as the program does; the record's runs can be drawn."""
-    told = certified(program, record)
-    to_start(page)
-    set_field(page, "a", record.start)
-    set_field(page, "b", record.next)
-    set_field(page, "recordBare", True)
-    page.value(f"document.getElementById('certified').replaceChildren(); document.getElementById('record').value = {record.blocks!r}")
-    click(page, "#certify")
-    page.becomes("document.querySelector('#certified h3')")
-    shown = page.value("document.getElementById('certified').innerText")
-    if told.returncode:
-        if told.stderr.splitlines()[0] not in shown or shown.startswith("Accepted"):
-            yield f"the program says {told.stderr!r}, the page {shown[:200]!r}"
-        return
-    count = len(re.findall(r"(?m)^(?:word|unread) ", record.blocks))
-    if f"Accepted: {count} blocks" not in shown:
-        yield f"the page does not accept {count} blocks: {shown[:200]!r}"
-        return
-    for line in {line for line in told.stdout.splitlines() if line != "next"}:
-        if line not in shown:
-            yield f"the page does not say {line!r}"
-    yield from drawn_faults(page, record.blocks)
-
-
-def drawn_faults(page: Page, record: str) -> Iterator[str]:
-    """The last block of the record, drawn in the page, is that block."""
-    click(page, "#certified button.draw", count(page, "#certified button.draw") - 1)
-    page.becomes("document.querySelectorAll('#row button').length > 1")
-    seen = page.value(SEEN)
-    shown = "".join(f"{line}\n" for line in (f"word {seen['word']}", *seen["calls"], seen["report"]))
-    if blocks_of(record)[-1] != shown:
-        yield f"the last block is {blocks_of(record)[-1]!r}, and the page draws {shown!r}"

@@ -11,10 +11,9 @@ NAMED = {
 }
 # Groups without a name are the browser's own.
 MAY_LACK = {"group", "listbox"}
-# The least contrast of a text, and of a sign.
-TEXT = 4.5
-CONTRASTS = """
-(() => {
+# The least contrast of a text, and of a sign: what tells something without a text, and the edges of fields.
+TEXT, SIGN = 4.5, 3.0
+COLOURS = """
   const numbers = text => {
     const probe = document.createElement('canvas');
     probe.width = probe.height = 1;
@@ -37,6 +36,11 @@ CONTRASTS = """
   };
   const ratio = (p, q) => (Math.max(light(p), light(q)) + 0.05) / (Math.min(light(p), light(q)) + 0.05);
   const found = [];
+"""
+CONTRASTS = f"""
+(() => {{
+{COLOURS}
+""" + """
   const walk = document.createTreeWalker(document.body, NodeFilter.SHOW_TEXT);
   for (let text = walk.nextNode(); text; text = walk.nextNode()) {
     const node = text.parentElement, style = getComputedStyle(node);
@@ -48,6 +52,60 @@ CONTRASTS = """
   }
   return found;
 })()
+"""
+
+
+# Cells, boxes and arrows by what draws them; of a cell that is both filled and edged, the edge.
+SIGNS = f"""
+(() => {{
+{COLOURS}
+""" + """
+  const kinds = {
+    'input:not(:disabled), select, textarea, i.cell, .group i, .legend i': 'border-top-color', '.calls i': 'background-color',
+    '.band, .question, #end': 'border-left-color', '.words li, details.block': 'border-left-color',
+    'svg rect, svg path.arrow': 'stroke', 'svg path.tip': 'fill',
+  };
+  for (const [selector, name] of Object.entries(kinds)) {
+    for (const node of document.querySelectorAll(selector)) {
+      const style = getComputedStyle(node), inSvg = node.closest('svg');
+      if (!node.checkVisibility() && !node.closest('defs')) continue;
+      const under = ground((inSvg || node).parentElement), [r, g, b, a] = numbers(style.getPropertyValue(name));
+      const got = ratio(over([r, g, b, a * Number(style.opacity)], under), under);
+      if (got < LEAST) found.push(`${node.localName}.${node.getAttribute('class') || node.id}: ${got.toFixed(2)}`);
+    }
+  }
+  const accent = numbers(getComputedStyle(document.documentElement).getPropertyValue('--accent').trim());
+  for (const place of [document.body, document.querySelector('section')]) {
+    const got = ratio(accent, ground(place));
+    if (got < LEAST) found.push(`where the keys are: ${got.toFixed(2)}`);
+  }
+  return [...new Set(found)];
+})()
+"""
+
+
+# The parts of a page that are scrolled sideways, and cannot be by keys.
+SCROLLED = """
+[...document.querySelectorAll('main *')].filter(it => it.scrollWidth > it.clientWidth + 1 && ['auto', 'scroll'].includes(getComputedStyle(it).overflowX)
+  && it.checkVisibility() && it.tabIndex < 0).map(it => `${it.localName} ${it.id || it.className}`)
+"""
+
+
+# The words of a command that are broken between two lines, though each would fit into one.
+BROKEN = """
+[...document.querySelectorAll('#command, .question pre')].flatMap(box => {
+  const found = [], walk = document.createTreeWalker(box, NodeFilter.SHOW_TEXT);
+  for (let text = walk.nextNode(); text; text = walk.nextNode()) {
+    for (const word of text.data.matchAll(/\\S+/g)) {
+      const range = document.createRange();
+      range.setStart(text, word.index);
+      range.setEnd(text, word.index + word[0].length);
+      const parts = [...range.getClientRects()], wide = parts.reduce((sum, it) => sum + it.width, 0);
+      if (new Set(parts.map(it => Math.round(it.top))).size > 1 && wide < box.clientWidth / 2) found.push(word[0]);
+    }
+  }
+  return found;
+})
 """
 
 
@@ -67,17 +125,30 @@ def headings(tree: list[Any]) -> list[str]:
     return [value_of(node, "name") for node in tree if value_of(node, "role") == "heading"]
 
 
+def unheard(page: Page, wanted: str) -> list[str]:
+    """Whether a screen reader finds a heading that says this."""
+    found = headings(page.tree())
+    return [] if any(wanted in it for it in found) else [f"no heading says {wanted!r}: {found}"]
+
+
 def low_contrasts(page: Page) -> list[str]:
-    """Texts that are hard to read on their ground."""
-    return [f"low contrast: {it}" for it in page.value(CONTRASTS.replace("LEAST", str(TEXT)))]
+    """Texts and signs that are hard to see on their ground."""
+    signs = [f"low contrast of a sign: {it}" for it in page.value(SIGNS.replace("LEAST", str(SIGN)))]
+    return [f"low contrast: {it}" for it in page.value(CONTRASTS.replace("LEAST", str(TEXT)))] + signs
 
 
 def too_wide(page: Page) -> list[str]:
     """Whether the page must be scrolled sideways."""
     width, room = page.value("[document.documentElement.scrollWidth, innerWidth]")
-    return [f"the page is {width} wide in a window of {room}"] if width > room else []
+    parts = [f"{it} is scrolled sideways, and no key leads to it" for it in page.value(SCROLLED)]
+    return [f"the page is {width} wide in a window of {room}", *parts] if width > room else parts
+
+
+def broken_words(page: Page) -> list[str]:
+    """Words of a command that are broken between two lines: who types them after it types a space there."""
+    return [f"{it} is broken between two lines" for it in page.value(BROKEN)]
 
 
 def faults(page: Page) -> list[str]:
     """All that is wrong with how a page looks now."""
-    return [*unnamed(page.tree()), *low_contrasts(page), *too_wide(page)]
+    return [*unnamed(page.tree()), *low_contrasts(page), *too_wide(page), *broken_words(page)]

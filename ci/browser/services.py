@@ -1,4 +1,5 @@
 """The page of a service in each of its states, as its program writes it, for pictures and looks."""
+import json
 import pathlib
 import selectors
 import sys
@@ -79,7 +80,7 @@ class Shown:
         self.events = selectors.DefaultSelector()
         self.site = Site(self.events, self.address, {
             "/": lambda: (page.KIND, view.page_of(*self.seen())),
-            "/live": lambda: (live.KIND, view.event_of(*self.seen())),
+            "/live": lambda: (live.EVENT_KIND, view.event_of(*self.seen())),
             "/live.js": lambda: (live.SCRIPT_KIND, live.SCRIPT),
         })
         self.thread = threading.Thread(target=self.turn)
@@ -103,22 +104,46 @@ class Shown:
         self.site.end()
 
 
-BAND = "document.querySelector('.band').className"
+# The name of the service, which each state has. It is marked; the plan is opened, and the keys are on its heading.
+NAME = "shop"
+MARKED = """(() => {
+  const plan = document.getElementById('plan'), name = document.querySelector('h1').firstChild;
+  plan.open = true;
+  plan.querySelector('summary').focus();
+  getSelection().setBaseAndExtent(name, 0, name, 4);
+})()"""
+# Whether an open page is what the service would write now, but for what is open.
+SAME = """(() => {
+  const now = document.querySelector('main'), next = document.createElement('main');
+  next.innerHTML = %s;
+  next.querySelector('#plan').open = now.querySelector('#plan').open;
+  return next.isEqualNode(now);
+})()"""
 
 
 def live_faults(seen: Page, shown: Shown) -> Iterator[str]:
-    """An open page follows the service by itself: each state is seen, what is open and where the keys are stays, and it
-    says so if the service does not answer."""
+    """An open page follows the service by itself: each state is seen, and what is open, where the keys are and what is
+    marked stays."""
     seen.go(f"http://{shown.address}/")
-    seen.value("(() => { const it = document.getElementById('plan'); it.open = true; it.querySelector('summary').id = 'key'; it.querySelector('summary').focus(); })()")
-    for name, (found, _, _) in STATES.items():
+    seen.value(MARKED)
+    for name, state in STATES.items():
         shown.name = name
-        seen.becomes(f"{BAND} === 'band {found['state']}' && document.querySelector('.count').textContent.startsWith('{found['running']} of ')")
+        seen.becomes(SAME % json.dumps(view.middle_of(*state, PLAN)))
         yield from (f"{name}: {fault}" for fault in looks.faults(seen))
         if not seen.value("document.getElementById('plan').open"):
             yield f"{name}: what was open is closed"
+        if not seen.value("document.activeElement === document.querySelector('#plan summary')"):
+            yield f"{name}: the keys are no longer where they were"
+        if seen.value("getSelection().toString()") != NAME:
+            yield f"{name}: what was marked is no longer"
     others = [it for it in seen.requests if it.startswith("http") and not it.startswith(f"http://{shown.address}/")]
     yield from (f"the page asks for {it}" for it in others)
+
+
+def heard(name: str) -> str:
+    """What a screen reader hears of a state, in a heading."""
+    found = STATES[name][0]
+    return f"{view.name_of(found)} {view.STATES[found['state']]}"
 
 
 def lay_out(name: str, folder: pathlib.Path) -> pathlib.Path:

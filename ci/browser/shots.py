@@ -13,6 +13,8 @@ REHEARSALS: dict[str, tuple[str, list[tuple[int, str]]]] = {
     "short": ("HUP", [(10, "w1.2.0"), (11, "again"), (13, "again"), (15, "again"), (17, "again"), (19, "again")]),
     "question": ("USR2 attended", [(12, "")]),
 }
+# What a screen reader hears in a heading of each.
+HEARD = {"before": "done", "during": "done", "rolled-back": "rolled-back", "after": "done", "short": "degraded", "question": "done"}
 
 
 def show(page: Page, name: str) -> None:

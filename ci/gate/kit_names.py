@@ -6,9 +6,10 @@ renamed one is told so by name, and not after half an hour by an error or by a c
 from collections.abc import Iterator
 from typing import Any
 
-# Of the command `rt`, of its library, of a crate of that, and of the list of a crate's functions.
+# Of the command `rt`, of its library, of a crate of that, and of the list of a crate's functions. What became of an edit
+# has names in some kits alone (REFUSED, AT_LIMIT): others say only whether it was refused.
 NAMES = {
-    "rt": "AT_LIMIT KIT REFUSED checked edits_of free main must_fail processors read_edit read_files rtlib unread",
+    "rt": "KIT checked edits_of free main must_fail processors read_edit read_files rtlib unread",
     "rt.rtlib": "Crate PARTS STALE crates_below guarded lock sum_of text_of",
     "rt.rtlib.Crate": "below build_rlib count is_built stamp",
     "bodies": "Source named",

@@ -9,6 +9,7 @@ import random
 import re
 import tempfile
 import time
+import zlib
 from collections.abc import Callable, Iterable, Iterator
 
 from gate.tally import Tally
@@ -18,16 +19,20 @@ from .errors import errors_of
 from .target import CLIENTS, DROPPED, UNANSWERED, WORKERS, Target, Tree, killed_in, slow_answer
 from .tracing import LISTS, Calls, Fault, Tracer, injected_in, text_of
 
-# Who is traced while it runs, and what is started under strace.
-RUNNING, STARTED = ("serve", "watch", "keeper", "master"), ("launch", "activate", "new-master")
 RELOAD, UPGRADE, STOP = "reload", "upgrade", "stop"
-WRAPPERS = {"launch": "launch", "activate": "activate", "new-master": "master"}
+# Who is traced while it runs, and what is started under strace.
+RUNNING = ("serve", "watch", "keeper", "master")
+STARTED = {RELOAD: ("launch", "activate", "read"), UPGRADE: ("launch", "activate", "new-master"), STOP: ()}
+WRAPPERS = {"launch": "launch", "activate": "activate", "read": "read", "new-master": "master"}
 # A fault in one of these costs a worker, with the requests that it has.
 OF_WORKERS = ("activate", "wsgi")
 # Cases of one service: each upgrade leaves an old master.
 MOST_CASES = {RELOAD: 8, UPGRADE: 4, STOP: 1}
-# Calls whose failure leaves a file: nothing else is left where one of these has failed.
-OF_FILES = re.compile(r"unlink|rmdir|rename|openat|getdents")
+# Calls whose failure leaves a file: nothing else is left where one of these has failed. (A folder is read by a copy of its
+# descriptor, which fcntl makes.)
+OF_FILES = re.compile(r"unlink|rmdir|rename|openat|getdents|fcntl")
+# A call by which a master hears a worker, or tells it something: where it fails, the master takes the worker for ended.
+TO_WORKER = re.compile(r"(?:read|write)\((?:[3-9]|\d\d)")
 
 
 @dataclasses.dataclass(frozen=True)
@@ -115,7 +120,7 @@ def recorded(tree: Tree, python: str | None) -> dict[tuple[str, str], Calls]:
             target.begin()
             for phase in (RELOAD, UPGRADE, STOP):
                 roles = ["wsgi"] if python else [role for role in RUNNING if target.process_of(role)]
-                roles += [] if python or phase == STOP else STARTED if phase == UPGRADE else STARTED[:2]
+                roles += [] if python else STARTED[phase]
                 record(target, phase, roles, found)
         finally:
             target.close()
@@ -150,6 +155,11 @@ def cases_of(calls: dict[tuple[str, str], Calls]) -> list[Case]:
         for error in errors_of(call) for place in places
         if not (call == "execve" and role in WRAPPERS)
     ]
+
+
+def part(cases: Iterable[Case], number: int, count: int) -> list[Case]:
+    """The cases of a part. A case is in one part whatever the others are: two runs need not list the same calls."""
+    return [case for case in cases if zlib.crc32(str(case).encode()) % count == number - 1]
 
 
 def batches(cases: Iterable[Case]) -> list[list[Case]]:
@@ -248,7 +258,8 @@ class Batch:
             row.wrong.append(f"{case}: the status is {target.serve.returncode}")
         may_leave_files = bool(OF_FILES.search(case.fault.call))
         row.wrong += [f"{case}: {left}" for left in target.left() if not (left.startswith("files") and may_leave_files)]
-        if "slow" not in row.words and case.role not in OF_WORKERS and not killed_in(target.said_since(0)):
+        may_lose = case.role in OF_WORKERS or case.role == "master" and TO_WORKER.match(row.where) or killed_in(target.said_since(0))
+        if "slow" not in row.words and not may_lose:
             row.wrong.append(f"{case}: {row.words[-1]}")
         if row.wrong:
             row.wrong.append(f"{case}: {row.where}: {row.words}: {target.said_since(0)[-1500:]}")

@@ -35,7 +35,7 @@ fi
 exec "$real" "$@"
 """
 # An adapter is followed with the process that holds its program, up to the program itself.
-FOLLOWS = {"launch": "", "activate": "-f -b execve", "master": ""}
+FOLLOWS = {"launch": "", "activate": "-f -b execve", "read": "", "master": ""}
 APP = """def app(environ, start_response):
     start_response("200 OK", [("Content-Type", "text/plain")])
     return [b"version 1\\n"]
@@ -73,6 +73,7 @@ class Tree:
         shutil.copy(prefork, self.prefork)
         for name in ("launch", "activate"):
             replace_by_wrapper(place / "out" / f"prefork-{name}", name)
+        replace_by_wrapper(place / "libexec" / "prefork-read", "read")
         replace_by_wrapper(self.prefork, "master")
         page = SERVICE / "tests" / "programs" / "page.c"
         subprocess.run(["cc", "-std=gnu11", "-O2", "-o", place / "page", page], check=True)
@@ -205,10 +206,13 @@ class Target:
 
     def close(self) -> None:
         """Ends what still runs, by number."""
+        own = [started for started in (self.load, self.serve) if started]
+        for started in own:
+            # (a process that becomes another program at this very moment has no mark to be seen)
+            started.kill()
         self.mark.end_all()
-        for started in (self.load, self.serve):
-            if started:
-                started.wait()
+        for started in own:
+            started.wait()
         self.said.close()
 
 

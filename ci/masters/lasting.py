@@ -57,11 +57,15 @@ class Lasting:
         """The lines on its standard error."""
         return (self.room / "errors").read_text().splitlines()
 
-    def told(self, *words: str) -> None:
-        """Tells words, and waits for their blocks, and for that of the start."""
+    def send(self, *words: str) -> None:
+        """Tells words, and waits for nothing."""
         self.wanted += len(words)
         self.process.stdin.write("".join(f"{word}\n" for word in words).encode())
         self.process.stdin.flush()
+
+    def told(self, *words: str) -> None:
+        """Tells words, and waits for their blocks, and for that of the start."""
+        self.send(*words)
         deadline = time.monotonic() + SECONDS
         while len(ENDS.findall(self.text())) < self.wanted and time.monotonic() < deadline:
             time.sleep(0.02)

@@ -1,14 +1,21 @@
 """Workers and new masters that stop or say nothing, which the master ends after its limits."""
+import contextlib
 import os
 import pathlib
 import re
 import signal
+import subprocess
 import tempfile
+import time
+from collections.abc import Callable, Iterable
+from typing import Any
 
 from gate.configs import configuration
+from gate.processes import Mark
 from gate.tally import Tally
+from gate.waiting import until
 from masters.lasting import BREAKS, LOGGED, Lasting
-from masters.runs import Program, checked
+from masters.runs import MARK, SECONDS, Program, checked, left_by
 from masters.upgrades import TURNS
 from masters.wrong_answers import WORKER, options_of
 
@@ -45,22 +52,95 @@ def several_stop(program: Program) -> Tally:
     return checked([f"workers that stop: {line}" for line in found])
 
 
+# A worker that says `gone` once it is told to quit, and does not end.
+STAYS = WORKER.replace("quit) echo gone; exit 0 ;;", "quit) echo gone; exec sleep 1000 ;;")
+
+
 def all_stop(program: Program) -> Tally:
     """All workers stop before the end: they have one limit together."""
+    return hang_at_the_end(program, "workers that all stop", WORKER, lambda master: stop(master, HANG))
+
+
+def all_stay(program: Program) -> Tally:
+    """All workers say `gone` at the end, and stay: they have one limit together."""
+    return hang_at_the_end(program, "workers that are gone and stay", STAYS, lambda _: None)
+
+
+def hang_at_the_end(program: Program, name: str, worker: str, before: Callable[[Lasting], None]) -> Tally:
+    """Workers that hang once their master stops, and are told to quit."""
     with tempfile.TemporaryDirectory() as room:
-        (pathlib.Path(room) / "worker.sh").write_text(WORKER)
+        (pathlib.Path(room) / "worker.sh").write_text(worker)
         command = ["sh", "worker.sh", "obeys", "each"]
         with Lasting(program, HANG, room, 1024, "--verbose", *options_of(SHORT), command=command) as master:
             master.told()
-            stop(master, HANG)
+            before(master)
             try:
                 found = master.ended()
             except BREAKS as fault:
                 found = [str(fault)]
             told = kills(master.said())
-    if [it.partition(": ")[2] for it in told] != ["no end within 6 s"] * HANG:
-        found.append(f"it logs that it killed {told}")
-    return checked([f"workers that all stop: {line}" for line in found])
+    return checked([f"{name}: {line}" for line in [*found, *not_all_ended(told)]])
+
+
+def not_all_ended(told: list[str]) -> list[str]:
+    """What is wrong where each of the workers had to be killed at the end."""
+    are_all = [it.partition(": ")[2] for it in told] == ["no end within 6 s"] * HANG
+    return [] if are_all else [f"it logs that it killed {told}"]
+
+
+def full_disk(program: Program) -> Tally:
+    """A master that can't write its first block ends. Workers that do not end with it have one limit together."""
+    mark = Mark(MARK)
+    with tempfile.TemporaryDirectory() as room:
+        path = pathlib.Path(room)
+        (path / "worker.sh").write_text(f"{WORKER}exec sleep 1000\n")
+        (path / "s.toml").write_text(configuration(workers=HANG, command=["sh", "worker.sh", "obeys", "each"]))
+        command = [program.path, "supervise", "--verbose", "--program", program.path, "--from", "s.toml"]
+        with open("/dev/full", "wb") as full:
+            how: dict[str, Any] = {"cwd": room, "stdin": subprocess.DEVNULL, "stdout": full, "env": mark.environment()}
+            try:
+                ended = subprocess.run([*command, *options_of(SHORT)], stderr=subprocess.PIPE, timeout=SECONDS, **how)
+            except subprocess.TimeoutExpired as late:
+                mark.kill()
+                return checked([f"a master that can't write: {late}"])
+        said, left = ended.stderr.decode().splitlines(), left_by(mark)
+    found = not_all_ended(kills(said))
+    if ended.returncode != 1 or said[-1:] != ["prefork: file"] or left:
+        found.append(f"it ends with {ended.returncode} and {said[-1:]}, and {left} are left")
+    return checked([f"a master that can't write: {line}" for line in found])
+
+
+# A worker that takes a second of its own for a beat, in steps, so that a stop of the machine is no part of it.
+SLOW_BEAT = WORKER.replace("tick) echo", "tick) echo >asked; for step in $(seq 10); do sleep 0.1; done; echo")
+
+
+def machine_stops(program: Program) -> Tally:
+    """The master and its worker stop together for longer than the limit, as where the whole machine does: the worker
+    that was asked before owes no more time than it had."""
+    with tempfile.TemporaryDirectory() as room:
+        path = pathlib.Path(room)
+        (path / "worker.sh").write_text(SLOW_BEAT)
+        command = ["sh", "worker.sh", "obeys", "each"]
+        with Lasting(program, 1, room, 1024, "--verbose", *options_of(SHORT), command=command) as master:
+            master.told()
+            master.send("tick 1")
+            until("the question to the worker", (path / "asked").exists)
+            stopped = [master.process.pid, *(it for it in master.mark.processes() if it != master.process.pid)]
+            signal_all(stopped, signal.SIGSTOP)
+            time.sleep(SHORT[0] + 2)
+            signal_all(reversed(stopped), signal.SIGCONT)
+            master.told()
+            found, text, told = master.ended(), master.text(), kills(master.said())
+    if told or "1 m1 census 1.1 : counted 0\ndone cause none " not in text:
+        found.append(f"it logs that it killed {told}, and writes {text!r}")
+    return checked([f"a machine that stops: {line}" for line in found])
+
+
+def signal_all(processes: Iterable[int], signal_number: int) -> None:
+    """Sends a signal to processes, in this order; some may have ended."""
+    for number in processes:
+        with contextlib.suppress(ProcessLookupError):
+            os.kill(number, signal_number)
 
 
 def kills(said: list[str]) -> list[str]:

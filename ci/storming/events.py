@@ -13,7 +13,7 @@ from injecting.target import REPORT, UNANSWERED
 from .service import WORD_SECONDS, Stormed, signal_to
 
 # What may be killed, and what may be stopped for a while; a worker takes the requests with it that it has.
-KILLED = ("master", "new master", "keeper", "watch", "worker", "holder", "program")
+KILLED = ("master", "new master", "relay", "keeper", "watch", "worker", "holder", "program")
 STOPPED = ("serve", *KILLED)
 OF_WORKERS = ("worker", "holder", "program")
 LONGEST_STOP = 3.0

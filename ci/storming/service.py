@@ -18,6 +18,7 @@ from gate.tally import ROOT, Tally
 from gate.waiting import SECONDS, comes, until
 
 from injecting.target import catches
+from prefork_service.processes import RELAY
 
 from .disks import Disk
 
@@ -136,6 +137,8 @@ class Stormed:
             return "serve"
         if words[:1] == [self.prefork]:
             return {"supervise": "master", "adopt": "new master"}.get(words[1] if len(words) > 1 else "", "")
+        if " ".join(words[:2]).endswith(f"{RELAY} adopt"):
+            return "relay"
         for own, kind in (("prefork-keeper", "keeper"), ("prefork-watch", "watch"), ("prefork-hold", "holder"), ("worker ", "worker")):
             if name.startswith(own):
                 return kind
@@ -224,10 +227,13 @@ class Stormed:
 
     def close(self) -> None:
         """Ends what still runs, by number."""
+        own = [started for started in (self.load, self.serve) if started]
+        for started in own:
+            # (a process that becomes another program at this very moment has no mark to be seen)
+            started.kill()
         self.mark.end_all()
-        for started in (self.load, self.serve):
-            if started:
-                started.wait()
+        for started in own:
+            started.wait()
         self.disk.close()
         self.said.close()
 

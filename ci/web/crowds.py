@@ -87,7 +87,8 @@ def a_worker_floods_from_its_start(site: Site) -> None:
     block, faults = site.sent("HUP").communicate(timeout=SECONDS)
     site.check(f"HUP: {block}{faults}", "\ndone " in block)
     site.check("an old worker is left", comes(lambda: not old & site.workers()))
-    site.end("12")
+    # (a worker that floods may have taken requests before it is killed)
+    site.end("12", may_fail=CLIENTS)
     site.certify()
 
 

@@ -4,11 +4,13 @@ The application takes five seconds to load. What dies is killed by the worker th
 asks. From then on no other worker loads until twenty requests were answered: by workers that have survived their master.
 """
 import json
+import pathlib
 from collections.abc import Iterable
 
-from gate.addresses import answer_of
-from gate.waiting import until
-from web.site import Scenario, Site
+from gate.addresses import answer_of, free_address, is_refused, place_of
+from gate.waiting import SECONDS, until
+from web.records import certified
+from web.site import LISTENS, Scenario, Site
 from web.starts import status
 from web.systemd import Systemd
 
@@ -178,6 +180,7 @@ def deaths(who: str, points: Iterable[tuple[str, int]], name: str) -> Scenario:
             print(f"{name}: {len(lines)} deaths ({'; '.join(lines)}): {found['answered']} answered, {found['failed']} failed, slowest "
                   f"{found['slowest']:.3f} s, longest time between two answers {found['gap']:.3f} s", flush=True)
             site.certify()
+            is_one_life(site, [word for word, _ in points] if who == MASTER else [])
         finally:
             if systemd:
                 systemd.close()
@@ -186,10 +189,64 @@ def deaths(who: str, points: Iterable[tuple[str, int]], name: str) -> Scenario:
     return scenario
 
 
+def is_one_life(site: Site, words: list[str]) -> None:
+    """The records are accepted, and masters that died in these words are one life with the last one."""
+    said, faults, ended = certified(site)
+    site.check(f"certify: {ended} {said} {faults}", ended == 0)
+    # (a word may be over before a worker has killed its master)
+    told = "; then the master died, "
+    site.check(f"{told} is not said {len(words)} times: {said}", said.count(told) == len(words))
+    head = f"1 to {len(words) + 1} are one life, if the keeper kept the sockets: open throughout {site.first}; "
+    site.check(f"no one life: {said}", not words or f"\n{head}it ends without missing workers\n" in said)
+
+
+def inodes(addresses: Iterable[str]) -> dict[str, set[str]]:
+    """The sockets that listen at these ports, as the system numbers them."""
+    lines = [line.split() for line in pathlib.Path("/proc/net/tcp").read_text().splitlines()[1:]]
+    ports = {address: f":{place_of(address)[1]:04X}" for address in addresses}
+    return {a: {one[9] for one in lines if one[3] == LISTENS and one[1].endswith(port)} for a, port in ports.items()}
+
+
+def death_in_a_reload_to_other_addresses(site: Site) -> None:
+    """A reload drops an address and adds one, and the master dies as it counts the new workers. Until then the keeper has
+    closed nothing, and holds what was added: survivors serve all three addresses on their sockets. The next master takes those
+    of the configuration that ran. The same reload is done then."""
+    lay_out(site)
+    added = free_address()
+    ran = [site.first, site.second]
+    site.begin(listeners=ran)
+    before = inodes(ran)
+    site.configure(listeners=[site.first, added])
+    old = site.workers()
+    # (each of two workers hears four lines before that: its name, two listeners, and that it is to begin)
+    arm(site, MASTER, "HUP", 9)
+    sent, killed = site.sent("HUP"), site.room / "killed"
+    until("the death of the master", killed.exists, PATIENCE)
+    for address in (*ran, added):
+        answers = [answer_of(address, seconds=PATIENCE) for _ in range(ANSWERS)]
+        site.check(f"{address}: {answers}", all(answer.startswith("version 1 ") for answer in answers))
+    site.check("the sockets are others", inodes(ran) == before and all(len(one) == 1 for one in inodes([added]).values()))
+    site.hold.unlink()
+    sent.communicate(timeout=PATIENCE)
+    until("two workers of the next master", lambda: has_recovered(site, old), PATIENCE)
+    site.check("the next master has other sockets", inodes(ran) == before)
+    for address in ran:
+        site.check(f"{address} is not served", answer_of(address).startswith("version 1 "))
+    said, faults, ended = certified(site)
+    head = f"1 to 2 are one life, if the keeper kept the sockets: open throughout {', '.join(ran)}; it ends without missing workers"
+    site.check(f"certify: {ended} {said} {faults}", ended == 0 and head in said and "; then the master died, in HUP\n" in said)
+    site.wants("HUP", 0, "done", 2)
+    site.check("the added address is not served", answer_of(added, seconds=SECONDS).startswith("version 1 "))
+    until("the dropped address refuses", lambda: is_refused(site.second))
+    site.end("1")
+
+
 def all_deaths() -> list[Scenario]:
     return [
         deaths(role, [(word, at) for at in POINTS[word]], f"deaths_of_{role}_at_{word}") for role in (MASTER, NEW, SERVE) for word in WORDS
     ]
 
 
-SCENARIOS: tuple[Scenario, ...] = tuple(deaths(role, points, f"deaths_of_{role}") for role, points in FEW.items())
+SCENARIOS: tuple[Scenario, ...] = (
+    *(deaths(role, points, f"deaths_of_{role}") for role, points in FEW.items()), death_in_a_reload_to_other_addresses,
+)

@@ -1,4 +1,5 @@
 """Reloads: configurations, addresses, groups, numbers of workers, and what they roll back."""
+import concurrent.futures
 import os
 import pathlib
 import re
@@ -85,12 +86,15 @@ def more_and_less(site: Site) -> None:
 
 
 def no_workers(site: Site) -> None:
-    """WINCH: requests wait in the queue until TTIN gives a worker."""
-    site.begin()
+    """WINCH: requests wait in the queues of all addresses until TTIN gives a worker."""
+    site.begin(listeners=[site.first, site.second])
     site.wants("WINCH", 0, "done", 0)
-    # Longer than the keeper keeps an address that was dropped.
-    time.sleep(3)
-    site.wants("TTIN", 0, "done", 1)
+    with concurrent.futures.ThreadPoolExecutor() as pool:
+        waits = pool.submit(answer_of, site.second)
+        # Longer than the keeper keeps an address that was dropped.
+        time.sleep(3)
+        site.wants("TTIN", 0, "done", 1)
+        site.check("what waited at the second address was not answered", waits.result().startswith("version 1 "))
     site.wants("HUP", 0, "done", 2)
     site.end("1")
     site.certify()

@@ -331,10 +331,13 @@ class Site:
 
     def close(self) -> None:
         """Ends what still runs, by number."""
+        own = [started for started in (self.load, self.serve) if started]
+        for started in own:
+            # (a process that becomes another program at this very moment has no mark to be seen)
+            started.kill()
         self.mark.end_all()
-        for started in (self.load, self.serve):
-            if started:
-                started.wait()
+        for started in own:
+            started.wait()
         self.said.close()
 
 

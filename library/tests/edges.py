@@ -19,12 +19,21 @@ LARGE = 65_536
 
 def raw(*texts: bytes) -> tuple[int, str, str]:
     """A run over texts as they are."""
-    for which in range(6):
-        text = texts[which] if which < len(texts) else b""
+    for which, text in enumerate(texts):
         prefork.LIBRARY.prefork_give(which, text, len(text))
     told = (prefork.LIBRARY.prefork_run(), prefork.written(0), prefork.written(1))
     prefork.LIBRARY.prefork_forget()
     return told
+
+
+def certified(*goals: str) -> int:
+    """The status of `certify` of two reloads, of 2 workers to 3 and to 1, whose configurations are said to be these."""
+    blocks = prefork.enact(A, "workers = 3\n", "HUP").output
+    reload = ["fork 1.3 0 : forked", "await-ready 1.3 0 : ready", "census 1.3 : counted 0"]
+    reload += [*(f"quit 1.2 {number} : ok" for number in (2, 1, 0)), "census 1.3 : counted 0"]
+    calls = "".join(f"{number} m1 {call}\n" for number, call in enumerate(reload, 1))
+    text = f"{blocks}word HUP\n{calls}done cause none pid no-file\n"
+    return prefork.certify(A, goals[0], text, *goals[1:]).status
 
 
 def checks() -> Iterator[tuple[str, bool]]:
@@ -35,7 +44,9 @@ def checks() -> Iterator[tuple[str, bool]]:
     yield "an empty word", raw(b"prefork\0\0") == usage
     yield "a long word", raw(b"prefork\0" + b"x" * LARGE + b"\0") == usage
     yield "many words", raw(b"prefork\0enact\0" + b"TTIN\0" * 2_000)[1].count("word TTIN\n") == 2_000
-    yield "an unknown text is ignored", prefork.LIBRARY.prefork_give(6, b"x", 1) is None and prefork.version() != ""
+    for which in (-1, 2 + 2 * prefork.MOST_FILES):
+        yield f"text {which} is ignored", prefork.LIBRARY.prefork_give(which, b"x", 1) is None and prefork.version() != ""
+    yield "what was given is forgotten", raw(b"prefork\0check\0a\0", b"", b"a", b"workers = 2\n")[0] == 0 and raw(b"prefork\0check\0a\0")[0] == 1
     yield "a missing file", prefork.answer("check", "a").errors == "" and prefork.answer("check", "a").status == 1
     for name in ("a.tom", "a.tomlx", "", "A.toml"):
         yield f"{name!r} is another file", prefork.answer("check", name, files=[("a.toml", A)]).status == 1
@@ -48,6 +59,10 @@ def checks() -> Iterator[tuple[str, bool]]:
     yield "a large answer", len(prefork.enact("workers = 1000\n", "workers = 1000\n", "HUP", state=True).output) > LARGE
     yield "a small answer after it", prefork.version().startswith("prefork ")
     yield "both files", prefork.enact(A, "workers = 3\n", "HUP").status == 0
+    most = [(f"{number}.toml", f"workers = {number + 1}\n") for number in range(prefork.MOST_FILES)]
+    yield "as many files as there may be", prefork.answer("check", most[-1][0], files=most).status == 0
+    yield "three configurations", certified("workers = 3\n", "workers = 1\n") == 0
+    yield "another third one", certified("workers = 3\n", "workers = 4\n") == 5
     yield "the same file twice", prefork.answer("enact", "--from", "a", "--to", "a", "HUP", files=[("a", A)]).status == 0
 
 

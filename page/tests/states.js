@@ -57,7 +57,7 @@ const CHECKS = {
     const first = state.at ? after(state.words.slice(0, state.at)) : after([Asked.wordOf('beat 1023 0')]);
     const block = blocksOf(state, state.at + 1)[state.at];
     const tables = Tables.drawn(first, block.calls, Asked.inOrder(state.words[state.at].events));
-    return Tables.servers(tables[tables.length - 1]) === Tables.servers(after(state.words.slice(0, state.at + 1)));
+    return Tables.seen(tables[tables.length - 1]) === Tables.seen(after(state.words.slice(0, state.at + 1)));
   },
   'plan': (state, told) => {
     const [word] = state.words;

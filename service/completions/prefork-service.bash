@@ -38,7 +38,7 @@ _prefork_service() {
             mapfile -t COMPREPLY < <(compgen -W 'serves changes short stopped' -- "$cur")
             return
             ;;
-        --on-done | --on-rolled-back | --on-degraded | --on-short | --on-healed)
+        --on-done | --on-rolled-back | --on-degraded | --on-short | --on-healed | --ask)
             mapfile -t COMPREPLY < <(compgen -c -- "$cur")
             return
             ;;
@@ -46,17 +46,21 @@ _prefork_service() {
             mapfile -t COMPREPLY < <(compgen -W 'done' -- "$cur")
             return
             ;;
-        --listen | --workers | --wsgi | --trusted-proxy | --warm | --after-load | --after-fork | --records-size | --page | --socket-mode | --threads | --timeout | --keep | --answer-within | --ready-within | --probe | --probe-within | --probe-limit | --least | --env | --finish | --clients | --rate | --seconds | --patience | --path | --slow) return ;;
+        --after | --ask-within | --listen | --workers | --wsgi | --trusted-proxy | --warm | --after-load | --after-fork | --records-size | --page | --socket-mode | --threads | --timeout | --request-timeout | --hard-memory | --keep | --answer-within | --ready-within | --probe | --probe-within | --probe-limit | --least | --env | --finish | --clients | --rate | --seconds | --patience | --path | --slow) return ;;
     esac
     case ${COMP_WORDS[0]##*/} in
-        prefork-serve) 
-            if [[ " ${COMP_WORDS[*]:0:COMP_CWORD} " == *' -- '* ]]; then
+        prefork-serve)
+            # What follows -- is a program and its arguments.
+            if [[ $prev == -- ]]; then
+                mapfile -t COMPREPLY < <(compgen -c -- "$cur")
+                return
+            elif [[ " ${COMP_WORDS[*]:0:COMP_CWORD} " == *' -- '* ]]; then
                 compopt -o default
                 return
             fi
-            options='--folder --prefork --records --records-size --metrics --page --host --answer-within --defer-accept --socket-mode --socket-group --public --on-done --on-rolled-back --on-degraded --on-short --on-healed --check --init --keep-trying --plain-log --reload-on-change --listen --workers --wsgi --preload --python --threads --timeout --keep --trusted-proxy --access-log --access-form --chdir --warm --after-load --after-fork --ready --ready-within --probe --probe-within --probe-limit --stop --finish --usr1 --env --no-listen-fds --blocking --version --help'
+            options='--folder --prefork --records --records-size --metrics --page --host --answer-within --defer-accept --socket-mode --socket-group --public --on-done --on-rolled-back --on-degraded --on-short --on-healed --check --init --keep-trying --plain-log --reload-on-change --listen --workers --wsgi --preload --python --threads --timeout --request-timeout --hard-memory --keep --trusted-proxy --access-log --access-form --chdir --warm --after-load --after-fork --ready --ready-within --probe --probe-within --probe-limit --stop --finish --usr1 --env --no-listen-fds --blocking --version --help'
             ;;
-        prefork-ctl) options='--folder --json --wait --seconds --events --forbid --require --least --records --prefork --version --help' ;;
+        prefork-ctl) options='--folder --json --ask --no-ask --after --ask-within --wait --seconds --events --forbid --require --least --records --prefork --version --help' ;;
         prefork-checkworker) options='--path --slow --one --preload --patience --version --help' ;;
         prefork-load) options='--clients --rate --seconds --patience --path --again --json --version --help' ;;
         *) return ;;
@@ -66,7 +70,7 @@ _prefork_service() {
     elif [[ ${COMP_WORDS[0]##*/} == prefork-ctl ]]; then
         while ((at < COMP_CWORD)); do
             case ${COMP_WORDS[at]} in
-                --json | --version | --help) ;;
+                --json | --no-ask | --version | --help) ;;
                 -*) ((at++)) ;;
                 *) break ;;
             esac

@@ -50,6 +50,9 @@ class Serving(wsgi.Serving):
         self.is_told_to_finish = True
         os.kill(os.getpid(), signal.SIGTERM)
 
+    def give_up(self, seconds: float) -> list[str]:
+        return []
+
     def is_stuck(self, timeout: float) -> bool:
         return timeout > 0 and time.monotonic() - self.worker.turned > timeout
 
@@ -127,7 +130,7 @@ def main() -> None:
     set_title(f"worker {lifeline.name}")
     lifeline.fasten()
     os.environ["PREFORK_KEEPER"] = lifeline.keeper
-    wsgi.convention.NAME = lifeline.name
+    wsgi.convention.WORKER_NAME = lifeline.name
     cfg = application.cfg
     given = argparse.Namespace(application=sys.argv[-1], ready_within=60.0, timeout=cfg.timeout, finish=cfg.graceful_timeout)
     worker = Worker(given, Pipes())

@@ -14,9 +14,9 @@ from typing import Any
 COMBINED, JSON = "combined", "json"
 FORMS = (COMBINED, JSON)
 # How many bytes may wait for the disk, for how long lines are gathered, and how long it is waited for at USR1.
-MOST_WAITING, GATHER_SECONDS, REOPEN_SECONDS = 4 << 20, 0.2, 2.0
+MOST_LOG_WAITING, GATHER_SECONDS, REOPEN_SECONDS = 4 << 20, 0.2, 2.0
 # Others than the owner and the group have no business with the addresses of clients.
-MODE = 0o640
+LOG_MODE = 0o640
 # (those of the C language in any locale)
 MONTHS = ("Jan", "Feb", "Mar", "Apr", "May", "Jun", "Jul", "Aug", "Sep", "Oct", "Nov", "Dec")
 # What would end a field or a line is shown by its number.
@@ -24,7 +24,7 @@ ESCAPES = {number: f"\\x{number:02X}" for number in range(256) if not 32 <= numb
 
 
 @dataclasses.dataclass(frozen=True)
-class Answer:
+class LoggedAnswer:
     """An answer: to whom, to what, and how it was."""
 
     client: str
@@ -52,7 +52,7 @@ def whole(text: str) -> str:
     return text.encode("latin-1", "replace").decode("utf-8", "replace")
 
 
-def combined(answer: Answer) -> str:
+def combined(answer: LoggedAnswer) -> str:
     local = time.localtime(answer.moment)
     zone = f"{'-' if local.tm_gmtoff < 0 else '+'}{abs(local.tm_gmtoff) // 3600:02}{abs(local.tm_gmtoff) // 60 % 60:02}"
     moment = f"{local.tm_mday:02}/{MONTHS[local.tm_mon - 1]}/{local.tm_year}:{local.tm_hour:02}:{local.tm_min:02}:{local.tm_sec:02} {zone}"
@@ -61,7 +61,7 @@ def combined(answer: Answer) -> str:
         f'"{escaped(answer.referer)}" "{escaped(answer.agent)}"\n'
 
 
-def as_json(answer: Answer) -> str:
+def as_json(answer: LoggedAnswer) -> str:
     told: dict[str, Any] = dataclasses.asdict(answer)
     del told["moment"]
     told = {key: whole(value) if isinstance(value, str) else value for key, value in told.items()}
@@ -98,10 +98,10 @@ class AccessLog:
         self.is_hurried, self.is_torn = False, False
         threading.Thread(target=self.run, name="access log", daemon=True).start()
 
-    def note(self, answer: Answer) -> None:
+    def note(self, answer: LoggedAnswer) -> None:
         line = self.shape(answer).encode()
         with self.changed:
-            if self.waiting + len(line) > MOST_WAITING:
+            if self.waiting + len(line) > MOST_LOG_WAITING:
                 self.lost += 1
                 return
             self.lines.append(line)
@@ -132,7 +132,7 @@ class AccessLog:
             os.close(self.file)
         self.file = -1
         try:
-            self.file = os.open(self.path, os.O_WRONLY | os.O_APPEND | os.O_CREAT | os.O_CLOEXEC | os.O_NOCTTY, MODE)
+            self.file = os.open(self.path, os.O_WRONLY | os.O_APPEND | os.O_CREAT | os.O_CLOEXEC | os.O_NOCTTY, LOG_MODE)
             self.is_short = False
         except OSError as fault:
             self.complain(fault)

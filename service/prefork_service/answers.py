@@ -11,9 +11,10 @@ from typing import TYPE_CHECKING, Any
 
 from . import places
 from .burying import started
+from .configuration import file_of
 from .feed import NOTES
 from .folder import text_of
-from .recipes import Setup, file_of, setup_of, told_in
+from .recipes import Setup, setup_of, told_in
 from .refusing import mistake_of, refusal_of
 from .sockets import given_sockets
 from .toml_lines import line_of
@@ -23,8 +24,8 @@ if TYPE_CHECKING:
     from .watch import Watch
 
 # How long an asker may take to read its answer, and how many of them there may be.
-SECONDS, MOST_ASKERS, MOST_NOTES = 10.0, 512, 64
-MOST_BYTES, MOST_GIVEN = 4096, 128
+READ_SECONDS, MOST_ASKERS, MOST_NOTES = 10.0, 512, 64
+MOST_ASKED, MOST_GIVEN = 4096, 128
 # How much longer than its worker may take to be ready a trial may run.
 TRIAL_SECONDS = 90.0
 NOT_TRIED = "there is no worker to try: with --preload try is not possible"
@@ -35,7 +36,7 @@ class Asker:
 
     def __init__(self, client: socket.socket, number: int, text: str):
         self.client, self.number, self.text, self.unsaid = client, number, text, b""
-        self.until, self.is_answered = time.monotonic() + SECONDS, False
+        self.until, self.is_answered = time.monotonic() + READ_SECONDS, False
 
 
 class Answers:
@@ -48,7 +49,7 @@ class Answers:
         self.events.register(source, selectors.EVENT_READ, self.admit)
 
     def admit(self, source: socket.socket) -> None:
-        text, numbers = socket.recv_fds(source, MOST_BYTES, MOST_GIVEN)[:2]
+        text, numbers = socket.recv_fds(source, MOST_ASKED, MOST_GIVEN)[:2]
         given = given_sockets(numbers)
         if not text:
             self.events.unregister(source)
@@ -145,7 +146,7 @@ class Answers:
         environment = {**os.environ, "PYTHONPATH": str(places.HOME), "PYTHONDONTWRITEBYTECODE": "1"}
         section = os.memfd_create("trial")
         try:
-            os.write(section, file_of(setup.recipes, [one.words for one in setup.recipes]))
+            os.write(section, file_of(setup.groups(), [one.words for one in setup.recipes]))
             os.lseek(section, 0, os.SEEK_SET)
             streams: dict[str, Any] = {"stdin": section, "stdout": asker.client, "env": environment}
             asker.client.setblocking(True)

@@ -8,14 +8,16 @@ from typing import TYPE_CHECKING, Any
 
 from .door import Door
 from .folder import plain, say
-from .questions import ANSWERS, NOT_ASKED, STATE, state
+from .questions import ANSWERS, NOT_ASKED, STATE, Answer, answer_in, state
 from .sockets import file_of
 from .words import BRIEF, NOTE, SIGNALS, STATUS, TICK, TRY, WORDS, Word
 
 if TYPE_CHECKING:
     from .service import Service
 
-LONGEST, QUEUE = 64, 64
+LONGEST_QUESTION, DOOR_QUEUE = 4096, 64
+# The lines of an answer that the journal has.
+MOST_NOTED_LINES = 12
 NOTHING_ASKED = "nothing is asked: go and back answer an upgrade that asks, USR2 attended"
 NO_WATCH = "prefork-watch, which starts trials, does not answer just now"
 FAULT = "a fault in prefork-serve, which has logged it with its trace"
@@ -48,7 +50,7 @@ class Asking:
         words = self.service.folder.words
         listener.bind(str(words))
         os.chmod(words, 0o600)
-        listener.listen(QUEUE)
+        listener.listen(DOOR_QUEUE)
         self.file = file_of(str(words))
         return listener
 
@@ -71,7 +73,7 @@ class Asking:
 
     def hear_asker(self, asker: socket.socket) -> None:
         try:
-            text = asker.recv(LONGEST).decode().strip()
+            text = asker.recv(LONGEST_QUESTION).decode().strip()
         except (OSError, UnicodeDecodeError):
             text = ""
         word = Word(text, asker)
@@ -88,8 +90,8 @@ class Asking:
             service.take(word)
         elif text == BRIEF:
             word.answer(json.dumps(service.summary.brief()) + "\n")
-        elif text in ANSWERS:
-            self.answer(word)
+        elif given := answer_in(text):
+            self.answer(word, given)
         elif text in (STATUS, TRY):
             self.hand_over(word)
         elif text == STATE:
@@ -107,13 +109,16 @@ class Asking:
         else:
             word.answer(f"{NOTE}{NO_WATCH}\nword {word.text}\nrefused not-tried\n")
 
-    def answer(self, word: Word) -> None:
-        """Answers the question, if there is one."""
-        service = self.service
-        if not service.question:
+    def answer(self, word: Word, given: Answer) -> None:
+        """Answers the question, if there is one, and if it is the one that is meant."""
+        service, word.text = self.service, given.word
+        if not service.question or given.number not in (None, service.questions):
             word.answer(f"{NOTE}{NOTHING_ASKED}\nword {word.text}\n{NOT_ASKED}\n")
             return
         service.master.tell(ANSWERS[word.text])
-        say(f"question {service.question} is answered: {word.text}")
+        why = [plain(line) for line in given.why[:MOST_NOTED_LINES]]
+        service.note(f"question {service.question} is answered: {word.text}{f': {why[0]}' if why else ''}")
+        for line in why[1:]:
+            service.chronicle.journal.note(f"question {service.question}: {line}")
         word.answer(f"word {word.text}\nanswered {service.question} {word.text}\n")
         service.question = 0

@@ -11,9 +11,9 @@ from collections.abc import Callable
 from typing import Any
 
 # A source that fails this often within this time, in seconds, is closed.
-MOST_FAULTS, SECONDS = 5, 10.0
+MOST_FAULTS, FAULT_SECONDS = 5, 10.0
 # The same fault is told with its trace once in this time, and then how often it came again.
-TELL_SECONDS = 60.0
+FAULT_TELL_SECONDS = 60.0
 # The pause after a turn with a fault: what raises in each turn must not take the processor.
 REST_SECONDS = 0.05
 # How often in a row no event can be asked for, before the loop ends.
@@ -81,7 +81,7 @@ class Barrier:
         now = time.monotonic()
         faults = self.faults.setdefault(source, collections.deque(maxlen=MOST_FAULTS))
         faults.append(now)
-        if len(faults) < MOST_FAULTS or now - faults[0] > SECONDS:
+        if len(faults) < MOST_FAULTS or now - faults[0] > FAULT_SECONDS:
             return False
         del self.faults[source]
         return True
@@ -98,7 +98,7 @@ class Barrier:
     def once(self, text: str) -> None:
         """Says something once in a while, however often it comes."""
         now = time.monotonic()
-        if now - self.told.get(text, (now - TELL_SECONDS, 0))[0] >= TELL_SECONDS:
+        if now - self.told.get(text, (now - FAULT_TELL_SECONDS, 0))[0] >= FAULT_TELL_SECONDS:
             self.told[text] = now, 0
             self.say(text)
 
@@ -106,8 +106,8 @@ class Barrier:
         """Tells of a fault: with its trace, or how often it has come again."""
         self.count, self.has_failed, now = self.count + 1, True, time.monotonic()
         kind = f"{name}: {type(fault).__name__}: {fault}"
-        told, more = self.told.get(kind, (now - TELL_SECONDS, 0))
-        if now - told < TELL_SECONDS:
+        told, more = self.told.get(kind, (now - FAULT_TELL_SECONDS, 0))
+        if now - told < FAULT_TELL_SECONDS:
             self.told[kind] = told, more + 1
             return
         if len(self.told) >= MOST_KINDS:

@@ -6,15 +6,15 @@ from typing import Any
 
 from .hooks import EVENTS
 from .keys import KEYS
-from .quickly import ADDRESS, TIMEOUT, WORKERS
+from .quickly import ADDRESS, QUICK_TIMEOUT, WORKERS
 
-FILE = "site.toml"
-HEAD = """# A service of Prefork. prefork-serve {file} starts it, and prefork-ctl HUP goes over to this file as it is then.
+SITE_FILE = "site.toml"
+SITE_HEAD = """# A service of Prefork. prefork-serve {file} starts it, and prefork-ctl HUP goes over to this file as it is then.
 # prefork-serve --check {file} says what is wrong with it, and starts nothing. All keys: man prefork.toml
 
 # Where it serves, how many workers do, and after how many seconds without a sign of life a worker is replaced.
 """
-SERVICE = """
+SERVICE_TEXT = """
 # What runs. A reload changes all of it, and a rollback takes all of it back.
 [service]
 """
@@ -32,7 +32,7 @@ USUAL = (
     ("nice", "how much it gives way to others, and what it may have", 5),
     ("limits", "", {"nofile": 4096}),
 )
-OF_WSGI, OF_PROGRAM = ("threads", "timeout"), ("probe", "stop")
+EXAMPLES_OF_WSGI, EXAMPLES_OF_PROGRAM = ("threads", "timeout"), ("probe", "stop")
 VARIABLES = """
 # Its environment. The value of a secret is read from its file at each start.
 """
@@ -59,10 +59,11 @@ def keys_of(given: argparse.Namespace) -> dict[str, Any]:
     for name in ("ready", "stop", "usr1", "access_log", "access_form"):
         found |= {name: getattr(given, name)[-1]} if getattr(given, name) else {}
     found |= {"probe": given_probe[-1]} if given_probe else {}
-    for name in ("ready_within", "finish", "probe_within", "probe_limit", "threads", "timeout", "keep"):
+    for name in ("ready_within", "finish", "probe_within", "probe_limit", "threads", "timeout", "request_timeout", "keep"):
         found |= {name: number_of(getattr(given, name)[-1])} if getattr(given, name) else {}
     for name in ("trusted_proxy", "warm", "after_fork", "after_load"):
         found |= {name: getattr(given, name)} if getattr(given, name) else {}
+    found |= {"hard_memory": given.hard_memory} if given.hard_memory else {}
     found |= {"listen_fds": False} if given.no_listen_fds else {}
     found |= {"blocking": True} if given.blocking else {}
     found |= {"answer_within": given.answer_within} if given.answer_within is not None else {}
@@ -72,11 +73,11 @@ def keys_of(given: argparse.Namespace) -> dict[str, Any]:
 def text_of(given: argparse.Namespace, file: str) -> str:
     """The text of the file."""
     own = keys_of(given)
-    served = {"listeners": given.listen or [ADDRESS], "workers": given.workers or WORKERS, "timeout": TIMEOUT}
-    lines = [HEAD.format(file=file), *(f"{key} = {toml_of(value)}\n" for key, value in served.items()), SERVICE]
+    served = {"listeners": given.listen or [ADDRESS], "workers": given.workers or WORKERS, "timeout": QUICK_TIMEOUT}
+    lines = [SITE_HEAD.format(file=file), *(f"{key} = {toml_of(value)}\n" for key, value in served.items()), SERVICE_TEXT]
     lines += [f"{key} = {toml_of(value)}\n" for key, value in own.items()]
     for name, means, value in USUAL:
-        is_other = name in (OF_PROGRAM if given.wsgi else OF_WSGI)
+        is_other = name in (EXAMPLES_OF_PROGRAM if given.wsgi else EXAMPLES_OF_WSGI)
         if name not in own and not is_other:
             lines += [f"# {means[0].upper()}{means[1:]}.\n" if means else "", f"# {name} = {toml_of(value)}\n"]
     variables = dict(one.split("=", 1) for one in given.env)
@@ -90,7 +91,7 @@ def text_of(given: argparse.Namespace, file: str) -> str:
 
 def write(given: argparse.Namespace) -> str | None:
     """Writes the file; why not, if it can't."""
-    file = pathlib.Path(given.config or FILE)
+    file = pathlib.Path(given.config or SITE_FILE)
     try:
         with open(file, "x") as new:
             new.write(text_of(given, str(file)))

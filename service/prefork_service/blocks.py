@@ -17,12 +17,12 @@ RUNS, IS_BACK = (("done", ""), ("degraded", "target")), (("rolled-back", ""), ("
 WORD = "word "
 # After the answer comes what was counted or opened, or the reason that people are told.
 CALL = re.compile(r"(\d+) (m\d+) ([a-z0-9-]+)(?: (.*?))? : ([a-z-]+)(?: ([^:]+)|: (.+))?")
-OF_WORKER = re.compile(r"(\d+\.\d+)(?: (\d+))?(?: .*)?")
+ABOUT_WORKER = re.compile(r"(\d+\.\d+)(?: (\d+))?(?: .*)?")
 REPORT = re.compile(r"([a-z-]+)(?: (old|target) ([\d,]+))?(?: cause (\d+|none) pid \S+)?(.*)")
 BEAT = re.compile(r"beat (\d+) (\d+)")
 # A line of the log, one in which the master asks, and one of a child that it has killed.
 LOG = re.compile(r"\[[A-Z]+ +prefork\] (.*)")
-ASKS = re.compile(r"asks ([12]): .*")
+QUESTION_LINE = re.compile(r"asks ([12]): .*")
 KILLED = re.compile(r"killed (?:worker (\d+\.\d+) (\d+)|master \d+), process \d+: (.*)")
 # What prefork-launch calls a new master.
 NEW_MASTER = "adopt"
@@ -54,13 +54,13 @@ class Call:
     @property
     def generation(self) -> str:
         """That of the workers it is about; empty if it is about none."""
-        found = OF_WORKER.fullmatch(self.about)
+        found = ABOUT_WORKER.fullmatch(self.about)
         return found[1] if found else ""
 
     @property
     def worker(self) -> int | None:
         """The number of the worker that it is about."""
-        found = OF_WORKER.fullmatch(self.about)
+        found = ABOUT_WORKER.fullmatch(self.about)
         return int(found[2]) if found and found[2] else None
 
     @property
@@ -165,7 +165,7 @@ def logged(line: str) -> str | None:
 
 def question_in(text: str) -> int | None:
     """The question that a log says is asked."""
-    found = ASKS.fullmatch(text)
+    found = QUESTION_LINE.fullmatch(text)
     return int(found[1]) if found else None
 
 

@@ -16,15 +16,15 @@ from .processes import fields_of
 PR_SET_CHILD_SUBREAPER = 36
 # The process between an adapter and its program, which ends all that the program has started. How long it may take at a
 # stop, and how often it is looked.
-HOLDER, END_SECONDS, LOOK_SECONDS = "prefork-hold", 10.0, 0.01
+HOLDER, END_SECONDS, BURY_LOOK_SECONDS = "prefork-hold", 10.0, 0.01
 # Those that it has started itself, and waits for where it has started them.
-OWN: "weakref.WeakSet[subprocess.Popen]" = weakref.WeakSet()
+OWN_CHILDREN: "weakref.WeakSet[subprocess.Popen]" = weakref.WeakSet()
 
 
 def started(command: list[Any], **given: Any) -> subprocess.Popen:
     """Starts a process that its caller waits for."""
     process = subprocess.Popen(command, **given)
-    OWN.add(process)
+    OWN_CHILDREN.add(process)
     return process
 
 
@@ -36,7 +36,7 @@ def adopt_orphans() -> None:
 def bury_orphans() -> list[int]:
     """Buries the children that have ended and that it has not started itself; their numbers."""
     buried: list[int] = []
-    while (found := ended_child()) and found not in {process.pid for process in OWN if process.returncode is None}:
+    while (found := ended_child()) and found not in {process.pid for process in OWN_CHILDREN if process.returncode is None}:
         os.waitpid(found, 0)
         buried.append(found)
     return buried
@@ -57,7 +57,7 @@ def await_holders(seconds: float = END_SECONDS) -> list[int]:
     deadline = time.monotonic() + seconds
     while (found := holders()) and time.monotonic() < deadline:
         bury_orphans()
-        time.sleep(LOOK_SECONDS)
+        time.sleep(BURY_LOOK_SECONDS)
     return found
 
 

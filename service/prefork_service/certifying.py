@@ -1,4 +1,8 @@
-"""Records, certified: the parts of each master joined, and compared with plans and model by `prefork certify`."""
+"""Records, certified: the parts of each master joined, and compared with plans and model by `prefork certify`.
+
+A master that is started after the death of another one goes on with its service, on the sockets of the keeper: both are
+one life. What holds of it is read from what `prefork certify` says of each.
+"""
 import dataclasses
 import datetime
 import pathlib
@@ -8,13 +12,15 @@ import tempfile
 from typing import Any
 
 from .blocks import block_of, ends_block
-from .records import GAP, LOST, files_of, masters_in, part_number
-from .words import CHANGES
+from .records import DIED, GAP, LOST, files_of, masters_in, part_number
+from .words import CHANGES, START, is_tick
 
 NOT_ACCEPTED, NOT_COMPARED = 5, 1
 BEGINNING = "its beginning is no longer there"
 # How often the records of a master are read anew, since the service removes old parts meanwhile.
-MOST_TRIES = 5
+MOST_READINGS = 5
+# What `prefork certify` says of an address that was open in each table, and of missing workers that no word healed.
+OPEN, NOT_HEALED = re.compile(r"open throughout (\S+) least ready .*"), re.compile(r"short .* not healed")
 
 
 @dataclasses.dataclass
@@ -31,6 +37,28 @@ class Life:
     lacks: str
     # The blocks before which a new master had ended, as prefork-serve saw.
     lost: list[int]
+    # After how many blocks it died, as prefork-serve saw, and in the middle of which word.
+    died: tuple[int, str] | None
+
+
+@dataclasses.dataclass
+class Judgement:
+    """What `prefork certify` says of a master: which block it does not accept, or 0, and why; or why it compares nothing;
+    or what holds of all blocks."""
+
+    number: int = 0
+    why: str = ""
+    holds: list[str] = dataclasses.field(default_factory=list)
+
+
+@dataclasses.dataclass
+class Certified:
+    """What is said of a master, and the status; and what holds of its life, if all of its blocks are accepted."""
+
+    life: Life
+    text: str
+    status: int
+    holds: list[str] | None = None
 
 
 def lives_in(place: pathlib.Path) -> list[Life]:
@@ -40,7 +68,7 @@ def lives_in(place: pathlib.Path) -> list[Life]:
 
 def read_life(folder: pathlib.Path) -> Life | None:
     """What is there of a master; nothing if its folder has been removed."""
-    for tries in range(MOST_TRIES, -1, -1):
+    for tries in range(MOST_READINGS, -1, -1):
         try:
             return life_of(folder)
         except FileNotFoundError:
@@ -62,8 +90,10 @@ def life_of(folder: pathlib.Path) -> Life:
             break
         text += file.read_text()
     lost = [part_number(file) for file in files if file.name.startswith(LOST)]
+    died = [(part_number(file), file.read_text().strip()) for file in files if file.name.startswith(DIED)]
     first = begin.read_bytes() if begin in files else None
-    return Life(folder.name, since(begin if begin in files else folder), first, blocks_of(text), dict(sorted(targets.items())), lacks, lost)
+    name, moment, goals = folder.name, since(begin if begin in files else folder), dict(sorted(targets.items()))
+    return Life(name, moment, first, blocks_of(text), goals, lacks, lost, max(died, default=None))
 
 
 def since(file: pathlib.Path) -> str:
@@ -75,7 +105,7 @@ def blocks_of(text: str) -> list[str]:
     found, block = [], ""
     for line in text.splitlines(keepends=True):
         block += line
-        if ends_block(line):
+        if line.endswith("\n") and ends_block(line):
             found.append(block)
             block = ""
     return found
@@ -107,22 +137,34 @@ def target_at(life: Life, number: int) -> bytes:
     return read[-1] if read else life.begin or b""
 
 
-def certified(life: Life, prefork: str) -> tuple[str, int]:
+def certified(life: Life, prefork: str) -> Certified:
     """What certify says of a master, and the status: 0 if all that was compared is accepted."""
     head = f"{life.name}, since {life.since}"
     if life.lacks.startswith(BEGINNING):
-        return f"{head}: {life.lacks}; {len(life.blocks)} blocks are not compared", 0
+        return Certified(life, f"{head}: {life.lacks}; {len(life.blocks)} blocks are not compared", 0)
     found = answered(life, prefork)
-    if isinstance(found, tuple) and found[0] in life.lost:
+    if found.number in life.lost:
         # What the model has no master's death for. The next master has a record of its own.
-        return f"{head}: {counted(found[0] - 1)}, from the first on{ended_before(life, found[0])}", 0
-    if isinstance(found, tuple):
-        word = life.blocks[found[0] - 1].splitlines()[0]
-        return f"{head}: block {found[0]}, {word}, is not accepted: {found[1]}", NOT_ACCEPTED
-    if found:
-        return f"{head}: nothing was compared: {found}", NOT_COMPARED
-    told = f"{head}: {counted(len(life.blocks))}, from the first on"
-    return f"{told}; {life.lacks}" if life.lacks else told, 0
+        told = f"{head}: {counted(found.number - 1)}, from the first on{ended_before(life, found.number)}"
+        before = answered(dataclasses.replace(life, blocks=life.blocks[: found.number - 1]), prefork)
+        return Certified(life, "\n  ".join([told, *before.holds]), 0, before.holds)
+    if found.number:
+        word = life.blocks[found.number - 1].splitlines()[0]
+        return Certified(life, f"{head}: block {found.number}, {word}, is not accepted: {found.why}", NOT_ACCEPTED)
+    if found.why:
+        return Certified(life, f"{head}: nothing was compared: {found.why}", NOT_COMPARED)
+    told = f"{head}: {counted(len(life.blocks))}, from the first on{dead(life)}"
+    told = f"{told}; {life.lacks}" if life.lacks else told
+    return Certified(life, "\n  ".join([told, *found.holds]), 0, None if life.lacks else found.holds)
+
+
+def dead(life: Life) -> str:
+    """What is said of a master that has died."""
+    if not life.died:
+        return ""
+    word = life.died[1]
+    place = "at its start" if word == START else "in a tick" if is_tick(word) else f"in {word}" if word else "between two words"
+    return f"; then the master died, {place}"
 
 
 def counted(blocks: int) -> str:
@@ -135,23 +177,31 @@ def ended_before(life: Life, number: int) -> str:
     return f"; before block {number}, {word}, the new master had ended. The service saw that, and started the next master"
 
 
-def answered(life: Life, prefork: str) -> tuple[int, str] | str:
-    """The number of the block that `prefork certify` does not accept, and why; or why it compares nothing; or nothing."""
+def answered(life: Life, prefork: str) -> Judgement:
+    """What `prefork certify` says of a master. Blocks have their numbers in the record."""
     chosen = [(number, block) for number, block in enumerate(life.blocks, 1) if not is_refused(block)]
     with tempfile.TemporaryDirectory(prefix="certify-") as room:
         begin, files = pathlib.Path(room) / "from.toml", goal_files(pathlib.Path(room), goals_of(life))
         begin.write_bytes(life.begin or b"")
         goals = [argument for file in files for argument in ("--to", file)]
-        command: list[Any] = [prefork, "certify", "--bare", "--from", begin, *goals]
+        command: list[Any] = [prefork, "certify", "--bare", "--from", begin, "--life", *goals]
         text = "".join(block for _, block in chosen)
         try:
             found = subprocess.run(command, input=text, capture_output=True, text=True)
         except OSError as fault:
-            return f"{prefork}: {fault.strerror}"
+            return Judgement(why=f"{prefork}: {fault.strerror}")
     said = re.match(r"prefork: certify (\d+) (.*)", found.stderr)
     if said:
-        return chosen[int(said[1]) - 1][0], said[2]
-    return found.stderr.strip() or f"status {found.returncode}" if found.returncode else ""
+        return Judgement(chosen[int(said[1]) - 1][0], said[2])
+    if found.returncode:
+        return Judgement(why=found.stderr.strip() or f"status {found.returncode}")
+    return Judgement(holds=held_in(found.stdout, [number for number, _ in chosen]))
+
+
+def held_in(text: str, numbers: list[int]) -> list[str]:
+    """What holds of all blocks: the lines of a life after its first, with the numbers that the blocks have in the record."""
+    lines = text.partition("life words ")[2].splitlines()[1:]
+    return [re.sub(r"\bword (\d+)", lambda found: f"block {numbers[int(found[1]) - 1]}", line) for line in lines]
 
 
 def goal_files(room: pathlib.Path, goals: list[bytes]) -> list[pathlib.Path]:
@@ -163,10 +213,38 @@ def goal_files(room: pathlib.Path, goals: list[bytes]) -> list[pathlib.Path]:
 
 
 def certify(place: pathlib.Path, prefork: str) -> tuple[list[str], int]:
-    """What certify says of each master, oldest first, and the gravest status."""
+    """What certify says of each master, oldest first, and of each life of several masters; and the gravest status."""
     lives = lives_in(place)
     if not lives:
         return [f"{place}: no records"], NOT_COMPARED
     found = [certified(life, prefork) for life in lives]
     is_compared = any(not life.lacks.startswith(BEGINNING) for life in lives)
-    return [text for text, _ in found], max(status for _, status in found) if is_compared else NOT_COMPARED
+    lines = [line for group in groups_of(found) for line in [*(one.text for one in group), *joined(group)]]
+    return lines, max(one.status for one in found) if is_compared else NOT_COMPARED
+
+
+def groups_of(found: list[Certified]) -> list[list[Certified]]:
+    """The masters of each life: each but the last has died, and the next one goes on from there."""
+    groups, goes_on = list[list[Certified]](), False
+    for one in found:
+        if goes_on:
+            groups[-1].append(one)
+        else:
+            groups.append([one])
+        goes_on = one.life.died is not None
+    return groups
+
+
+def joined(group: list[Certified]) -> list[str]:
+    """What holds of a life of several masters. Between two of them the keeper has the sockets, and the next one takes them:
+    an address that is open throughout each part is open throughout the whole. Missing workers of one that has died are
+    healed by a later master, of which no worker is missing."""
+    if len(group) < 2 or any(one.holds is None for one in group):
+        return []
+    parts = [one.holds or [] for one in group]
+    opened = [[found[1] for line in part if (found := OPEN.fullmatch(line))] for part in parts]
+    kept = [address for address in opened[0] if all(address in others for others in opened)]
+    is_short = any(NOT_HEALED.fullmatch(line) for line in parts[-1])
+    head = f"{group[0].life.name} to {group[-1].life.name} are one life, if the keeper kept the sockets"
+    ends = "it ends with missing workers" if is_short else "it ends without missing workers"
+    return [f"{head}: open throughout {', '.join(kept) or 'none'}; {ends}"]

@@ -5,8 +5,8 @@ import pathlib
 import re
 
 # A path in the text of a fault, how many files are looked at, and how often a change of one is news while workers fail.
-PATH = re.compile(rb"/[^\s\"'():,;<>\0]+")
-MOST_FILES, MOST_CHANGES = 64, 8
+PATH_IN_TEXT = re.compile(rb"/[^\s\"'():,;<>\0]+")
+MOST_CHANGED_FILES, MOST_CHANGES = 64, 8
 # A setting of workers whose value is read from a file.
 READS = b"\1read "
 
@@ -47,9 +47,9 @@ class Changed:
                 text = file.read_bytes()
             except OSError:
                 continue
-            words = [of_setting(word) for word in text.split(b"\0")] if file.name == "next" else PATH.findall(text)
+            words = [of_setting(word) for word in text.split(b"\0")] if file.name == "next" else PATH_IN_TEXT.findall(text)
             found |= {place / os.fsdecode(word) for word in words if word and len(word) < 4096}
-        return set(sorted(filter(is_file, found))[:MOST_FILES])
+        return set(sorted(filter(is_file, found))[:MOST_CHANGED_FILES])
 
     def take(self, workers: list[str]) -> None:
         """Takes the files as they are now."""

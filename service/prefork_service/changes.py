@@ -16,10 +16,10 @@ from .folder import say
 
 CLOSE_WRITE, MOVED_FROM, MOVED_TO, CREATE, DELETE = 0x8, 0x40, 0x80, 0x100, 0x200
 WATCHED = CLOSE_WRITE | MOVED_FROM | MOVED_TO | CREATE | DELETE
-OVERFLOW, IGNORED, IS_FOLDER = 0x4000, 0x8000, 0x40000000
-HEAD = struct.Struct("iIII")
+OVERFLOW, NO_LONGER_WATCHED, IS_FOLDER = 0x4000, 0x8000, 0x40000000
+EVENT_HEAD = struct.Struct("iIII")
 # How long nothing more may have changed.
-QUIET_SECONDS, MOST_BYTES = 0.3, 65536
+QUIET_SECONDS, MOST_EVENT_BYTES = 0.3, 65536
 
 
 def hup() -> None:
@@ -68,16 +68,16 @@ class Changes:
             self.watch(path, None)
 
     def hear(self, _: int) -> None:
-        got, at = os.read(self.number, MOST_BYTES), 0
+        got, at = os.read(self.number, MOST_EVENT_BYTES), 0
         while at < len(got):
-            watch, mask, _, length = HEAD.unpack_from(got, at)
-            name = os.fsdecode(got[at + HEAD.size : at + HEAD.size + length].rstrip(b"\0"))
+            watch, mask, _, length = EVENT_HEAD.unpack_from(got, at)
+            name = os.fsdecode(got[at + EVENT_HEAD.size : at + EVENT_HEAD.size + length].rstrip(b"\0"))
             self.note(watch, mask, name)
-            at += HEAD.size + length
+            at += EVENT_HEAD.size + length
 
     def note(self, watch: int, mask: int, name: str) -> None:
         """Takes an event: of a folder that is watched, or that some were lost."""
-        if mask & IGNORED:
+        if mask & NO_LONGER_WATCHED:
             self.folders.pop(watch, None)
             return
         folder, names = self.folders.get(watch, (pathlib.Path(), set()))

@@ -10,10 +10,10 @@ import uuid
 
 from . import places
 from .checkworker import Bench, NotLoaded, free_address, is_fault
-from .conversation import MARK, RUNS, Conversation, marked
+from .conversation import CHECKED_WORKER, RUNS_ON, Conversation, marked
 from .processes import fields_of
 
-QUEUE = 128
+CHECKED_QUEUE = 128
 
 
 def leads_to(process: int | str, number: int | str) -> str:
@@ -43,9 +43,9 @@ class PreloaderBench(Bench):
         self.place, self.files = room / "fork.sock", dict[str, pathlib.Path]()
         self.fork_socket = socket.socket(socket.AF_UNIX, socket.SOCK_SEQPACKET)
         self.fork_socket.bind(str(self.place))
-        self.fork_socket.listen(QUEUE)
+        self.fork_socket.listen(CHECKED_QUEUE)
         mark, number = uuid.uuid4().hex, self.fork_socket.fileno()
-        environment = {**os.environ, MARK: mark, "PREFORK_FORK_SOCKET": str(number), "PREFORK_FOLDER": str(room)}
+        environment = {**os.environ, CHECKED_WORKER: mark, "PREFORK_FORK_SOCKET": str(number), "PREFORK_FOLDER": str(room)}
         self.preloader = Conversation(given.command, environment, mark, [number])
         self.talks.append(self.preloader)
 
@@ -136,5 +136,5 @@ def check_end(bench: PreloaderBench) -> None:
     bench.point("its worker serves on then", talk.hear(bench.answer), "pong")
     bench.point("it stays for its worker", preloader.process.poll(), None)
     talk.say("quit")
-    bench.point("it ends after its last worker", preloader.wait(bench.patience), lambda status: status != RUNS)
+    bench.point("it ends after its last worker", preloader.wait(bench.patience), lambda status: status != RUNS_ON)
     bench.nothing_left("after its end", talk)

@@ -27,11 +27,11 @@ from typing import Any
 
 from . import VERSION, places
 from .addresses import host_and_port
-from .conversation import END, MARK, RUNS, Conversation, marked
+from .conversation import END, CHECKED_WORKER, RUNS_ON, Conversation, marked
 from .options import fault_of
 
 # How long a worker may take to load and to finish, and at most to answer a line or a request.
-PATIENCE, ANSWER_SECONDS = 45.0, 10.0
+CHECK_PATIENCE, CHECKED_ANSWER_SECONDS = 45.0, 10.0
 # Below the ports that the system gives to outgoing connections.
 PORTS = range(15000, 32000)
 LEAST_BACKLOG = 511
@@ -88,7 +88,7 @@ def is_answer(line: str) -> bool:
 
 
 def is_fault(status: object) -> bool:
-    return status not in (0, RUNS)
+    return status not in (0, RUNS_ON)
 
 
 class NotReady(Exception):
@@ -105,7 +105,7 @@ class Bench:
     def __init__(self, given: argparse.Namespace, room: pathlib.Path):
         self.given, self.room, self.passed, self.failed = given, room, 0, 0
         self.talks: list[Conversation] = []
-        self.patience, self.answer = given.patience, min(given.patience, ANSWER_SECONDS)
+        self.patience, self.answer = given.patience, min(given.patience, CHECKED_ANSWER_SECONDS)
         self.path = room / "keeper.sock"
         self.keeper: Any = subprocess.Popen([places.KEEPER, self.path], stdin=subprocess.PIPE, start_new_session=True)
         while not self.path.exists() and self.keeper.poll() is None:
@@ -130,7 +130,7 @@ class Bench:
     def started(self, *addresses: str, go: bool = True, keeper: str = "") -> Conversation:
         """A worker that was told its addresses."""
         mark = uuid.uuid4().hex
-        environment = {**os.environ, MARK: mark, "PREFORK_KEEPER": keeper or str(self.path), **self.more(mark)}
+        environment = {**os.environ, CHECKED_WORKER: mark, "PREFORK_KEEPER": keeper or str(self.path), **self.more(mark)}
         talk = Conversation(self.command(), environment, mark)
         self.talks.append(talk)
         talk.say("worker 1.1 0 7", *(f"listener {address}" for address in addresses))
@@ -277,7 +277,7 @@ def check_ends(bench: Bench) -> None:
     talk.process.stdout.close()
     talk.say("go")
     talk.process.stdin.close()
-    bench.point("if the master has gone before go, it ends", talk.wait(bench.patience), lambda status: status != RUNS)
+    bench.point("if the master has gone before go, it ends", talk.wait(bench.patience), lambda status: status != RUNS_ON)
     bench.nothing_left("after that", talk)
 
 
@@ -333,8 +333,8 @@ def arguments() -> argparse.Namespace:
     parser.add_argument("--slow", metavar="PATH", help="a page that takes a second or more")
     parser.add_argument("--one", action="store_true", help="tell it one address at a time")
     parser.add_argument("--preload", action="store_true", help="it is a preloader: check it, and the workers that it forks")
-    patience = f"how long it may take to load, and to finish ({PATIENCE:g})"
-    parser.add_argument("--patience", type=float, default=PATIENCE, metavar="SECONDS", help=patience)
+    patience = f"how long it may take to load, and to finish ({CHECK_PATIENCE:g})"
+    parser.add_argument("--patience", type=float, default=CHECK_PATIENCE, metavar="SECONDS", help=patience)
     parser.add_argument("command", nargs=argparse.REMAINDER, metavar="COMMAND")
     given = parser.parse_args()
     given.command = given.command[1:] if given.command[:1] == ["--"] else given.command

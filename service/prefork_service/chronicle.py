@@ -13,13 +13,13 @@ from .records import MEGABYTE, Records, is_quiet
 from .words import is_routine, is_tick
 
 # The bytes that the blocks may take together.
-MOST_BYTES = 32 * MEGABYTE
+MOST_RECORD_BYTES = 32 * MEGABYTE
 
 
 class Chronicle:
     """The records of a service, its journal, and the reasons that no block has been explained by yet."""
 
-    def __init__(self, folder: Folder, place: pathlib.Path, most: int = MOST_BYTES):
+    def __init__(self, folder: Folder, place: pathlib.Path, most: int = MOST_RECORD_BYTES):
         self.records = Records(place / "records", folder.blocks, most)
         self.journal, self.reasons = Journal(place / "journal"), Reasons(folder.reasons)
         self.errors = LastLines(folder.path / "errors")
@@ -29,8 +29,13 @@ class Chronicle:
         self.began, self.moment = "", 0.0
         # Reasons that no block has been explained by yet.
         self.noted: dict[str, str] = {}
+        # In which word the master has died that the next one follows; None if none has.
+        self.died: str | None = None
 
     def begin_master(self, configuration: bytes, process: int) -> None:
+        if self.died is not None:
+            self.records.mark_death(self.died)
+            self.died = None
         self.records.begin(configuration)
         self.journal.note(f"master {process} starts; its blocks are in {self.records.folder()}")
 
@@ -67,6 +72,10 @@ class Chronicle:
         self.noted = {}
         told = {"word": word, "began": self.began or wall_clock(), "seconds": time.monotonic() - self.moment, "block": block}
         return {**told, "noted": noted, "errors": errors, "is_noted": not is_late or not self.journal.repeats}
+
+    def end_master(self, word: str) -> None:
+        """The master has died, in the middle of this word, or between two. That is marked once the next one goes on."""
+        self.died = word
 
     def cut_word(self, word: str, lines: list[str]) -> None:
         """The master has ended in the middle of a word, after these lines of its block."""

@@ -5,13 +5,13 @@ import socket
 import sys
 import time
 
-from .folder import OF_WORKER, Folder, files_in, remove_all, say
+from .folder import WORKER_OR_ENDED, Folder, files_in, remove_all, say
 from .inheriting import Heritage, heritage_at
 
 # How long the processes of a service that was killed may take to end: longer than a worker finishes what it serves.
 LEAVE_SECONDS = 35
 # What an earlier version left in a folder, which made no mark.
-EARLIER = re.compile(r"journal(\.\d)?|records|blocks|(accepted|config|next)\.toml|serve\.pid|(ctl|keeper)\.sock|reasons|"
+EARLIER_FILES = re.compile(r"journal(\.\d)?|records|blocks|(accepted|config|next)\.toml|serve\.pid|(ctl|keeper)\.sock|reasons|"
                      r"workers|commands|(worker|template|preloader)\..+|\.\d+|\.blocks")
 # The path of a socket has 107 bytes at most, and its name in the folder some of them.
 LONGEST_PATH = 90
@@ -39,7 +39,7 @@ class ClaimedFolder(Folder):
         """Whether the folder has the mark of a service, is empty, or has what an earlier version has left, which made no
         mark."""
         names = {file.name for file in files_in(self.path)}
-        is_earlier = "journal" in names and all(EARLIER.fullmatch(name) for name in names)
+        is_earlier = "journal" in names and all(EARLIER_FILES.fullmatch(name) for name in names)
         return self.mark.exists() or not names or is_earlier
 
     def claim(self) -> None:
@@ -59,7 +59,7 @@ class ClaimedFolder(Folder):
         self.heritage = heritage_at(self.keeper)
         for left in (self.words, *([] if self.heritage.connection else [self.keeper]), *self.path.glob("preloader.*")):
             left.unlink(missing_ok=True)
-        remove_all(self.workers, OF_WORKER)
+        remove_all(self.workers, WORKER_OR_ENDED)
         self.write_own()
 
     def clear(self) -> None:

@@ -67,7 +67,7 @@ def clear_environment() -> None:
 
 
 # Where a worker notes why it ends, for the service, and its name there: the environment loses both.
-FOLDER, NAME = os.environ.get("PREFORK_FOLDER"), os.environ.get("PREFORK_WORKER")
+FOLDER, WORKER_NAME = os.environ.get("PREFORK_FOLDER"), os.environ.get("PREFORK_WORKER")
 
 
 class Survival:
@@ -75,7 +75,7 @@ class Survival:
     is gone, or nobody has touched it for some seconds."""
 
     def __init__(self, seconds: float):
-        self.path, self.seconds = f"{FOLDER}/survivors/{NAME}.{os.getpid()}", seconds
+        self.path, self.seconds = f"{FOLDER}/survivors/{WORKER_NAME}.{os.getpid()}", seconds
         self.touched, self.seen = 0, time.monotonic()
 
     def begins(self) -> bool:
@@ -146,11 +146,11 @@ def is_known_late() -> bool:
 
 
 def generation() -> str:
-    return (NAME or "").rpartition(".")[0]
+    return (WORKER_NAME or "").rpartition(".")[0]
 
 
 def warn(text: str) -> None:
     print(f"worker {os.getpid()}: {text}", file=sys.stderr, flush=True)
-    if not FOLDER or not NAME:
+    if not FOLDER or not WORKER_NAME:
         return
-    append(REASONS, f"{NAME} {text}".replace("\n", " ").encode()[:1000] + b"\n")
+    append(REASONS, f"{WORKER_NAME} {text}".replace("\n", " ").encode()[:1000] + b"\n")

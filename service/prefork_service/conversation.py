@@ -7,13 +7,13 @@ import time
 from collections.abc import Sequence
 from typing import Any
 
-MARK = "CHECKED_WORKER"
-NOTHING, END, RUNS = "(nothing)", "(the end of its output)", "(it runs on)"
+CHECKED_WORKER = "CHECKED_WORKER"
+NO_OUTPUT, END, RUNS_ON = "(nothing)", "(the end of its output)", "(it runs on)"
 
 
 def marked(mark: str) -> list[int]:
     """The processes that carry a mark in their environment."""
-    wanted, found = f"{MARK}={mark}".encode(), []
+    wanted, found = f"{CHECKED_WORKER}={mark}".encode(), []
     for folder in pathlib.Path("/proc").iterdir():
         try:
             if folder.name.isdigit() and wanted in (folder / "environ").read_bytes().split(b"\0"):
@@ -45,7 +45,7 @@ class Conversation:
         while b"\n" not in self.unread:
             left = max(0.0, deadline - time.monotonic())
             if not select.select([self.process.stdout], [], [], left)[0]:
-                return NOTHING
+                return NO_OUTPUT
             got = os.read(self.process.stdout.fileno(), 4096)
             if not got:
                 return END
@@ -68,7 +68,7 @@ class Conversation:
         try:
             return self.process.wait(seconds)
         except subprocess.TimeoutExpired:
-            return RUNS
+            return RUNS_ON
 
     def close(self) -> None:
         self.process.kill()

@@ -1,7 +1,7 @@
 """The core of prefork-serve: what must not die. Words in their order, the master, the keeper, limits and records.
 
 It is the same process that has read the command line, and it has none of that any more: it opens no network port, starts no
-process that it waits for, and reads no text of an operator but the configuration. All else is told by prefork-watch.
+process that it waits for, and reads no text of an operator: prefork-read does that. All else is told by prefork-watch.
 """
 import contextlib
 import functools
@@ -17,13 +17,12 @@ from .barrier import Barrier, Broken
 from .burying import adopt_orphans
 from .chronicle import Chronicle
 from .commands import Commands
+from .configuration import configuration_in
 from .errors import take_standard
 from .folder import Folder, say
 from .holding import Unfit
 from .keeping import Keeping
-from .named import addresses_of
-from .packets import ENDS
-from .recipes import told_in
+from .packets import Packet
 from .service import Service
 from .starting import settings_of, take_signals
 from .systemd import notify
@@ -35,7 +34,7 @@ if TYPE_CHECKING:
 # What is added to an address that its user may not have.
 LOW = 1024
 ADVICE = ". A port below 1024 needs a socket of systemd (prefork@NAME.socket), or CAP_NET_BIND_SERVICE"
-Settings = dict[str, Any]
+Given = dict[str, Any]
 
 
 def sockets_of(told: dict[str, int]) -> dict[str, socket.socket]:
@@ -51,7 +50,7 @@ def end_earlier(number: int) -> None:
     """The keeper of a killed service, which has given its sockets over this connection, may end."""
     if number >= 0:
         with contextlib.suppress(OSError), socket.socket(fileno=number) as keeper:
-            keeper.send(ENDS.encode())
+            keeper.send(Packet.ENDS.encode())
 
 
 def fault_shown(fault: str) -> str:
@@ -69,7 +68,7 @@ def preloading_of(keeping: Keeping, seconds: float, ends: list[Callable[[], Any]
     return made
 
 
-def begin(settings: Settings, folder: Folder, commands: Commands, ends: list[Callable[[], Any]]) -> Service:
+def begin(settings: Given, folder: Folder, commands: Commands, ends: list[Callable[[], Any]]) -> Service:
     """Starts a service: its keeper, its addresses, and what is there beside them only if it is asked for."""
     place, told = pathlib.Path(settings["place"]), settings["told"]
     stored, inherited = sockets_of(settings["stored"]), sockets_of(settings["inherited"])
@@ -78,14 +77,14 @@ def begin(settings: Settings, folder: Folder, commands: Commands, ends: list[Cal
     end_earlier(settings["heir"])
     chronicle = Chronicle(folder, place, settings["records_bytes"])
     ends.insert(1, chronicle.end)
-    if wanted := keeping.wanted(commands.now_text):
-        wanted.begin(commands.now_text)
-    keeping.hold(addresses_of(commands.now_text))
+    if wanted := keeping.wanted(commands.current):
+        wanted.begin(commands.current)
+    keeping.hold([*commands.current.addresses])
     adopt_orphans()
-    commands.most_seconds, commands.told_hooks = settings["most_seconds"], settings["hooks"]
+    commands.told_hooks = settings["hooks"]
     commands.preloads = functools.partial(preloading_of, keeping, told["ready_seconds"], ends)
     service = Service(keeping, settings["supervise"], commands, chronicle, settings["limits"], told)
-    ends.insert(0, service.feed.end)
+    ends[:0] = [service.reading.end, service.feed.end]
     if settings["watched"]:
         from .changes import Changes
         service.changes = Changes(keeping.events, settings["watched"], [folder.path, place])
@@ -93,14 +92,14 @@ def begin(settings: Settings, folder: Folder, commands: Commands, ends: list[Cal
     return service
 
 
-def serve(settings: Settings) -> int:
+def serve(settings: Given) -> int:
     """Serves until the service is told to stop; the status."""
     folder = Folder(settings["folder"], settings["lock"])
     ends: list[Callable[[], Any]] = [folder.clear]
     try:
         # (a stop that came while it became the core ends it here, and what was made is removed)
         take_signals()
-        commands = Commands(folder, settings["config"], told_in(settings["told"]["told"]), settings["text"].encode("latin-1"))
+        commands = Commands(folder, settings["config"], configuration_in(settings["configuration"]))
         ends.insert(0, commands.clear)
         service = begin(settings, folder, commands, ends)
         status = service.run()

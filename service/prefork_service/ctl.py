@@ -1,4 +1,5 @@
 """prefork-ctl [--folder F] [--json] [WORD]
+prefork-ctl [--folder F] [--json] [--ask COMMAND | --no-ask] [--after SECONDS] [--ask-within SECONDS] "USR2 attended"
 prefork-ctl [--folder F] [--json] [--wait STATE] [--seconds N] status
 prefork-ctl [--folder F] tick | top
 prefork-ctl [--folder F] [--json] try HUP
@@ -9,8 +10,8 @@ prefork-ctl [--folder F] [--records FOLDER] [--prefork PROGRAM] [--json] certify
 Sends a word to the service in the folder F (`run`, or that of the only unit): HUP, USR1, USR2, "USR2 attended", WINCH,
 TTIN, TTOU, QUIT, INT or TERM, in capitals or not; `reload`, `upgrade`, `log-rotate` and `stop` are HUP, USR2, USR1 and
 QUIT. It waits for what comes of it, prints that block and, on standard error, why calls of it failed and what runs now.
-Meanwhile it shows for how long, and how many new and old workers run: at a terminal in a line that moves, elsewhere in one
-each ten seconds.
+Meanwhile it shows for how long, how many new and old workers run, what is waited for, and for how long: at a terminal in a
+line that moves, elsewhere in one each ten seconds.
 It ends with the status of the report:
 
     0   done, or nothing was asked for
@@ -22,6 +23,11 @@ It ends with the status of the report:
 "USR2 attended" is an upgrade that asks twice: while the old and the new workers serve, and once the new ones serve
 alone. `go` goes on and `back` goes back; if nothing is asked, they are refused as not-asked. Without a word prefork-ctl
 prints whether the service asks, which question, and what to look at.
+
+With --ask COMMAND a command answers each question: it runs once the question was asked for --after SECONDS (10), with the
+processes and addresses of both generations in its environment and on its input. Its status 0 is `go`, and any other is
+`back`; so is a command that can't be started, or that takes longer than --ask-within SECONDS (60). If an operator answers by
+hand before, that counts. After ^C the question is left to you. SIGTERM and SIGHUP let it go back. See prefork-ctl(1).
 
 `status` prints who runs: addresses, workers with their processes, ages and last beats, the masters and the keeper, the
 last word, its report and why it went wrong, and what is being done now.
@@ -57,7 +63,8 @@ import time
 from collections.abc import Callable, Iterator
 from typing import Any
 
-from . import VERSION
+from . import VERSION, answering
+from .answering import Answering, Reached
 from .blocks import ends_block, report_of
 from .certifying import certify
 from .errors import take_standard
@@ -73,19 +80,19 @@ from .top import show
 from .words import BRIEF, NOTE, STATUS, TOP, TRY, WORDS
 
 # How long a status may take, and how long is waited for the reasons of a word whose block has come.
-STATUS_SECONDS, NOTES_SECONDS, LONGEST = 20.0, 15.0, 65536
+STATUS_SECONDS, NOTES_SECONDS, LONGEST_ANSWER = 20.0, 15.0, 65536
 # How long a service that starts may take until it listens, when that is said, and how often it is looked.
-START_SECONDS, TELL_SECONDS, PAUSE_SECONDS = 60.0, 1.0, 0.02
+CTL_START_SECONDS, CTL_TELL_SECONDS, CTL_PAUSE_SECONDS = 60.0, 1.0, 0.02
 ENDED = "the service has ended before it answered"
 ONLY_BRIEF = "this is the status in short: prefork-watch, which tells it in full, does not answer just now"
-ENDS = {"failed": 3, "done": 0, "nothing": 0, "answered": 0, "rolled-back": 3, "degraded": 4, "unread": 2}
+STATUSES = {"failed": 3, "done": 0, "nothing": 0, "answered": 0, "rolled-back": 3, "degraded": 4, "unread": 2}
 
 
 def asked(
-    folder: str, word: str, seconds: float | None = None, say: Callable[[str], None] = complain
+    folder: str, word: str, seconds: float | None = None, say: Callable[[str], None] = complain, answers: Answering | None = None,
 ) -> tuple[str, str]:
     """What comes of a word, and what is to be said of it to people. A question that is asked before that is said at
-    once. Once the block is there, its reasons are waited for no longer than a moment."""
+    once, and perhaps answered. Once the block is there, its reasons are waited for no longer than a moment."""
     block, notes = "", ""
     with connected(pathlib.Path(folder), say) as service:
         service.settimeout(seconds)
@@ -94,18 +101,22 @@ def asked(
             for line in lines_from(service):
                 if line.startswith("asks ") and word != STATE:
                     say(f"it {line.rstrip()}")
+                    if answers:
+                        answers.begin(line)
                 elif line.startswith(NOTE):
                     notes += f"prefork-ctl: {line.removeprefix(NOTE)}"
                 else:
                     block += line
                     if ends_block(line):
                         service.settimeout(NOTES_SECONDS)
+                        if answers:
+                            answers.finish()
     return block, notes
 
 
 def connected(folder: pathlib.Path, say: Callable[[str], None]) -> socket.socket:
     """A connection to the service. One that starts, and does not listen yet, is waited for. Raises OSError."""
-    deadline, is_told = time.monotonic() + START_SECONDS, False
+    deadline, is_told = time.monotonic() + CTL_START_SECONDS, False
     while True:
         service = socket.socket(socket.AF_UNIX)
         try:
@@ -116,10 +127,10 @@ def connected(folder: pathlib.Path, say: Callable[[str], None]) -> socket.socket
             is_early = fault.errno in (errno.ENOENT, errno.ECONNREFUSED) and is_starting(folder)
             if not is_early or time.monotonic() > deadline:
                 raise
-        if not is_told and time.monotonic() > deadline - START_SECONDS + TELL_SECONDS:
+        if not is_told and time.monotonic() > deadline - CTL_START_SECONDS + CTL_TELL_SECONDS:
             say("the service is starting")
             is_told = True
-        time.sleep(PAUSE_SECONDS)
+        time.sleep(CTL_PAUSE_SECONDS)
 
 
 def is_starting(folder: pathlib.Path) -> bool:
@@ -131,7 +142,7 @@ def is_starting(folder: pathlib.Path) -> bool:
 def lines_from(service: socket.socket) -> Iterator[str]:
     """The lines that a service answers, as far as they are whole."""
     unread = b""
-    while got := service.recv(LONGEST):
+    while got := service.recv(LONGEST_ANSWER):
         *lines, unread = (unread + got).split(b"\n")
         yield from (f"{line.decode(errors='replace')}\n" for line in lines)
 
@@ -145,6 +156,13 @@ def status_of(folder: str) -> dict[str, Any]:
     raise ConnectionError(errno.ECONNRESET, ENDED)
 
 
+def reached(folder: str) -> Reached:
+    """A service, for what answers its questions."""
+    return Reached(
+        lambda: json.loads(asked(folder, BRIEF, STATUS_SECONDS)[0] or "{}"), lambda: status_of(folder), lambda text: asked(folder, text, STATUS_SECONDS)[0],
+    )
+
+
 def arguments() -> argparse.Namespace:
     parser = argparse.ArgumentParser(
         prog="prefork-ctl", description="Sends a word to a service, and prints what came of it."
@@ -155,6 +173,7 @@ def arguments() -> argparse.Namespace:
         "plan WORD, explore WORD, certify; without a word it prints whether it asks"
     parser.add_argument("word", nargs="*", metavar="WORD", help=words)
     parser.add_argument("--json", action="store_true", help="print as JSON")
+    answering.add_options(parser)
     add_options_of_explore(parser)
     records = "of certify: where the records are (those of the service)"
     parser.add_argument("--records", metavar="FOLDER", help=records)
@@ -172,6 +191,8 @@ def arguments() -> argparse.Namespace:
         parser.error(f"{given.word[0]} takes a word: {', '.join(WORDS)}")
     if given.word[:1] == ["try"] and " ".join(given.word) != TRY:
         parser.error("try takes the word HUP")
+    if fault := answering.fault_of_options(given):
+        parser.error(fault)
     return given
 
 
@@ -277,7 +298,7 @@ def tell(given: argparse.Namespace, word: str) -> int:
         return 1
     report = block.splitlines()[-1]
     outcome = report_of(report).outcome
-    status = 0 if word == STATE else ENDS.get(outcome, 1)
+    status = 0 if word == STATE else STATUSES.get(outcome, 1)
     if outcome == "unread":
         notes = f"{notes.rstrip()}. {not_known(word)}\n"
     # (the status is that of the word, also where its block can't be written)
@@ -294,7 +315,14 @@ def followed(given: argparse.Namespace, word: str) -> tuple[str, str]:
         def say(text: str) -> None:
             follower.clear()
             complain(text)
-        return asked(given.folder, word, say=say)
+        if not answering.asks(word):
+            return asked(given.folder, word, say=say)
+        service = reached(given.folder)
+        ask = answering.ask_of(given, service.brief().get("ask"))
+        if not ask and (given.after is not None or given.ask_within is not None):
+            say(answering.NO_COMMAND)
+        with Answering(word, ask, service, say) as answers:
+            return asked(given.folder, word, say=say, answers=answers)
 
 
 def as_json(block: str, notes: str, status: int) -> str:

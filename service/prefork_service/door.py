@@ -15,7 +15,7 @@ from collections.abc import Callable
 SILENT_SECONDS, MOST_SILENT, SHORT_SECONDS = 5.0, 64, 0.2
 # A process that has no descriptors left says so once in a while.
 SAY_SECONDS = 10.0
-SHORT = (errno.EMFILE, errno.ENFILE, errno.ENOBUFS, errno.ENOMEM)
+SHORT_OF = (errno.EMFILE, errno.ENFILE, errno.ENOBUFS, errno.ENOMEM)
 
 
 class Door:
@@ -36,7 +36,7 @@ class Door:
         try:
             client, _ = self.listener.accept()
         except OSError as fault:
-            if fault.errno in SHORT:
+            if fault.errno in SHORT_OF:
                 self.make_room(fault)
             return
         client.setblocking(False)

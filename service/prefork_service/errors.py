@@ -14,11 +14,11 @@ import sys
 import time
 from collections.abc import Callable
 
-MOST_WAITING = 1 << 16
+MOST_ERRORS_WAITING = 1 << 16
 # A pipe for which poll finds room takes this number of bytes at once.
-AT_ONCE = 4096
+MOST_AT_ONCE = 4096
 # How long what waits is tried again at the end.
-DRAIN_SECONDS, PAUSE_SECONDS = 1.0, 0.05
+DRAIN_SECONDS, ERRORS_PAUSE_SECONDS = 1.0, 0.05
 STANDARD_ERROR = 2
 
 
@@ -48,9 +48,9 @@ class Errors(io.TextIOBase):
         return len(text)
 
     def add(self, data: bytes) -> None:
-        if self.dropped or len(self.waiting) + len(data) > MOST_WAITING:
+        if self.dropped or len(self.waiting) + len(data) > MOST_ERRORS_WAITING:
             self.flush()
-        if self.dropped or len(self.waiting) + len(data) > MOST_WAITING:
+        if self.dropped or len(self.waiting) + len(data) > MOST_ERRORS_WAITING:
             self.dropped += len(data)
             return
         self.waiting += data
@@ -79,7 +79,7 @@ class Errors(io.TextIOBase):
         deadline = time.monotonic() + DRAIN_SECONDS
         self.flush()
         while self.waiting and time.monotonic() < deadline:
-            time.sleep(PAUSE_SECONDS)
+            time.sleep(ERRORS_PAUSE_SECONDS)
             self.flush()
 
 
@@ -121,7 +121,7 @@ def writer_of(number: int) -> Callable[[bytes], int]:
 def polled(number: int, data: bytes) -> int:
     watched = select.poll()
     watched.register(number, select.POLLOUT)
-    return os.write(number, data[:AT_ONCE]) if watched.poll(0) else 0
+    return os.write(number, data[:MOST_AT_ONCE]) if watched.poll(0) else 0
 
 
 def take_standard() -> None:

@@ -9,7 +9,7 @@ from .blocks import NEW_MASTER, Call, block_of
 
 MOST_REASONS = 5
 # How long it may take to learn why no process could be started.
-START_SECONDS = 2.0
+EXPLAIN_START_SECONDS = 2.0
 UNKNOWN = "why is not known; the messages of workers are on the standard error of the service"
 
 
@@ -42,9 +42,9 @@ def reason_of_start() -> str:
     """Why a process could not be started, if that is so still."""
     streams: dict[str, Any] = dict.fromkeys(("stdin", "stdout", "stderr"), subprocess.DEVNULL)
     try:
-        subprocess.run([places.LAUNCH], **streams, check=False, timeout=START_SECONDS)
+        subprocess.run([places.LAUNCH], **streams, check=False, timeout=EXPLAIN_START_SECONDS)
     except OSError as fault:
         return f"{places.LAUNCH}: {fault.strerror}"
     except subprocess.TimeoutExpired:
-        return f"{places.LAUNCH} has not started after {START_SECONDS:g} seconds"
+        return f"{places.LAUNCH} has not started after {EXPLAIN_START_SECONDS:g} seconds"
     return "the master had no process or descriptor left at that moment (its limits, or those of the system)"

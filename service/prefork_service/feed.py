@@ -19,46 +19,45 @@ from typing import Any
 from . import places
 from .burying import started
 from .folder import plain, say
+from .systemd import OF_SYSTEMD
 
 # How many bytes of events may wait for it, how many words are told again after its start, and how often an event is told.
-MOST_BYTES, MOST_WORDS, MOST_TRIES = 4 << 20, 20, 3
+MOST_WAITING_BYTES, MOST_TOLD_WORDS, MOST_TELLINGS = 4 << 20, 20, 3
 # The pause before another start, which doubles; how long it has to run for the first pause to hold again.
-FIRST_SECONDS, MOST_SECONDS, STEADY_SECONDS = 0.25, 60.0, 60.0
+WATCH_FIRST_SECONDS, WATCH_MOST_SECONDS, STEADY_SECONDS = 0.25, 60.0, 60.0
 # How often it is asked for a sign of life, how long it may owe that, and the least time between two states.
-PING_SECONDS, HANG_SECONDS, STATE_SECONDS = 5.0, 30.0, 0.1
+PING_SECONDS, WATCH_HANG_SECONDS, STATE_SECONDS = 5.0, 30.0, 0.1
 # How long it may take at the very end, once nobody waits for the service any more.
-END_SECONDS = 3.0
-LONGEST_LINE = 4096
+WATCH_END_SECONDS = 3.0
+LONGEST_WATCH_LINE = 4096
+Message = dict[str, Any]
 # It lags if this many bytes wait for it, or it has owed an answer for this long: who asks is not handed over then.
 BEHIND_BYTES, BEHIND_SECONDS = 1 << 20, 10.0
 # What is asked for those that wait for the reasons of a word.
 NOTES = "notes"
-# What systemd tells prefork-serve alone.
-OF_SYSTEMD = ("LISTEN_", "NOTIFY_SOCKET", "WATCHDOG_")
-Told = dict[str, Any]
 
 
 class Event:
     """What was not taken yet: the number of its line, its bytes, and how often it was told."""
 
-    def __init__(self, told: Told):
+    def __init__(self, told: Message):
         self.told, self.size, self.number, self.tries = told, len(json.dumps(told)), 0, 0
 
 
 class Feed:
     """prefork-watch, and what it is told. `hello` is what never changes, and `state` what does."""
 
-    def __init__(self, events: selectors.BaseSelector, hello: Told, state: Callable[[], Told], notify: Callable[[str], None]):
+    def __init__(self, events: selectors.BaseSelector, hello: Message, state: Callable[[], Message], notify: Callable[[str], None]):
         self.events, self.hello, self.state, self.notify = events, hello, state, notify
         self.queue: collections.deque[Event] = collections.deque()
-        self.words: collections.deque[Told] = collections.deque(maxlen=MOST_WORDS)
+        self.words: collections.deque[Message] = collections.deque(maxlen=MOST_TOLD_WORDS)
         self.number, self.dropped, self.taken = 0, 0, 0
         self.process: subprocess.Popen | None = None
         self.ended: subprocess.Popen | None = None
         self.stream: Any = None
         self.askers: Any = None
         self.unsent, self.unheard, self.last_state = bytearray(), b"", dict[str, Any]()
-        self.pause, self.begun, self.due, self.asked, self.heard = FIRST_SECONDS, 0.0, 0.0, 0.0, 0.0
+        self.pause, self.begun, self.due, self.asked, self.heard = WATCH_FIRST_SECONDS, 0.0, 0.0, 0.0, 0.0
         self.next_state, self.restarts = 0.0, 0
 
     # The process.
@@ -75,8 +74,8 @@ class Feed:
         if now - self.asked >= PING_SECONDS and not self.unsent:
             self.asked = now
             self.put({"kind": "ping"})
-        if self.taken < self.number and now - self.heard > HANG_SECONDS:
-            say(f"prefork-watch has not answered for {HANG_SECONDS:g} seconds")
+        if self.taken < self.number and now - self.heard > WATCH_HANG_SECONDS:
+            say(f"prefork-watch has not answered for {WATCH_HANG_SECONDS:g} seconds")
             self.bury()
             return
         if now >= self.next_state:
@@ -89,7 +88,7 @@ class Feed:
         self.askers, askers = socket.socketpair(socket.AF_UNIX, socket.SOCK_SEQPACKET)
         environment = {name: text for name, text in os.environ.items() if not name.startswith(OF_SYSTEMD)}
         command = [places.WATCH, str(stream.fileno()), str(askers.fileno()), str(os.getpid())]
-        given: Told = {"pass_fds": [stream.fileno(), askers.fileno()], "start_new_session": True, "env": environment}
+        given: Message = {"pass_fds": [stream.fileno(), askers.fileno()], "start_new_session": True, "env": environment}
         try:
             self.stream.setblocking(False)
             self.askers.setblocking(False)
@@ -98,7 +97,7 @@ class Feed:
         except OSError as fault:
             say(f"prefork-watch is not started: {fault.strerror}")
             self.close()
-            self.pause = min(2 * self.pause, MOST_SECONDS)
+            self.pause = min(2 * self.pause, WATCH_MOST_SECONDS)
             return
         finally:
             stream.close()
@@ -115,7 +114,7 @@ class Feed:
     def tell_again(self) -> None:
         """Tells the state, the last words, and what the one before has not taken. What has ended it again and again is
         dropped."""
-        poison = [event for event in self.queue if event.tries >= MOST_TRIES]
+        poison = [event for event in self.queue if event.tries >= MOST_TELLINGS]
         self.dropped += len(poison)
         for event in poison:
             self.queue.remove(event)
@@ -135,7 +134,7 @@ class Feed:
         if process:
             process.kill()
         now = time.monotonic()
-        self.pause = FIRST_SECONDS if now - self.begun > STEADY_SECONDS else min(2 * self.pause, MOST_SECONDS)
+        self.pause = WATCH_FIRST_SECONDS if now - self.begun > STEADY_SECONDS else min(2 * self.pause, WATCH_MOST_SECONDS)
         self.due, self.restarts = now + self.pause, self.restarts + 1
         say(f"prefork-watch has ended, and is started again in {self.pause:g} s")
 
@@ -152,7 +151,7 @@ class Feed:
     def hear(self, _: socket.socket) -> None:
         """Which lines it has taken, and what systemd is to show."""
         try:
-            got = self.stream.recv(LONGEST_LINE)
+            got = self.stream.recv(LONGEST_WATCH_LINE)
         except BlockingIOError:
             return
         except OSError:
@@ -162,7 +161,7 @@ class Feed:
             return
         self.heard = time.monotonic()
         *lines, self.unheard = (self.unheard + got).split(b"\n")
-        self.unheard = self.unheard[:LONGEST_LINE]
+        self.unheard = self.unheard[:LONGEST_WATCH_LINE]
         for line in lines:
             kind, _, text = line.decode("utf-8", "replace").partition(" ")
             if kind == "took" and text.isdecimal():
@@ -178,7 +177,7 @@ class Feed:
 
     # What it is told.
 
-    def put(self, told: Told) -> int:
+    def put(self, told: Message) -> int:
         """Sends a line as soon as that is possible; its number."""
         if self.taken >= self.number:
             self.heard = time.monotonic()
@@ -195,10 +194,10 @@ class Feed:
                 # It is full; or the end is heard, too.
                 return
 
-    def tell(self, kind: str, told: Told) -> Event:
+    def tell(self, kind: str, told: Message) -> Event:
         """Tells an event, now or to the next one."""
         event = Event({"kind": kind, **told})
-        if sum(other.size for other in self.queue) + event.size > MOST_BYTES:
+        if sum(other.size for other in self.queue) + event.size > MOST_WAITING_BYTES:
             self.dropped += 1
             return event
         self.queue.append(event)
@@ -206,7 +205,7 @@ class Feed:
             event.number, event.tries = self.put(event.told), 1
         return event
 
-    def tell_word(self, told: Told, is_kept: bool) -> int:
+    def tell_word(self, told: Message, is_kept: bool) -> int:
         """Tells a word that has ended, after the state that it has led to; the number of that line, or 0."""
         self.put_state()
         event = self.tell("word", told)
@@ -254,14 +253,14 @@ class Feed:
             return
         process, self.process = self.process, None
         self.stream.setblocking(True)
-        self.stream.settimeout(END_SECONDS)
+        self.stream.settimeout(WATCH_END_SECONDS)
         try:
             self.stream.sendall(self.unsent)
         except OSError:
             pass
         self.close()
         try:
-            process.wait(END_SECONDS)
+            process.wait(WATCH_END_SECONDS)
         except subprocess.TimeoutExpired:
             process.kill()
             process.wait()

@@ -10,11 +10,11 @@ import stat
 import sys
 
 # What says that a folder is that of a service.
-MARK = ".prefork"
+FOLDER_MARK = ".prefork"
 # The file of a worker, by its generation and number.
 WORKER = re.compile(r"\d+\.\d+\.\d+")
 # The same, also where it was put aside and could not be removed.
-OF_WORKER = re.compile(r"\d+\.\d+\.\d+(\.ended)?")
+WORKER_OR_ENDED = re.compile(r"\d+\.\d+\.\d+(\.ended)?")
 # The file in which a worker of --wsgi counts what it answers, by its process too.
 TRAFFIC = re.compile(r"\.?\d+\.\d+\.\d+\.\d+|ended")
 # That of a worker that has survived its master: with the number of its process.
@@ -59,6 +59,14 @@ def text_of(file: pathlib.Path) -> bytes:
         return text.read()
 
 
+def write_private(file: pathlib.Path, text: bytes) -> None:
+    """Writes a file that nobody else can read. Raises OSError."""
+    opened = os.open(file, os.O_WRONLY | os.O_CREAT | os.O_TRUNC | os.O_CLOEXEC, 0o600)
+    with open(opened, "wb") as written:
+        os.fchmod(opened, 0o600)
+        written.write(text)
+
+
 def remove_all(place: pathlib.Path, names: re.Pattern) -> None:
     """Removes the files of a folder that have these names, and the folder once it is empty. Nothing else is removed."""
     for file in files_in(place):
@@ -83,7 +91,7 @@ class Folder:
         self.workers, self.reasons = self.path / "workers", self.path / "reasons"
         # A file for each worker that serves on after the death of its master.
         self.survivors = self.path / "survivors"
-        self.mark = self.path / MARK
+        self.mark = self.path / FOLDER_MARK
         # The process that has it may be the only service here. Its master inherits it.
         self.lock = lock
         if lock >= 0:
@@ -132,7 +140,7 @@ class Folder:
 
     def clear_beside(self) -> None:
         """Removes what is there beside its own files."""
-        remove_all(self.workers, OF_WORKER)
+        remove_all(self.workers, WORKER_OR_ENDED)
         remove_all(self.path / "traffic", TRAFFIC)
         # Of an adapter that was killed together with the process that holds its program.
         for room in self.path.glob("worker.??????"):

@@ -1,12 +1,12 @@
-"""For how long a word has been carried out, and who runs, shown while prefork-ctl waits for it: at a terminal in a line that moves, elsewhere in a line now and
+"""How far a word is, shown while prefork-ctl waits for it: at a terminal in a line that moves, elsewhere in a line now and
 then."""
 import threading
 from collections.abc import Callable
 from typing import Any, TextIO
 
 # How often it is asked at a terminal, and elsewhere; and how a line of a terminal is cleared.
-EACH_SECONDS, SELDOM_SECONDS = 0.5, 10.0
-CLEAR = "\r\033[K"
+TERMINAL_SECONDS, SELDOM_SECONDS = 0.5, 10.0
+CLEAR_LINE = "\r\033[K"
 
 
 class Follower:
@@ -29,19 +29,19 @@ class Follower:
         """Takes the line away, before something else is said."""
         with self.lock:
             if self.is_drawn:
-                self.put(CLEAR)
+                self.put(CLEAR_LINE)
             self.is_drawn = False
 
     def run(self) -> None:
         is_terminal = self.output.isatty()
-        while not self.is_over.wait(EACH_SECONDS if is_terminal else SELDOM_SECONDS):
+        while not self.is_over.wait(TERMINAL_SECONDS if is_terminal else SELDOM_SECONDS):
             try:
                 progress = self.ask().get("progress")
             except (OSError, ValueError):
                 continue
             with self.lock:
                 if progress and not self.is_over.is_set():
-                    self.put(f"{CLEAR}{progress['line']}" if is_terminal else f"prefork-ctl: {progress['line']}\n")
+                    self.put(f"{CLEAR_LINE}{progress['line']}" if is_terminal else f"prefork-ctl: {progress['line']}\n")
                     self.is_drawn = is_terminal
 
     def put(self, text: str) -> None:

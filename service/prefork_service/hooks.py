@@ -9,12 +9,11 @@ from typing import Any
 from .burying import started
 from .events import EVENTS as EVENTS
 from .folder import say
+from .systemd import OF_SYSTEMD
 
 OF_OUTCOMES = {"done": "on-done", "rolled-back": "on-rolled-back", "degraded": "on-degraded"}
 # How long such a program may run, how many may run at a time, and how long the last ones may take at the end of the service.
-SECONDS, MOST, END_SECONDS = 30.0, 8, 2.0
-# What systemd tells prefork-serve alone.
-OF_SYSTEMD = ("LISTEN_", "NOTIFY_SOCKET", "WATCHDOG_")
+HOOK_SECONDS, MOST_HOOKS, HOOK_END_SECONDS = 30.0, 8, 2.0
 
 
 class Hooks:
@@ -29,8 +28,8 @@ class Hooks:
         program = self.programs.get(event)
         if not program:
             return
-        if len(self.running) >= MOST:
-            say(f"--{event} is not started: {MOST} such programs run still")
+        if len(self.running) >= MOST_HOOKS:
+            say(f"--{event} is not started: {MOST_HOOKS} such programs run still")
             return
         text = os.memfd_create(event)
         environment = {name: value for name, value in os.environ.items() if not name.startswith(OF_SYSTEMD)}
@@ -39,7 +38,7 @@ class Hooks:
             os.lseek(text, 0, os.SEEK_SET)
             streams: dict[str, Any] = {"stdin": text, "stdout": subprocess.DEVNULL, "env": environment}
             found = started([program, event], start_new_session=True, **streams)
-            self.watch(found, f"--{event}", SECONDS)
+            self.watch(found, f"--{event}", HOOK_SECONDS)
         except OSError as fault:
             say(f"--{event}: {program}: {fault.strerror}")
         finally:
@@ -65,7 +64,7 @@ class Hooks:
 
     def end(self) -> None:
         """The last ones may take a moment."""
-        until = time.monotonic() + END_SECONDS
+        until = time.monotonic() + HOOK_END_SECONDS
         for process, _, _ in self.running:
             try:
                 process.wait(max(0.0, until - time.monotonic()))

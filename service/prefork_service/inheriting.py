@@ -12,12 +12,12 @@ from .addresses import text_of
 from .folder import Folder, say
 from .leaving import Leaving
 from .opening import is_taken
-from .packets import ENDS, INHERITS, LONGEST_ADDRESS, OPENED
+from .packets import LONGEST_ADDRESS, Packet
 from .sockets import seal, given_sockets
 from .surviving import Survivors, counted
 
 # How long that keeper may take to answer, and how long it may take it to see that its service has ended.
-KEEPER_SECONDS, SEEN_SECONDS, PAUSE_SECONDS = 5.0, 1.0, 0.02
+INHERIT_SECONDS, SEEN_SECONDS, INHERIT_PAUSE_SECONDS = 5.0, 1.0, 0.02
 # The first descriptor that systemd gives.
 FIRST = 3
 # How long workers of an earlier service may take to close their sockets, and how long a keeper that ends.
@@ -54,10 +54,10 @@ def heritage_at(door: pathlib.Path) -> Heritage:
     deadline = time.monotonic() + SEEN_SECONDS
     while True:
         connection = socket.socket(socket.AF_UNIX, socket.SOCK_SEQPACKET)
-        connection.settimeout(KEEPER_SECONDS)
+        connection.settimeout(INHERIT_SECONDS)
         try:
             connection.connect(str(door))
-            connection.send(INHERITS.encode())
+            connection.send(Packet.INHERITS.encode())
             found = received(connection)
         except TimeoutError:
             say("the keeper of an earlier service does not answer")
@@ -73,7 +73,7 @@ def heritage_at(door: pathlib.Path) -> Heritage:
         if time.monotonic() > deadline:
             return Heritage()
         # It has not seen yet that its service has ended.
-        time.sleep(PAUSE_SECONDS)
+        time.sleep(INHERIT_PAUSE_SECONDS)
 
 
 def received(connection: socket.socket) -> dict[str, socket.socket] | None:
@@ -83,9 +83,9 @@ def received(connection: socket.socket) -> dict[str, socket.socket] | None:
         while True:
             said, given = socket.recv_fds(connection, LONGEST_ADDRESS + 1, 1)[:2]
             kind, address = said.decode()[:1], said.decode()[1:]
-            if kind == ENDS:
+            if kind == Packet.ENDS:
                 return found
-            if kind != OPENED or not given:
+            if kind != Packet.OPENED or not given:
                 break
             found[address] = given_sockets(given)[0]
     except OSError:
@@ -110,7 +110,7 @@ def make_way(folder: Folder, addresses: list[str]) -> None:
     # (the keeper of one that has just ended may still close its sockets)
     deadline = time.monotonic() + (WAY_SECONDS if count else CLOSE_SECONDS)
     while any(map(is_taken, taken)) and time.monotonic() < deadline:
-        time.sleep(PAUSE_SECONDS)
+        time.sleep(INHERIT_PAUSE_SECONDS)
 
 
 def of_systemd() -> dict[str, socket.socket]:

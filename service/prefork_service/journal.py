@@ -5,7 +5,7 @@ import pathlib
 from .writing import Writer
 
 # The bytes of the file, and how many older ones are kept.
-MOST_BYTES, OLDER = 1 << 20, 3
+MOST_JOURNAL_BYTES, OLDER = 1 << 20, 3
 
 
 def wall_clock() -> str:
@@ -42,7 +42,7 @@ class Journal:
 
     def rotate(self) -> None:
         try:
-            if self.path.stat().st_size < MOST_BYTES:
+            if self.path.stat().st_size < MOST_JOURNAL_BYTES:
                 return
             for number in range(OLDER, 0, -1):
                 older = self.path.with_name(f"{self.path.name}.{number - 1}") if number > 1 else self.path

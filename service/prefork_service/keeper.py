@@ -6,8 +6,8 @@ path of a Unix socket), and is answered `ok` with the listening socket, or `no` 
 addresses on the same connection, and holds them all as long as that is open. `-` and an address gives up that one.
 
 A socket is opened for the first who asks, and everybody after gets the same one. One that nobody has held for LINGER
-seconds (2) is closed, but only while another one is held: so a dropped address ends, and while no worker runs at all
-the connections wait in the queues for the next one.
+seconds (2) is closed, but only where another one was held all that time: so a dropped address ends, and while no worker
+runs at all the connections wait in the queues for the next one.
 
 With --defer-accept the system holds a TCP connection back until its first bytes are there, for a second or so: workers
 accept no connection that has not begun to ask.
@@ -57,9 +57,7 @@ from .barrier import Barrier, Broken
 from .door import Door, has_said
 from .errors import take_standard
 from .opening import Wanted, listening
-from .packets import (
-    ANSWERS, ASKS, CLOSED, DROPS, ENDS, INHERITS, LONGEST_ADDRESS, LONGEST_TOLD, LOST, OPENED, REFUSED, RENEWS, SETTLED, WANTS,
-)
+from .packets import LONGEST_ADDRESS, LONGEST_TOLD, Packet
 from .sockets import QUEUE, file_of, given_sockets
 from .titles import set_title
 
@@ -69,14 +67,14 @@ FINISH_SECONDS = 10.0
 # How long the next prefork-serve may take to receive the sockets.
 HEIR_SECONDS = 5.0
 # How many clients may have connected and not asked yet: all workers that there can be may start at a time.
-MOST_SILENT = 1024
+MOST_SILENT_ASKERS = 1024
 # Asked for in place of an address: the standard error of the service.
 ERRORS = "errors"
 # How a holder begins what it says of an address that it gives up.
 GIVES_UP = "-"
 DEFER = "--defer-accept"
 # Of Unix sockets.
-MODE, GROUP = "--socket-mode", "--socket-group"
+MODE_OPTION, GROUP = "--socket-mode", "--socket-group"
 
 
 def say(text: str) -> None:
@@ -157,7 +155,7 @@ class Keeper:
         # Whether prefork-serve was killed.
         self.is_orphan = False
         self.events, self.barrier = selectors.DefaultSelector(), Barrier(say)
-        self.door = Door(self.events, door, self.begin_to_hear, say, MOST_SILENT)
+        self.door = Door(self.events, door, self.begin_to_hear, say, MOST_SILENT_ASKERS)
 
     def run(self) -> None:
         if self.channel:
@@ -194,9 +192,9 @@ class Keeper:
             self.let_go(holder)
         elif text == ERRORS:
             self.give_errors(holder)
-        elif text == INHERITS:
+        elif text == Packet.INHERITS:
             self.bequeath(holder)
-        elif text == ENDS and self.is_orphan:
+        elif text == Packet.ENDS and self.is_orphan:
             # The sockets are kept by another one, and the files are its own.
             sys.exit(0)
         elif text.startswith(GIVES_UP):
@@ -214,12 +212,23 @@ class Keeper:
             return
         held = self.held.setdefault(holder, set())
         if kept not in held:
+            self.begin_to_count()
             held.add(kept)
             kept.holders += 1
         try:
             socket.send_fds(holder, [b"ok"], [kept.socket.fileno()])
         except OSError:
             self.let_go(holder)
+
+    def begin_to_count(self) -> None:
+        """Somebody is about to hold a socket. Time in which nobody held any is not counted of the others: who asks for this
+        one may ask for those next."""
+        if not self.is_any_held():
+            for kept in self.kept.values():
+                kept.free_since = max(kept.free_since, time.monotonic())
+
+    def is_any_held(self) -> bool:
+        return any(kept.holders for kept in self.kept.values())
 
     def take_given(self) -> None:
         """Hears what prefork-serve has said before it gives an address: the socket may be among those that are given, or
@@ -232,7 +241,7 @@ class Keeper:
         kept = self.kept[address] = Kept(address, listening(address, self.wanted.get(address, Wanted()).over(self.usual), is_again))
         kept.free_since = time.monotonic()
         if self.channel:
-            self.channel.tell(OPENED + address, kept.socket)
+            self.channel.tell(Packet.OPENED + address, kept.socket)
         return kept
 
     def give_errors(self, holder: socket.socket) -> None:
@@ -253,8 +262,8 @@ class Keeper:
         try:
             for address, kept in self.kept.items():
                 kept.holders += 1
-                socket.send_fds(heir, [(OPENED + address).encode()], [kept.socket.fileno()])
-            heir.send(ENDS.encode())
+                socket.send_fds(heir, [(Packet.OPENED + address).encode()], [kept.socket.fileno()])
+            heir.send(Packet.ENDS.encode())
             heir.setblocking(False)
         except OSError:
             self.let_go(heir)
@@ -268,7 +277,7 @@ class Keeper:
     def end_if_over(self) -> None:
         """Without prefork-serve it ends with the last holder. One that has been given sockets knows not who holds them: the
         files stay then."""
-        if not self.is_orphan or any(kept.holders for kept in self.kept.values()):
+        if not self.is_orphan or self.is_any_held():
             return
         if any(kept.has_strangers for kept in self.kept.values()):
             sys.exit(0)
@@ -276,7 +285,7 @@ class Keeper:
 
     def refuse(self, holder: socket.socket, address: str, reason: str) -> None:
         if self.channel:
-            self.channel.tell(f"{REFUSED}{address}: {reason}")
+            self.channel.tell(f"{Packet.REFUSED}{address}: {reason}")
         try:
             holder.send(f"no {reason}".encode())
         except OSError:
@@ -298,18 +307,18 @@ class Keeper:
 
     def tell_lost(self) -> None:
         if self.has_lost and self.channel:
-            self.channel.tell(LOST)
+            self.channel.tell(Packet.LOST)
         self.has_lost = False
 
     def close_dropped(self) -> None:
-        if not any(kept.holders for kept in self.kept.values()):
+        if not self.is_any_held():
             return
         for kept in list(self.kept.values()):
             if kept.is_free(self.linger):
                 kept.remove()
                 del self.kept[kept.address]
                 if self.channel:
-                    self.channel.tell(CLOSED + kept.address)
+                    self.channel.tell(Packet.CLOSED + kept.address)
 
     def drop(self, address: str) -> None:
         """Closes an address that no configuration names. Workers that finish may still hold it."""
@@ -317,7 +326,7 @@ class Keeper:
         if kept := self.kept.pop(address, None):
             kept.remove()
             if self.channel:
-                self.channel.tell(CLOSED + address)
+                self.channel.tell(Packet.CLOSED + address)
 
     def renew(self, address: str) -> None:
         """Opens a Unix socket anew whose path has been removed. Those who hold the old one serve its queue."""
@@ -334,21 +343,21 @@ class Keeper:
             return
         said, given = self.channel.hear()
         kind, address = said[:1], said[1:]
-        if kind == OPENED and given:
+        if kind == Packet.OPENED and given:
             self.kept[address] = Kept(address, given, has_strangers=True)
-        elif kind == SETTLED:
+        elif kind == Packet.SETTLED:
             for kept in self.kept.values():
                 kept.settle()
-        elif kind == DROPS:
+        elif kind == Packet.DROPS:
             self.drop(address)
-        elif kind == RENEWS:
+        elif kind == Packet.RENEWS:
             self.renew(address)
-        elif kind == WANTS:
+        elif kind == Packet.WANTS:
             named, options = json.loads(address)
             self.wanted[named] = Wanted(**options)
-        elif kind == ASKS:
-            self.channel.tell(ANSWERS)
-        elif kind == ENDS:
+        elif kind == Packet.ASKS:
+            self.channel.tell(Packet.ANSWERS)
+        elif kind == Packet.ENDS:
             self.leave()
         else:
             self.outlive(self.channel)
@@ -392,14 +401,14 @@ def group_of(text: str) -> int:
 
 def add_socket_options(parser: argparse.ArgumentParser) -> None:
     mode = "the mode of Unix sockets, such as 660"
-    parser.add_argument(MODE, type=mode_of, metavar="MODE", help=mode)
+    parser.add_argument(MODE_OPTION, type=mode_of, metavar="MODE", help=mode)
     group = "the group of Unix sockets; the user must be in it"
     parser.add_argument(GROUP, type=group_of, metavar="GROUP", help=group)
 
 
 def socket_options(given: argparse.Namespace) -> list[str]:
     """The same options again, for a keeper."""
-    found = [MODE, f"{given.socket_mode:o}"] if given.socket_mode is not None else []
+    found = [MODE_OPTION, f"{given.socket_mode:o}"] if given.socket_mode is not None else []
     return found + ([GROUP, str(given.socket_group)] if given.socket_group is not None else [])
 
 

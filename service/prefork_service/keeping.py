@@ -14,23 +14,22 @@ from typing import TYPE_CHECKING, Any
 
 from . import places
 from .burying import started
-from .holding import Hold
+from .configuration import Configuration
 from .folder import Folder, plain, say
-from .packets import ANSWERS, ASKS, CLOSED, DROPS, ENDS, LONGEST_ADDRESS, LOST, OPENED, REFUSED, RENEWS, SETTLED, WANTS
+from .holding import Hold
+from .packets import LONGEST_ADDRESS, Packet
 from .sockets import QUEUE, file_of, seal, given_sockets
 from .systemd import may_store, store, unstore
 
 if TYPE_CHECKING:
     from .listeners import Listeners
 
-# What a configuration with options of listeners has.
-SOCKETS = b"sockets"
 # How long it may take to answer, before it is killed; how often it is asked, and the least time between two starts.
-ANSWER_SECONDS, ASK_SECONDS, PAUSE_SECONDS = 10.0, 1.0, 1.0
+KEEPER_ANSWER_SECONDS, ASK_SECONDS, KEEPER_PAUSE_SECONDS = 10.0, 1.0, 1.0
 # How long the first one may take to open an address of the start.
 START_SECONDS = 60.0
 # How long workers may take to accept the connections that wait at a stop, and how often it is looked.
-DRAIN_SECONDS, LOOK_SECONDS = 1.0, 0.01
+KEEPER_DRAIN_SECONDS, KEEPER_LOOK_SECONDS = 1.0, 0.01
 
 
 class Keeping:
@@ -100,18 +99,18 @@ class Keeping:
         if self.listeners:
             self.listeners.tell_again()
         for address, one in self.held.items():
-            self.tell(OPENED + address, one)
+            self.tell(Packet.OPENED + address, one)
 
-    def wanted(self, text: bytes) -> "Listeners | None":
+    def wanted(self, found: Configuration) -> "Listeners | None":
         """Who sees to the options of listeners, if this configuration or one before it has some; that of a killed service too."""
-        if not self.listeners and (SOCKETS in text or self.is_heir):
+        if not self.listeners and (found.listeners or self.is_heir):
             from .listeners import Listeners
             self.listeners = Listeners(self)
         return self.listeners
 
     def tell_options(self, text: str) -> None:
         if self.process:
-            self.tell(WANTS + text)
+            self.tell(Packet.WANTS + text)
 
     def tell(self, text: str, one: socket.socket | None = None) -> None:
         """Tells the keeper something. One that has ended, or hears nothing, is found by what it owes."""
@@ -127,19 +126,19 @@ class Keeping:
         except OSError:
             said, given = b"", []
         kind, text = said.decode()[:1], said.decode()[1:]
-        if kind == OPENED and given:
+        if kind == Packet.OPENED and given:
             self.forget(text)
             self.held[text] = given_sockets(given)[0]
             self.files[text] = file_of(text)
             store(text, self.held[text])
-        elif kind == CLOSED:
+        elif kind == Packet.CLOSED:
             self.forget(text)
-        elif kind == REFUSED:
+        elif kind == Packet.REFUSED:
             self.refusals.append(plain(text))
             say(f"an address is not opened: {plain(text)}")
-        elif kind == ANSWERS:
+        elif kind == Packet.ANSWERS:
             self.owes = False
-        elif kind == LOST:
+        elif kind == Packet.LOST:
             self.lost = True
         elif not kind:
             self.bury()
@@ -161,14 +160,14 @@ class Keeping:
     def drop(self, address: str) -> None:
         seal(self.held[address])
         if self.process:
-            self.tell(DROPS + address)
+            self.tell(Packet.DROPS + address)
         else:
             self.forget(address)
 
     def renew(self) -> None:
         """A new generation follows: Unix sockets whose paths have been removed are opened anew for it."""
         for address in self.lost_paths():
-            self.tell(RENEWS + address)
+            self.tell(Packet.RENEWS + address)
 
     def lost_paths(self) -> list[str]:
         """The Unix sockets to which their paths no longer lead."""
@@ -191,18 +190,14 @@ class Keeping:
 
     def drain(self) -> None:
         """Lets workers accept the connections that wait at sealed addresses, for a while: a stop would reset them."""
-        deadline, looks = time.monotonic() + DRAIN_SECONDS, 0
+        deadline, looks = time.monotonic() + KEEPER_DRAIN_SECONDS, 0
         while looks < 2 and time.monotonic() < deadline:
             watched = select.poll()
             for address in self.sealed:
                 watched.register(self.held[address], select.POLLIN)
             looks = 0 if watched.poll(0) else looks + 1
-            time.sleep(LOOK_SECONDS)
+            time.sleep(KEEPER_LOOK_SECONDS)
 
-    def open_again(self) -> None:
-        """The service did not stop: who asks for a sealed address is given a new socket."""
-        for address in list(self.sealed):
-            self.drop(address)
     def forsake(self, _: socket.socket) -> None:
         """What it says has raised again and again."""
         self.bury()
@@ -220,14 +215,14 @@ class Keeping:
         """Starts a keeper if none runs, and asks the one that does whether it still answers."""
         now = time.monotonic()
         if not self.process:
-            if now - self.begun > PAUSE_SECONDS:
+            if now - self.begun > KEEPER_PAUSE_SECONDS:
                 self.begin()
-        elif self.owes and now - self.asked > ANSWER_SECONDS:
-            say(f"the keeper has not answered for {ANSWER_SECONDS:g} seconds")
+        elif self.owes and now - self.asked > KEEPER_ANSWER_SECONDS:
+            say(f"the keeper has not answered for {KEEPER_ANSWER_SECONDS:g} seconds")
             self.bury()
         elif not self.owes and now - self.asked > ASK_SECONDS:
             self.asked, self.owes = now, True
-            self.tell(ASKS)
+            self.tell(Packet.ASKS)
 
     def take_lost(self) -> bool:
         """Whether a worker may have ended since this was asked last."""
@@ -245,7 +240,7 @@ class Keeping:
     def settle(self) -> None:
         """All workers have been started since: each that is to hold a socket has asked for it."""
         if self.process:
-            self.tell(SETTLED)
+            self.tell(Packet.SETTLED)
 
     def end(self) -> None:
         """Ends the keeper, and with it the sockets."""
@@ -253,10 +248,10 @@ class Keeping:
         self.door.close()
         if not self.process:
             return
-        self.tell(ENDS)
+        self.tell(Packet.ENDS)
         self.channel.close()
         try:
-            self.process.wait(ANSWER_SECONDS)
+            self.process.wait(KEEPER_ANSWER_SECONDS)
         except subprocess.TimeoutExpired:
             self.process.kill()
             self.process.wait()

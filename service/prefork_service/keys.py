@@ -11,6 +11,8 @@ from typing import Any
 
 from .events import EVENTS
 from .recipes import Fault, Path, Runs
+from .sizes import ALLOWED as SIZES
+from .sizes import bytes_of
 
 
 EACH = frozenset(Runs)
@@ -21,10 +23,10 @@ NO_GROUP: frozenset[Runs] = frozenset()
 # The variables that the service and systemd set, and the names of others.
 RESERVED = ("PREFORK_", "LISTEN_", "NOTIFY_SOCKET", "WATCHDOG_")
 VARIABLE = re.compile(r"[A-Za-z_][A-Za-z0-9_]*")
-SIGNALS = ("HUP", "INT", "QUIT", "TERM", "USR1", "USR2", "WINCH")
+STOP_SIGNALS = ("HUP", "INT", "QUIT", "TERM", "USR1", "USR2", "WINCH")
 LIMITS = ("as", "core", "cpu", "data", "fsize", "memlock", "nofile", "nproc", "rss", "stack")
 # A day, which is as long as an adapter waits, and how much `answer_within` may be.
-MOST_SECONDS, MOST_ANSWER, MOST_THREADS, MOST_LIMIT = 86400, (1 << 32) // 8 - 1, 1024, (1 << 63) - 1
+DAY_SECONDS, MOST_ANSWER, MOST_THREADS, MOST_LIMIT = 86400, (1 << 32) // 8 - 1, 1024, (1 << 63) - 1
 # A proxy that is trusted at Unix sockets.
 UNIX = "unix"
 MODULE = re.compile(r"[^\s:]+(:[^\s:]+)?")
@@ -67,7 +69,11 @@ def whole(least: int, most: int) -> Callable[[Any], bool]:
 
 
 def is_seconds(value: object) -> bool:
-    return isinstance(value, (int, float)) and not isinstance(value, bool) and 0 < value <= MOST_SECONDS
+    return isinstance(value, (int, float)) and not isinstance(value, bool) and 0 < value <= DAY_SECONDS
+
+
+def is_pause(value: object) -> bool:
+    return is_seconds(value) or is_number(value, 0, 0)
 
 
 def is_page(value: object) -> bool:
@@ -87,7 +93,7 @@ def is_modules(value: object) -> bool:
 
 
 def is_signal(value: object) -> bool:
-    return isinstance(value, str) and value.removeprefix("SIG") in SIGNALS
+    return isinstance(value, str) and value.removeprefix("SIG") in STOP_SIGNALS
 
 
 def is_yes_or_no(value: object) -> bool:
@@ -105,9 +111,10 @@ def is_table(value: object) -> bool:
     return isinstance(value, dict)
 
 
-SECONDS = f"seconds, more than 0 and at most {MOST_SECONDS}"
+IN_SECONDS = f"seconds, more than 0 and at most {DAY_SECONDS}"
+IN_PAUSE = f"seconds from 0 to {DAY_SECONDS}"
 PATH = "a path that begins with / and has no space"
-SIGNAL = f"one of {', '.join(SIGNALS)}"
+SIGNAL = f"one of {', '.join(STOP_SIGNALS)}"
 CALLS = "a list of MODULE:NAME"
 KEYS = {key.name: key for key in (
     Key("program", is_command, "a list of texts: the program and its arguments", frozenset({Runs.PROGRAM, Runs.PRELOADER})),
@@ -118,18 +125,19 @@ KEYS = {key.name: key for key in (
     Key("environment_files", is_texts, "a list of paths"),
     Key("folder", is_text, "the path of a folder"),
     Key("ready", lambda value: value in ("accept", "notify", "probe"), 'accept, notify or probe', OF_PROGRAM | OF_WSGI),
-    Key("ready_within", is_seconds, SECONDS),
-    Key("finish", is_seconds, SECONDS),
+    Key("ready_within", is_seconds, IN_SECONDS),
+    Key("finish", is_seconds, IN_SECONDS),
     Key("probe", is_page, PATH, OF_PROGRAM | OF_WSGI),
-    Key("probe_within", is_seconds, SECONDS, OF_PROGRAM),
-    Key("probe_limit", is_seconds, SECONDS, OF_PROGRAM),
+    Key("probe_within", is_seconds, IN_SECONDS, OF_PROGRAM),
+    Key("probe_limit", is_seconds, IN_SECONDS, OF_PROGRAM),
     Key("stop", is_signal, SIGNAL, OF_PROGRAM),
     Key("usr1", is_signal, SIGNAL, OF_PROGRAM),
     Key("listen_fds", is_yes_or_no, "true or false", OF_PROGRAM),
     Key("blocking", is_yes_or_no, "true or false", OF_PROGRAM),
     Key("threads", whole(1, MOST_THREADS), f"a whole number from 1 to {MOST_THREADS}", OF_WSGI),
-    Key("timeout", is_seconds, SECONDS, OF_WSGI),
-    Key("keep", whole(1, MOST_SECONDS), f"a whole number of seconds from 1 to {MOST_SECONDS}", OF_WSGI),
+    Key("timeout", is_seconds, IN_SECONDS, OF_WSGI),
+    Key("request_timeout", is_seconds, IN_SECONDS, OF_WSGI),
+    Key("keep", whole(1, DAY_SECONDS), f"a whole number of seconds from 1 to {DAY_SECONDS}", OF_WSGI),
     Key("trusted_proxy", are_proxies, "a list of addresses, networks or unix", OF_WSGI),
     Key("access_log", is_text, "the path of a file", OF_WSGI),
     Key("access_form", lambda value: value in ("combined", "json"), "combined or json", OF_WSGI),
@@ -139,8 +147,12 @@ KEYS = {key.name: key for key in (
     Key("user", is_text, "the name of a user", frozenset({Runs.PROGRAM, Runs.WSGI})),
     Key("group", is_text, "the name of a group", frozenset({Runs.PROGRAM, Runs.WSGI})),
     Key("nice", whole(-20, 19), "a whole number from -20 to 19"),
+    Key("hard_memory", lambda value: bytes_of(value) is not None, SIZES),
     Key("limits", is_table, f"a table of {', '.join(LIMITS)}"),
     Key("answer_within", whole(0, MOST_ANSWER), f"a whole number of seconds from 0 to {MOST_ANSWER}", NO_GROUP),
+    Key("ask", is_command, "a list of texts: the command that answers questions, and its arguments", NO_GROUP),
+    Key("ask_after", is_pause, IN_PAUSE, NO_GROUP),
+    Key("ask_within", is_seconds, IN_SECONDS, NO_GROUP),
     Key("hooks", is_table, f"a table of {', '.join(EVENTS)}", NO_GROUP),
     Key("groups", is_table, "a table of groups, each a table", NO_GROUP),
 )}
@@ -187,8 +199,8 @@ def faults_of_keys(table: dict[str, Any], path: Path) -> list[Fault]:
             found += [] if is_text(value) else [Fault(own, f"{dotted(own)} is {kind_of(value)}: an address of a group is allowed")]
         elif not KEYS[name].fits(value):
             found.append(Fault(own, f"{dotted(own)} is {shown(name, value)}: {KEYS[name].allowed} is allowed"))
-        elif name in WITHIN:
-            found += WITHIN[name](value, own)
+        elif name in FAULTS_WITHIN:
+            found += FAULTS_WITHIN[name](value, own)
     return found
 
 
@@ -265,6 +277,6 @@ def faults_of_groups(table: dict[str, Any], path: Path) -> list[Fault]:
 
 
 # What is looked at within the table that a key has.
-WITHIN: dict[str, Callable[[dict[str, Any], Path], list[Fault]]] = {
+FAULTS_WITHIN: dict[str, Callable[[dict[str, Any], Path], list[Fault]]] = {
     "environment": faults_of_environment, "limits": faults_of_limits, "hooks": faults_of_hooks, "groups": faults_of_groups,
 }

@@ -6,7 +6,7 @@ import time
 
 # How much of the end is shown, how long the process that keeps it may take to write the rest, and how long it is waited
 # between two looks.
-KEPT, SECONDS, PAUSE = 4096, 0.5, 0.005
+KEPT, LAST_LINE_SECONDS, LINE_PAUSE = 4096, 0.5, 0.005
 # How many lines people are told, of how many workers; how many files there may be.
 MOST_LINES, MOST_WORKERS, MOST_FILES = 20, 2, 256
 
@@ -47,11 +47,11 @@ class LastLines:
 
     def of(self, names: list[str]) -> dict[str, list[str]]:
         """The last lines of these workers, which have ended."""
-        deadline, found = time.monotonic() + SECONDS, {}
+        deadline, found = time.monotonic() + LAST_LINE_SECONDS, {}
         for name in names:
             path = self.place / name
             while not is_complete(path) and time.monotonic() < deadline:
-                time.sleep(PAUSE)
+                time.sleep(LINE_PAUSE)
             try:
                 lines = lines_of(path.read_bytes())
             except OSError:

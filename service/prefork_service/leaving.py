@@ -27,6 +27,8 @@ class Leaving:
         # The processes of such a worker, where it has another one beside that.
         self.processes: dict[tuple[int, str], set[int]] = {}
         self.next_look = 0.0
+        # Those that were killed.
+        self.killed = set[tuple[int, str]]()
 
     def note(self, text: str) -> None:
         """Takes those that a block has told to quit, and those of a new master that was ended on the way back."""
@@ -105,6 +107,7 @@ class Leaving:
             is_same = start_of(process) == start and self.is_own(process)
             if is_same:
                 signal.pidfd_send_signal(opened, signal.SIGKILL)
+                self.killed.add((process, start))
             return is_same
         except OSError:
             return False

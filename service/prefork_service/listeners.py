@@ -3,99 +3,28 @@
 The keeper opens an address with them. On a socket that is open, each is changed once the configuration runs that has it;
 so a rollback has nothing to take back. What can't be changed there is said with the word.
 """
-import dataclasses
-import grp
 import json
 import os
-import pathlib
-import pwd
-import re
 import socket
 import time
-import tomllib
 from collections.abc import Callable
 from typing import TYPE_CHECKING, Any
 
+from .configuration import Configuration
 from .folder import say
 from .opening import DEFER_SECONDS, MOST_QUEUE, Wanted
-from .recipes import Fault
 from .sockets import file_of
 
 if TYPE_CHECKING:
     from .keeping import Keeping
 
-# The table, and the bit of the right to give files away.
-SOCKETS, CHOWN = "sockets", 1
-MOST_NUMBER = (1 << 32) - 2
-MODE = re.compile(r"[0-7]{3,4}")
 # How often the lengths of queues are set again that a program may have changed.
 KEEP_SECONDS = 1.0
-KINDS = {"group": "group", "owner": "user"}
 
 
-def tables_in(text: bytes) -> dict[str, dict[str, Any]]:
-    """The tables of a configuration, by address; none where the master is to refuse them."""
-    try:
-        found = tomllib.loads(text.decode()).get(SOCKETS, {})
-    except (ValueError, RecursionError):
-        return {}
-    return {address: table for address, table in found.items() if isinstance(table, dict)} if isinstance(found, dict) else {}
-
-
-def options_in(text: bytes) -> dict[str, Wanted]:
-    """What is wanted of each socket. Of what the master or the service is to refuse, nothing is."""
-    return {address: wanted_of(table) for address, table in tables_in(text).items()}
-
-
-def wanted_of(table: dict[str, Any]) -> Wanted:
-    backlog, defers, mode = table.get("backlog"), table.get("defer_accept"), table.get("mode")
-    return Wanted(
-        backlog=backlog if isinstance(backlog, int) and 0 < backlog <= MOST_QUEUE else None,
-        defer_accept=defers if isinstance(defers, bool) else None,
-        owner=number_of("owner", table.get("owner")), group=number_of("group", table.get("group")),
-        mode=int(mode, 8) if isinstance(mode, str) and MODE.fullmatch(mode) else None,
-    )
-
-
-def number_of(key: str, name: Any) -> int | None:
-    """The number of a group or an owner, by its name or as it is; nothing if there is none."""
-    if not isinstance(name, str):
-        return None
-    if name.isascii() and name.isdigit():
-        return int(name) if int(name) <= MOST_NUMBER else None
-    try:
-        return grp.getgrnam(name).gr_gid if key == "group" else pwd.getpwnam(name).pw_uid
-    except KeyError:
-        return None
-
-
-def faults_of_sockets(text: bytes) -> list[Fault]:
-    """What this system does not know or allow of the owners and groups of sockets."""
-    found = []
-    for address, table in tables_in(text).items():
-        for key, kind in KINDS.items():
-            if isinstance(name := table.get(key), str) and (why := fault_of_name(key, name)):
-                found.append(Fault((SOCKETS, address, key), f'{SOCKETS}."{address}".{key} is "{name}"{why.format(kind=kind)}'))
-    return found
-
-
-def fault_of_name(key: str, name: str) -> str:
-    number = number_of(key, name)
-    if number is None:
-        return ", which is no {kind} of this system"
-    own = {os.geteuid()} if key == "owner" else {os.getegid(), *os.getgroups()}
-    if number in own or may_give():
-        return ""
-    return ": only root can give a socket to another user" if key == "owner" else ": only root can give a socket to a group in which this user is not"
-
-
-def may_give() -> bool:
-    """Whether this process may give files away: root in a container perhaps not, and a service with CAP_CHOWN."""
-    try:
-        rights = re.search(r"^CapEff:\s*([0-9a-f]+)$", pathlib.Path("/proc/self/status").read_text(), re.M)
-    except OSError:
-        rights = None
-    return bool(int(rights[1], 16) & CHOWN) if rights else not os.geteuid()
+def wanted_in(found: Configuration) -> dict[str, Wanted]:
+    """What a configuration wants of each socket."""
+    return {address: Wanted(**told) for address, told in found.listeners.items()}
 
 
 def packet_of(address: str, wanted: Wanted) -> str:
@@ -131,7 +60,7 @@ def change(address: str, one: socket.socket, before: Wanted, after: Wanted) -> l
     found: dict[str, str] = {}
     for key in keys:
         try:
-            CHANGES[key](address, one, getattr(after, key))
+            SET_BY[key](address, one, getattr(after, key))
         except OSError as fault:
             found[key] = fault.strerror or str(fault)
     return [f"{address}: {key} stays as it is: {why}. A new address has it" for key, why in found.items()]
@@ -143,7 +72,7 @@ def change_deferral(address: str, one: socket.socket, defers: bool) -> None:
 
 
 # (the mode is the last one: a file that is given away loses bits of it)
-CHANGES: dict[str, Callable[[str, socket.socket, Any], None]] = {
+SET_BY: dict[str, Callable[[str, socket.socket, Any], None]] = {
     "backlog": lambda _, one, length: one.listen(length),
     "defer_accept": change_deferral,
     "owner": lambda path, _, owner: os.chown(path, owner, -1, follow_symlinks=False),
@@ -164,24 +93,24 @@ class Listeners:
         self.notes: list[str] = []
         self.kept = time.monotonic()
 
-    def begin(self, text: bytes) -> None:
+    def begin(self, first: Configuration) -> None:
         """The options of a start. Sockets that systemd has opened or stored have what is said, and else what its unit says;
         those of a killed service have nothing of its configuration."""
-        self.now = options_in(text)
+        self.now = wanted_in(first)
         self.tell(self.now)
         for address, one in self.keeping.held.items():
             new = self.now.get(address, Wanted())
             is_ours = address not in self.keeping.of_systemd
             self.take(address, one, Wanted(), new.over(usual_of(self.keeping.options, address)) if is_ours else new)
 
-    def propose(self, text: bytes) -> None:
+    def propose(self, following: Configuration) -> None:
         """A word is to go over to a configuration: what is opened for it has its options. What is open has those of before
         until it is done."""
-        self.tell({address: wanted for address, wanted in options_in(text).items() if address not in self.keeping.held})
+        self.tell({address: wanted for address, wanted in wanted_in(following).items() if address not in self.keeping.held})
 
-    def settle(self, text: bytes) -> None:
+    def settle(self, running: Configuration) -> None:
         """This configuration runs."""
-        before, self.now = self.now, options_in(text)
+        before, self.now = self.now, wanted_in(running)
         options = self.now
         self.tell({**dict.fromkeys(self.told, Wanted()), **options})
         self.told = dict(options)

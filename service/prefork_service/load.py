@@ -21,7 +21,7 @@ from . import VERSION
 from .addresses import host_and_port
 
 PATIENCE = 10.0
-ENDS = (signal.SIGINT, signal.SIGTERM)
+END_SIGNALS = (signal.SIGINT, signal.SIGTERM)
 
 
 class Closed(ValueError):
@@ -196,15 +196,15 @@ def told(found: dict) -> None:
 
 def main() -> int:
     given, tally, stopping = arguments(), Tally(), threading.Event()
-    for end in ENDS:
+    for end in END_SIGNALS:
         signal.signal(end, lambda number, frame: stopping.set())
     clients = [Client(given, place % 2 == 1, tally, stopping) for place in range(given.clients)]
     threads = [threading.Thread(target=client.run) for client in clients]
     # Threads have the mask of who starts them. A signal that one of them took would not wake the main thread, which waits.
-    signal.pthread_sigmask(signal.SIG_BLOCK, ENDS)
+    signal.pthread_sigmask(signal.SIG_BLOCK, END_SIGNALS)
     for thread in threads:
         thread.start()
-    signal.pthread_sigmask(signal.SIG_UNBLOCK, ENDS)
+    signal.pthread_sigmask(signal.SIG_UNBLOCK, END_SIGNALS)
     stopping.wait(given.seconds)
     stopping.set()
     for thread in threads:

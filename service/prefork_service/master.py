@@ -14,7 +14,7 @@ from .burying import started
 from .folder import Folder
 
 # How long it may take to end once it has closed its output.
-END_SECONDS = 10.0
+MASTER_END_SECONDS = 10.0
 
 
 class Master:
@@ -55,8 +55,8 @@ class Master:
         try:
             self.input.sendall(f"{word}\n".encode())
         except (BrokenPipeError, ConnectionResetError):
-            # It has ended. Its output says so too.
-            pass
+            # It has ended, or hears nothing any more. The end of its output says so.
+            self.process.kill()
 
     def hear(self) -> list[str] | None:
         """The blocks that are complete, without those of beats; None at the end of the output."""
@@ -141,7 +141,7 @@ class Master:
     def ended(self) -> int:
         """The status of a master that has closed its output, and is killed if it does not end."""
         try:
-            return self.process.wait(END_SECONDS)
+            return self.process.wait(MASTER_END_SECONDS)
         except subprocess.TimeoutExpired:
             self.process.kill()
             return self.process.wait()

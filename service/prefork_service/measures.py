@@ -1,13 +1,14 @@
 """What processes take: processor time, and memory by shares of what they have in common with others."""
-import os
 import re
 import time
+from collections.abc import Mapping
+from typing import NamedTuple
 
+from .ages import TICKS
 from .processes import children_of, fields_of, line_of
 
-TICKS = os.sysconf("SC_CLK_TCK")
 # The least time between two measures, and which part of a processor they may take.
-LEAST_SECONDS, SHARE = 2.0, 0.001
+MEASURE_SECONDS, SHARE = 2.0, 0.001
 PSS = re.compile(r"^Pss:\s+(\d+) kB$", re.M)
 
 
@@ -40,19 +41,35 @@ def processor_seconds_of(process: int) -> float:
     return total
 
 
+class Measure(NamedTuple):
+    """The bytes of a process and the seconds that it has computed, and since when it runs: another one may have its number."""
+
+    since: float
+    memory: int
+    processor_seconds: float
+
+
 class Measures:
     """The memory and the processor time of processes. To measure costs time itself: so what was measured last is told until
     that is worth it again."""
 
     def __init__(self) -> None:
-        self.found: dict[int, tuple[int, float]] = {}
+        self.found: dict[int, Measure] = {}
         self.next, self.moment = 0.0, 0.0
 
-    def of(self, processes: list[int]) -> dict[int, tuple[int, float]]:
-        """The bytes and the seconds of each, as far as they were measured."""
+    def of(self, processes: Mapping[int, float]) -> dict[int, Measure]:
+        """The measure of each process, as far as there is one. `processes` says since when each of them runs."""
         now = time.monotonic()
-        if now >= self.next or not self.found.keys() >= set(processes) and now - self.moment >= LEAST_SECONDS:
-            self.found = {process: (memory_of(process), processor_seconds_of(process)) for process in processes}
+        is_new = any(not self.is_of(process, since) for process, since in processes.items())
+        if now >= self.next or is_new and now - self.moment >= MEASURE_SECONDS:
+            self.found = {
+                process: Measure(since, memory_of(process), processor_seconds_of(process)) for process, since in processes.items()
+            }
             self.moment, took = now, time.monotonic() - now
-            self.next = now + max(LEAST_SECONDS, took / SHARE)
-        return self.found
+            self.next = now + max(MEASURE_SECONDS, took / SHARE)
+        return {process: self.found[process] for process, since in processes.items() if self.is_of(process, since)}
+
+    def is_of(self, process: int, since: float) -> bool:
+        """Whether this very process was measured."""
+        found = self.found.get(process)
+        return found is not None and found.since == since

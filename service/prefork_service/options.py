@@ -21,6 +21,8 @@ from .quickly import fault_of_file
 from .recipes import Recipe, Runs, Told
 from .settings import WSGI_THREADS
 from .sites import fault_of_site, is_site
+from .sizes import ALLOWED as SIZES
+from .sizes import bytes_of
 
 USAGE = """prefork-serve [OPTIONS] CONFIG -- PROGRAM ARGUMENT..
        prefork-serve [OPTIONS] --wsgi MODULE:APP CONFIG
@@ -29,7 +31,7 @@ USAGE = """prefork-serve [OPTIONS] CONFIG -- PROGRAM ARGUMENT..
        prefork-serve [OPTIONS] --listen ADDRESS --workers N -- PROGRAM ARGUMENT..
        prefork-serve --init [OPTIONS] [CONFIG] -- PROGRAM ARGUMENT.."""
 # What other servers call a number that is in the configuration here.
-WORKERS = ("-w", "--worker", "--processes")
+WORKER_OPTIONS = ("-w", "--worker", "--processes")
 Options = dict[str, tuple[str | None, str]]
 # Options that are handed on to the worker: what they take, and what they mean.
 SHARED: Options = {
@@ -50,9 +52,10 @@ PROGRAM: Options = {
     "--no-listen-fds": (None, "do not set LISTEN_FDS"),
     "--blocking": (None, "make the sockets block, for programs that wait in accept"),
 }
-WSGI: Options = {
+WSGI_OPTIONS: Options = {
     "--threads": ("N", "how many requests a worker answers at a time (4)"),
     "--timeout": ("SECONDS", "end a worker whose threads have all been at one request for this long (30)"),
+    "--request-timeout": ("SECONDS", "end a worker after its other requests if one has taken this long (none)"),
     "--keep": ("SECONDS", "how long a kept connection may be idle (75)"),
     "--trusted-proxy": ("ADDRESS", "believe what this proxy says of its clients: an address, a network, or unix"),
     "--access-log": ("FILE", "write a line for each answer to this file, which USR1 opens anew (none)"),
@@ -107,7 +110,9 @@ def parser() -> argparse.ArgumentParser:
     made.add_argument("--preload", action="store_true", help=preload)
     python = "the Python that runs it (that of prefork-serve)"
     made.add_argument("--python", default="", metavar="PROGRAM", help=python)
-    groups: dict[str, Options] = {"": SHARED | CHDIR | READY, " PROGRAM": PROGRAM, " MODULE:APP": WSGI, " MODULE:APP with --preload": PRELOADER}
+    groups: dict[str, Options] = {"": SHARED | CHDIR | READY, " PROGRAM": PROGRAM, " MODULE:APP": WSGI_OPTIONS, " MODULE:APP with --preload": PRELOADER}
+    memory = "kill a worker once it has taken this much memory (PSS), such as 512M or 1.5G (none)"
+    made.add_argument("--hard-memory", type=memory_of, default=0, metavar="SIZE", help=memory)
     for title, options in groups.items():
         group = made.add_argument_group(f"options of a worker{title}")
         for option, (name, text) in options.items():
@@ -131,6 +136,13 @@ def existing(text: str) -> str:
     if not os.path.exists(text):
         raise argparse.ArgumentTypeError(f"{text}: {os.strerror(errno.ENOENT)}")
     return text
+
+
+def memory_of(text: str) -> int:
+    """A size of memory."""
+    if (found := bytes_of(text)) is None:
+        raise argparse.ArgumentTypeError(f"it takes {SIZES}, not: {text}")
+    return found
 
 
 def number_of_workers(text: str) -> int:
@@ -177,7 +189,7 @@ def arguments(words: list[str]) -> argparse.Namespace:
     # An application is asked once, before it serves: its worker takes the path alone.
     given.asked, given.probe = given.probe, [] if given.wsgi and given.ready else given.probe
     for options, is_for, kind in [
-        (PROGRAM, is_adapted, "a PROGRAM"), (READY, is_adapted or is_wsgi, "a PROGRAM or --wsgi"), (WSGI, is_wsgi, "--wsgi"), (PRELOADER, is_preloader, "--wsgi with --preload")
+        (PROGRAM, is_adapted, "a PROGRAM"), (READY, is_adapted or is_wsgi, "a PROGRAM or --wsgi"), (WSGI_OPTIONS, is_wsgi, "--wsgi"), (PRELOADER, is_preloader, "--wsgi with --preload")
     ]:
         strange = handed_on(given, options)
         if strange and not is_for:
@@ -194,7 +206,7 @@ def fault_of_strange(words: list[str], made: argparse.ArgumentParser, has_cut: b
     name = options[0].partition("=")[0]
     known = [option for action in made._actions for option in action.option_strings]
     near = difflib.get_close_matches(name, known, 1, 0.75)
-    hint = "the number of workers is in CONFIG: workers = 4, or without one --workers 4" if name in WORKERS else f"the nearest is {near[0]}" if near else "see --help"
+    hint = "the number of workers is in CONFIG: workers = 4, or without one --workers 4" if name in WORKER_OPTIONS else f"the nearest is {near[0]}" if near else "see --help"
     return f"{name} is no option: {hint}"
 
 
@@ -273,7 +285,7 @@ def worker_command(given: argparse.Namespace) -> list[str] | None:
     if given.wsgi:
         # (by the folder of who types it, and not by that in which workers start)
         given.access_log = [os.path.join(current_folder(), file) for file in given.access_log]
-        options = handed_on(given, SHARED | WSGI | PRELOADER) + (["--preloader"] if given.preload else [])
+        options = handed_on(given, SHARED | WSGI_OPTIONS | PRELOADER) + (["--preloader"] if given.preload else [])
         options += ["--probe", *given.asked] if given.ready else []
         # (a path, which is not that of the folder in which it starts)
         named = given.python or sys.executable
@@ -292,11 +304,12 @@ def told_of(given: argparse.Namespace) -> Told:
     command = worker_command(given)
     is_preloaded, threads = bool(given.preload), (int(given.threads[-1]) if given.threads else WSGI_THREADS) + bool(given.access_log)
     runs = (Runs.PRELOADED if is_preloaded else Runs.WSGI) if given.wsgi else Runs.PRELOADER if is_preloaded else Runs.PROGRAM
-    of_wsgi = handed_on(given, SHARED | WSGI | PRELOADER) + (["--probe", *given.asked] if given.ready and given.wsgi else [])
+    of_wsgi = handed_on(given, SHARED | WSGI_OPTIONS | PRELOADER) + (["--probe", *given.asked] if given.ready and given.wsgi else [])
     return Told(
         tuple(command) if command else None, runs if command else None, tuple(given.program), given.wsgi or "", given.python,
         is_preloaded, given.chdir[-1] if given.chdir else "", place_of(given), tuple(handed_on(given, SHARED | READY | PROGRAM)),
         tuple(of_wsgi), program_of(given) or "", seconds_given(given.ready_within), seconds_given(given.finish), threads if given.wsgi else 0,
+        given.hard_memory,
     )
 
 

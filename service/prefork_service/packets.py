@@ -1,5 +1,12 @@
 """What prefork-serve and its keeper tell each other: the first letter of a packet, which the keeper explains."""
-LONGEST_ADDRESS = 200
-# An address with its options.
-LONGEST_TOLD = 2048
-OPENED, CLOSED, REFUSED, SETTLED, ASKS, ANSWERS, ENDS, LOST, DROPS, RENEWS, INHERITS, WANTS = tuple("+-!=?.x~/%^*")
+import enum
+
+# An address, and one with its options.
+LONGEST_ADDRESS, LONGEST_TOLD = 200, 2048
+
+
+class Packet(enum.StrEnum):
+    """What a packet tells, by its first letter."""
+
+    OPENED, CLOSED, REFUSED, SETTLED, ASKS, ANSWERS = "+", "-", "!", "=", "?", "."
+    ENDS, LOST, DROPS, RENEWS, INHERITS, WANTS = "x", "~", "/", "%", "^", "*"

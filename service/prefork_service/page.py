@@ -5,19 +5,18 @@ import pathlib
 import subprocess
 import tempfile
 from collections.abc import Sequence
-from typing import Any
 
 from .blocks import block_of
 from .burying import started
 from .done import Done
+from .forms import Status
 from .rehearsing import rehearsal
 from .state import times
 from .status import LEFT_BEHIND
 
-Status = dict[str, Any]
 KIND = "text/html; charset=utf-8"
 # The calls of a word that are drawn, and the lines of a plan that are shown.
-MOST_CALLS, MOST_LINES = 300, 400
+MOST_DRAWN, MOST_PLAN_LINES = 300, 400
 
 
 def text(value: object) -> str:
@@ -25,8 +24,8 @@ def text(value: object) -> str:
 
 
 def row(*cells: object) -> str:
-    """A row of a table; a whole number is set to the right."""
-    told = (f'<td class="number">{cell}</td>' if isinstance(cell, int) else f"<td>{cell}</td>" for cell in cells)
+    """A row of a table; a whole number is set to the right, and so is one that is not there."""
+    told = (f"<td>{cell}</td>" if isinstance(cell, str) else f'<td class="number">{"none" if cell is None else cell}</td>' for cell in cells)
     return f"<tr>{''.join(told)}</tr>"
 
 
@@ -41,15 +40,15 @@ def workers_table(status: Status) -> str:
     for worker in status["workers"]:
         beat = worker["last_beat_seconds"]
         told = f"beat {beat} s ago" if beat is not None else "no beat yet"
-        process = worker["process"] or "none"
-        told = told if worker["process"] else "has ended"
-        rows.append(row(text(worker["generation"]), worker["number"], process, worker["seconds"] or 0, told))
+        process = worker["process"] or None
+        told = told if process else "has ended"
+        rows.append(row(text(worker["generation"]), worker["number"], process, worker["seconds"] if process else None, told))
     for worker in status["others"]:
         cells = (worker["number"], worker["process"], worker["seconds"], text(worker["state"]))
         rows.append(row(text(worker["generation"]), *cells))
     for one in status["failing"]:
         told = f"has failed {times(one['failed'])}: {text(one['reason'])}; next try in {one['next_try_seconds']:.0f} s"
-        rows.append(row("", one["worker"], "none", 0, told))
+        rows.append(row("", one["worker"], None, None, told))
     if not rows:
         return "<p>No worker runs.</p>"
     return table("workers", ("generation", "worker", "process", "age, s", "state"), rows)
@@ -74,11 +73,11 @@ def drawn(done: Done) -> str:
     """The calls of a word, one box each; those that went wrong are red, and the cause has a border."""
     calls = block_of(done.block).calls
     boxes = []
-    for call in calls[:MOST_CALLS]:
+    for call in calls[:MOST_DRAWN]:
         kinds = [*([] if call.is_plain else ["wrong"]), *(["cause"] if call.text == done.cause else [])]
         kind = f' class="{" ".join(kinds)}"' if kinds else ""
         boxes.append(f'<i{kind} title="{text(call.text)}"></i>')
-    more = f"<span>and {len(calls) - MOST_CALLS} more</span>" if len(calls) > MOST_CALLS else ""
+    more = f"<span>and {len(calls) - MOST_DRAWN} more</span>" if len(calls) > MOST_DRAWN else ""
     return f'<div class="calls">{"".join(boxes)}{more}</div>'
 
 
@@ -122,8 +121,8 @@ class NextPlan:
         self.process = None
         self.output.seek(0)
         lines = self.output.read().decode(errors="replace").splitlines()
-        more = [f"and {len(lines) - MOST_LINES} lines more"] if len(lines) > MOST_LINES else []
-        self.text = "".join(f"{line}\n" for line in lines[:MOST_LINES] + more)
+        more = [f"and {len(lines) - MOST_PLAN_LINES} lines more"] if len(lines) > MOST_PLAN_LINES else []
+        self.text = "".join(f"{line}\n" for line in lines[:MOST_PLAN_LINES] + more)
 
     def end(self) -> None:
         if self.process:

@@ -12,9 +12,9 @@ from typing import TYPE_CHECKING
 
 from .blocks import block_of
 from .folder import files_in, say
-from .bounds import ANSWER, end_seconds
+from .bounds import ANSWER_WITHIN, end_seconds
 from .processes import fields_of, masters_of
-from .words import ATTENDED, STOPS
+from .words import AT_ONCE, ATTENDED, STOPS, Word
 
 if TYPE_CHECKING:
     from .service import Service
@@ -38,7 +38,7 @@ class Patience:
 
     def take_limits(self, limits: list[str]) -> None:
         """The limits of the master that runs; without one there is none for it either."""
-        self.answer = float(limits[1]) if limits[:1] == [ANSWER] else 0.0
+        self.answer = float(limits[1]) if limits[:1] == [ANSWER_WITHIN] else 0.0
         self.ready = float(end_seconds(limits))
 
     def begin(self, is_short: bool) -> None:
@@ -86,7 +86,7 @@ class Hanging:
         """The current word begins."""
         word = self.service.current
         was_upgrade, self.is_upgrade = self.is_upgrade, bool(word and word.text in UPGRADES)
-        if was_upgrade or self.is_upgrade:
+        if self.service.master and (was_upgrade or self.is_upgrade):
             masters = masters_of(self.service.master.process.pid)
             self.masters, self.newest = len(masters), masters[-1]
         self.patience.begin(self.service.is_ticking())
@@ -96,8 +96,8 @@ class Hanging:
         service = self.service
         if not service.current or service.is_stopped or not service.master:
             return
-        if service.question:
-            # Its operator may take any time.
+        if service.question or service.reading.owes:
+            # Its operator may take any time; and a word whose configuration is still read was not told.
             self.patience.begin(False)
             return
         if not self.patience.is_over():
@@ -125,21 +125,22 @@ class Hanging:
         """Waits for the end of a master that has stopped its workers."""
         patience, service = self.patience, self.service
         seconds = patience.ready + patience.answer + MARGIN if patience.answer else None
-        if service.barrier.duty(service.master.finish, seconds) is False:
+        has_ended = service.barrier.duty(service.master.finish, seconds)
+        if has_ended is False:
             self.end_by_force()
+        elif has_ended is None:
+            service.master.process.kill()
 
     def end_by_force(self) -> None:
         """A stop takes too long: everything is killed."""
-        service = self.service
+        service, word = self.service, self.service.current
         said = "the service was told to stop, and its master hangs: everything is killed"
-        say(said)
-        service.barrier.duty(service.chronicle.journal.note, said)
-        kill_masters(service.master.process.pid)
-        service.survivors.kill_all()
-        service.leaving.kill_all()
-        service.is_stopped, service.status_of_end = True, 1
-        if service.current:
-            service.current.answer(f"lost: {said}\n")
+        service.status_of_end = 1
+        service.barrier.duty(service.note, said)
+        kill_masters(service.release_master().process.pid)
+        service.stopping.begin(Word(AT_ONCE), False)
+        if word:
+            word.answer(f"lost: {said}\n")
 
 
 def kill_masters(first: int, spares_old: int = 0) -> int:

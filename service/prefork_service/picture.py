@@ -6,34 +6,47 @@ import pathlib
 import time
 from typing import Any
 
-from .counted import Record, started_workers
+from .ages import age_since
+from .counted import Record
 from .done import Done
 from .folder import text_of
+from .forms import Status
+from .hard_memory import REASONS_OF_LIMITS
 from .measures import Measures
+from .named import workers_in
 from .processes import masters_of
-from .progress import progress_of
-from .queues import queues_of
+from .progress import Progress, counts_of
+from .queues import Queues
 from .remembering import Remembered
+from .signs import Unchanged
 from .state import SERVES
-from .status import Status, others_of, workers_of
+from .status import others_of, workers_of
 from .traffic import Traffic
-from .words import START
+from .words import CHANGES, START, is_routine
+from .worker_files import WorkerFiles
 
 # How many words are remembered.
 MOST_WORDS = 20
+# How old what is told of a word to systemd may be.
+LINE_SECONDS = 1.0
 
 
 class Picture:
     """The status of a service, whole and in parts."""
 
     def __init__(self, hello: dict[str, Any]):
-        self.hello, self.state, self.measures = hello, dict[str, Any](), Measures()
+        self.hello, self.state, self.measures, self.queues = hello, dict[str, Any](), Measures(), Queues()
         self.folder = pathlib.Path(hello["folder"])
+        self.files = WorkerFiles(self.folder / "workers", hello["process"])
+        # The configuration's file, and what it had.
+        self.config, self.text = Unchanged(hello["file"]), ""
         self.traffic = Traffic(self.folder / "traffic", hello["restarts"] > 0)
         self.words: collections.deque[Done] = collections.deque(maxlen=MOST_WORDS)
         # What is to be done about files whose version has not started, while the one before runs.
         self.of_files: str | None = None
-        self.remembered: Remembered[Status] = Remembered()
+        # How many workers have ended since they have passed a limit.
+        self.passed: collections.Counter[str] = collections.Counter()
+        self.remembered, self.far = Remembered[Status](), Progress()
 
     def last_word(self) -> Done | None:
         """The last word that somebody has said; the start of a master is not a word."""
@@ -50,9 +63,14 @@ class Picture:
         last, doing = self.last_word(), self.state["doing"]
         if doing:
             asks = f", asks question {self.state['question']}" if self.state["question"] else ""
-            return f"carries out {doing}{asks}"
+            far = self.status(LINE_SECONDS)["progress"] if self.is_changing() else None
+            return f"carries out {far['line'] if far else doing}{asks}"
         told, whole = f"; last word {last.word}: {last.report}" if last else "", self.state["whole"]
         return f"{self.runs_now() if whole['state'] == SERVES else whole['line']}{told}"
+
+    def is_changing(self) -> bool:
+        """Whether a word is being carried out of which it is told how far it is."""
+        return bool(self.state["doing"]) and not is_routine(self.state["doing"])
 
     def failing(self) -> list[Status]:
         """The workers that fail to start."""
@@ -61,16 +79,23 @@ class Picture:
 
     def file_has_changed(self) -> bool:
         """Whether the file is another one than was accepted."""
+        return self.config_text() != self.state["accepted"]
+
+    def config_text(self) -> str | None:
+        """The configuration's file as it is now; nothing if it can't be read."""
         try:
-            return text_of(pathlib.Path(self.hello["file"])).decode("latin-1") != self.state["accepted"]
+            if not self.config.holds():
+                self.text = text_of(pathlib.Path(self.hello["file"])).decode("latin-1")
+            return self.text
         except OSError:
-            return True
+            self.config.sign = None
+            return None
 
     def brief(self) -> Status:
         """The part of the status for which no process is looked at; of workers it has the numbers."""
         state, hello, last, now = self.state, self.hello, self.last_word(), time.monotonic()
         names = ("addresses", "lost_paths", "generation", "workers", "master_restarts", "keeper", "counts", "ticks", "tick_outcomes",
-                 "doing", "question", "waiting", "records_waiting", "failed_starts", "preloaders", "survivors")
+                 "doing", "question", "asking", "ask", "waiting", "records_waiting", "failed_starts", "preloaders", "survivors")
         return {
             "service": {"process": hello["process"], "seconds": int(now - hello["began"]),
                         **{name: hello[name] for name in ("folder", "file", "prefork", "records")}},
@@ -81,40 +106,66 @@ class Picture:
             "question_seconds": int(now - state["asked"]) if state["question"] else 0,
             "file_has_changed": self.file_has_changed(),
             "of_files": self.of_files,
+            "limits_passed": {name: self.passed[name] for name in REASONS_OF_LIMITS},
             "watch": {"process": os.getpid(), "restarts": state["restarts"], "dropped": state["dropped"]},
         }
 
-    def status(self) -> Status:
-        """Who runs, what was done last, and what is being done now. Many that ask at a time are told the same."""
+    def status(self, seconds: float = 0.0) -> Status:
+        """Who runs, what was done last, and what is being done now. Many that ask at a time are told the same, and those
+        that take one of some seconds ago."""
         state, done = self.state, self.last_word()
         key = (state["doing"], state["question"], state["waiting"], state["master_restarts"], state["keeper"]["restarts"],
                done and done.began, len(state.get("survivors", [])), state["generation"], *state["workers"])
-        return self.remembered.get(self.looked, key)
+        return self.remembered.get(self.looked, key, seconds)
 
     def progress(self, workers: list[Status], others: list[Status]) -> Status | None:
         """How far the present word is, as far as processes show it."""
-        word, began = self.state["doing"], self.state.get("word_began", 0.0)
-        return progress_of(word, time.monotonic() - began, self.state["generation"], [*workers, *others]) if word else None
+        word, began, generation = self.state["doing"], self.state.get("word_began", 0.0), self.state["generation"]
+        if not word:
+            return None
+        counts = counts_of(generation, len(self.state["workers"]), [*workers, *others])
+        return self.far.of(word, began, time.monotonic(), counts, self.goal(word))
+
+    def goal(self, word: str) -> int:
+        """How many workers a word is to start, as the configuration's file says; 0 where that is not known."""
+        text = self.config_text() if word in CHANGES else None
+        return workers_in(text.encode("latin-1")) if text else 0
 
     def looked(self) -> Status:
         """The same, found out anew."""
-        state = self.state
-        running = started_workers(self.folder / "workers", self.hello["process"])
+        state, running = self.state, self.files.running()
+        since = self.files.since()
         beats = {int(number): moment for number, moment in state["beats"].items()}
         record = Record()
         record.generation, record.workers = state["generation"], state["workers"]
-        workers, others = workers_of(record, running, beats), others_of(record, running, state["calls"])
-        measured = self.measures.of([worker["process"] for worker in workers if worker["process"]])
-        for worker in workers:
-            worker["memory"], worker["processor_seconds"] = measured.get(worker["process"], (None, None))
-        self.traffic.look()
-        for worker in [*workers, *others]:
-            worker["requests"] = self.traffic.of(worker["process"])
+
+        def age_of(process: int) -> float:
+            return age_since(since[process])
+
+        workers, others = workers_of(record, running, beats, age_of), others_of(record, running, state["calls"], age_of)
+        self.add_measures(workers, others, since)
         return {
             **self.brief(), "workers": workers, "measured": self.measures.moment,
-            "queues": [queue for queue in queues_of(state["held"]) if queue["address"] in set(state["addresses"])],
+            "queues": self.queues.of({address: state["held"][address] for address in state["addresses"] if address in state["held"]}),
             "others": others,
             "progress": self.progress(workers, others),
             "requests": self.traffic.told(),
-            "masters": masters_of(state["master"]) if state["master"] else [],
+            "masters": masters_of(state["master"], self.files.launched()) if state["master"] else [],
         }
+
+    def add_measures(self, workers: list[Status], others: list[Status], since: dict[int, float]) -> None:
+        """Notes at each worker what it takes, and what it has answered."""
+        processes = [worker["process"] for worker in workers if worker["process"]]
+        measured = self.measures.of({process: since[process] for process in processes})
+        for worker in workers:
+            found = measured.get(worker["process"])
+            worker["memory"] = found.memory if found else None
+            worker["processor_seconds"] = found.processor_seconds if found else None
+        self.traffic.look()
+        for worker in [*workers, *others]:
+            worker["requests"] = self.traffic.of(worker["process"])
+
+    def end(self) -> None:
+        self.files.end()
+        self.queues.end()
+        self.traffic.end()

@@ -5,6 +5,6 @@ HOME = pathlib.Path(__file__).resolve().parent.parent
 BIN = HOME / "bin"
 KEEPER, WSGI = BIN / "prefork-keeper", BIN / "prefork-wsgi"
 # What prefork-serve alone starts.
-WATCH = HOME / "libexec" / "prefork-watch"
+WATCH, READ = HOME / "libexec" / "prefork-watch", HOME / "libexec" / "prefork-read"
 ACTIVATE, LAUNCH = HOME / "out" / "prefork-activate", HOME / "out" / "prefork-launch"
 SHIM = HOME / "out" / "prefork-shim"

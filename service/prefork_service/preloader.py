@@ -20,7 +20,7 @@ from collections.abc import Callable
 FORK_SOCKET = "PREFORK_FORK_SOCKET"
 # Of Linux, and not in the module fcntl: which signal tells that something has happened to a descriptor.
 F_SETSIG = 10
-LONGEST_LINE, HANDED = 200, 4
+LONGEST_PRELOADER_LINE, HANDED = 200, 4
 
 
 class Lifeline:
@@ -151,7 +151,7 @@ class Preloader:
         """A shim hands over its descriptors, or has gone."""
         self.events.unregister(connection)
         try:
-            said, given, _, _ = socket.recv_fds(connection, LONGEST_LINE, HANDED)
+            said, given, _, _ = socket.recv_fds(connection, LONGEST_PRELOADER_LINE, HANDED)
         except OSError:
             said, given = b"", []
         word, name, keeper = [*os.fsdecode(said).split(" ", 2), "", ""][:3]

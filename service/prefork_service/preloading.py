@@ -12,31 +12,30 @@ from typing import Any
 
 from . import places
 from .burying import started
+from .configuration import Group
 from .folder import Folder, say
-from .recipes import Recipe
+from .systemd import OF_SYSTEMD
 
-QUEUE = 1024
+PRELOADER_QUEUE = 1024
 # How long a loaded preloader may let a shim wait at its socket, and fork nobody, before it is killed.
 HANG_SECONDS = 10.0
 # How much longer than its application may load a preloader may run on, which shows its stacks then.
 GRACE_SECONDS = 2.0
 LONGEST_TEXT = 4096
-# What systemd tells prefork-serve alone.
-OF_SYSTEMD = ("LISTEN_", "NOTIFY_SOCKET", "WATCHDOG_")
 
 
 class KeptPreloader:
     """The socket of a preloader, and the preloader once a shim has come."""
 
-    def __init__(self, events: selectors.BaseSelector, folder: Folder, number: int, recipe: Recipe, seconds: float):
-        self.events, self.recipe, self.seconds = events, recipe, seconds
+    def __init__(self, events: selectors.BaseSelector, folder: Folder, number: int, group: Group, seconds: float):
+        self.events, self.group, self.seconds = events, group, seconds
         self.path = folder.path / f"preloader.{number}"
         self.fork_socket = socket.socket(socket.AF_UNIX, socket.SOCK_SEQPACKET)
         new = folder.path / f".{os.getpid()}"
         new.unlink(missing_ok=True)
         self.fork_socket.bind(str(new))
         new.chmod(0o600)
-        self.fork_socket.listen(QUEUE)
+        self.fork_socket.listen(PRELOADER_QUEUE)
         new.rename(self.path)
         # The preloader, the end of its input, its output, and a descriptor of its process.
         self.process: Any = None
@@ -62,11 +61,11 @@ class KeptPreloader:
             # By its path: a symbolic link may lead elsewhere by now.
             given["cwd"] = environment["PWD"] = place
         # (its settings, with secrets, are in memory alone)
-        section = os.memfd_create("section") if self.recipe.own_settings() else -1
-        command = [str(places.LAUNCH), "load", str(section)] if section >= 0 else [*self.recipe.words]
+        section = os.memfd_create("section") if self.group.settings else -1
+        command = [str(places.LAUNCH), "load", str(section)] if section >= 0 else [*self.group.command]
         try:
             if section >= 0:
-                os.write(section, self.recipe.loading())
+                os.write(section, self.group.loading())
                 given["pass_fds"].append(section)
             self.process = started(command, stdin=life, stdout=said, env=environment, **given)
         except OSError as fault:
@@ -208,12 +207,12 @@ class Preloading:
         self.drop(self.next)
         self.next = {}
 
-    def words(self, is_next: bool, at: int, recipe: Recipe) -> list[str]:
+    def words(self, is_next: bool, at: int, group: Group) -> list[str]:
         """The command of a worker of a group: in the generation that runs, or in the one that is to follow."""
         kept = self.next if is_next else self.now
         if at not in kept:
             self.count += 1
-            kept[at] = KeptPreloader(self.events, self.folder, self.count, recipe, recipe.ready_within or self.seconds)
+            kept[at] = KeptPreloader(self.events, self.folder, self.count, group, group.ready_within or self.seconds)
         return [str(places.SHIM), str(kept[at].path)]
 
     def drop(self, kept: dict[int, KeptPreloader]) -> None:

@@ -9,7 +9,7 @@ from typing import Any
 from .holding import Unfit
 
 # How often a probe is repeated that is answered with a fault of the server, and the pause before that.
-TRIES, PAUSE_SECONDS = 3, 0.2
+TRIES, PROBE_PAUSE_SECONDS = 3, 0.2
 
 
 def status_of(application: Callable, path: str, is_secure: bool = False) -> str:
@@ -44,7 +44,7 @@ def warm(application: Callable, path: str, is_secure: bool = False) -> None:
 def probe(application: Callable, path: str, is_secure: bool = False) -> None:
     """Asks for a page until it is answered with a status below 500, three times at most."""
     for number in range(TRIES):
-        time.sleep(PAUSE_SECONDS if number else 0)
+        time.sleep(PROBE_PAUSE_SECONDS if number else 0)
         try:
             status = status_of(application, path, is_secure)
         except Exception as fault:

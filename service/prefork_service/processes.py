@@ -1,8 +1,8 @@
 """Processes of a service, as the system tells of them."""
-import pathlib
+from collections.abc import Collection
 
 # A flag of the system: a process is about to end. And more than the system says of a process in one line.
-PF_EXITING, MOST_BYTES = 4, 4096
+PF_EXITING, MOST_LINE_BYTES = 4, 4096
 # What passes on lines between masters, or is the deputy of one.
 RELAY = "/prefork-launch"
 
@@ -10,7 +10,7 @@ RELAY = "/prefork-launch"
 def line_of(path: str) -> str:
     """What a short file of the system says, by few calls: a status reads hundreds. The name of a process may be no text."""
     with open(path, "rb", 0) as file:
-        return file.read(MOST_BYTES).decode(errors="replace")
+        return file.read(MOST_LINE_BYTES).decode(errors="replace")
 
 
 def fields_of(process: int) -> list[str]:
@@ -48,12 +48,12 @@ def descends(process: int, ancestor: int) -> bool:
     return False
 
 
-def masters_of(first: int) -> list[int]:
+def masters_of(first: int, workers: Collection[int] = ()) -> list[int]:
     """The master that the service has started, and those of upgrades that run, oldest first. A relay has started these, or
-    the master before; the deputy of one is not counted."""
+    the master before; the deputy of one is not counted. `workers` are processes that are known to be none."""
     found, waiting = [first], [first]
     while waiting:
-        adopting = [child for child in children_of(waiting.pop(0)) if words_of(child)[1:2] == ["adopt"]]
+        adopting = [child for child in children_of(waiting.pop(0)) if child not in workers and words_of(child)[1:2] == ["adopt"]]
         found += [child for child in adopting if not words_of(child)[0].endswith(RELAY)]
         waiting += adopting
     return found
@@ -69,6 +69,7 @@ def words_of(process: int) -> list[str]:
 
 def children_of(process: int) -> list[int]:
     try:
-        return [int(word) for word in pathlib.Path(f"/proc/{process}/task/{process}/children").read_text().split()]
+        with open(f"/proc/{process}/task/{process}/children", "rb", 0) as file:
+            return [int(word) for word in file.readall().split()]
     except OSError:
         return []

@@ -9,14 +9,14 @@ OF_PROXIES = (
     "HTTP_X_FORWARDED_BY",
 )
 # In place of an address: what comes at a Unix socket.
-UNIX = "unix"
-PORTS = {"http": "80", "https": "443"}
+UNIX_SCHEME = "unix"
+PORT_OF_SCHEME = {"http": "80", "https": "443"}
 Network = ipaddress.IPv4Network | ipaddress.IPv6Network
 
 
 def proxy_of(text: str) -> Network | str:
     """A proxy, by its address or its network, or `unix`. Raises ValueError."""
-    return UNIX if text == UNIX else ipaddress.ip_network(text)
+    return UNIX_SCHEME if text == UNIX_SCHEME else ipaddress.ip_network(text)
 
 
 class Proxies:
@@ -24,7 +24,7 @@ class Proxies:
 
     def __init__(self, trusted: Iterable[Network | str]):
         self.networks = [one for one in trusted if not isinstance(one, str)]
-        self.has_unix = UNIX in trusted
+        self.has_unix = UNIX_SCHEME in trusted
 
     def is_trusted(self, address: str) -> bool:
         """Whether an address is that of a trusted proxy."""
@@ -44,7 +44,7 @@ class Proxies:
         environ["wsgi.multiprocess"] = True
         environ["SERVER_NAME"] = name_of(environ["SERVER_NAME"])
         if is_unix:
-            environ["SERVER_NAME"], environ["SERVER_PORT"] = "localhost", PORTS["http"]
+            environ["SERVER_NAME"], environ["SERVER_PORT"] = "localhost", PORT_OF_SCHEME["http"]
         if not (self.has_unix if is_unix else self.is_trusted(environ["REMOTE_ADDR"])):
             for name in OF_PROXIES:
                 environ.pop(name, None)
@@ -53,13 +53,13 @@ class Proxies:
             environ["REMOTE_ADDR"] = environ["REMOTE_HOST"] = client
             environ.pop("REMOTE_PORT", None)
         scheme = environ.get("HTTP_X_FORWARDED_PROTO", "").rpartition(",")[2].strip().lower()
-        if scheme in PORTS:
+        if scheme in PORT_OF_SCHEME:
             environ["wsgi.url_scheme"] = scheme
         host = environ.get("HTTP_HOST", "")
         if host:
             environ["SERVER_NAME"] = name_of(without_port(host))
             port = host.rpartition(":")[2] if not host.endswith("]") and ":" in host else ""
-            environ["SERVER_PORT"] = port if port.isdigit() else PORTS[environ["wsgi.url_scheme"]]
+            environ["SERVER_PORT"] = port if port.isdigit() else PORT_OF_SCHEME[environ["wsgi.url_scheme"]]
 
 
 def without_port(text: str) -> str:

@@ -10,7 +10,7 @@ import pathlib
 from .blocks import block_of
 from .folder import plain
 
-MOST_BYTES = 1 << 16
+MOST_REASON_BYTES = 1 << 16
 
 
 class Reasons:
@@ -31,7 +31,7 @@ class Reasons:
                 file.seek(self.read)
                 text = file.read()
             self.read += len(text)
-            if self.read > MOST_BYTES:
+            if self.read > MOST_REASON_BYTES:
                 os.truncate(self.path, 0)
                 self.read = 0
         except OSError:

@@ -1,34 +1,19 @@
-"""What starts the workers of a group, and the file in which prefork-launch reads it.
-
-The file of a generation has words, each ended by a byte 0. Words PREFORK_NAME=VALUE come first: they are for the environment of
-all workers. Then the words of the command follow; or, for workers that have settings or groups of their own, sections. The
-first word of a section says up to which number workers have it, and the last one how many words the command after it has:
-
-    \\1workers LAST  \\1folder PATH  \\1set NAME=VALUE  \\1read NAME=PATH  \\1nice N  \\1limit NUMBER SOFT HARD  \\1command COUNT
-
-`read` is a variable whose value is what the file has at each start.
+"""What starts the workers of a group, by a configuration and a command line. prefork-read and the part of a start that reads the
+command line know it; the core is told what has come of it.
 """
 import dataclasses
 import enum
-import os
-import pathlib
 import tomllib
-from collections.abc import Iterable, Sequence
 from typing import Any
 
-from .bounds import ADAPTER_SECONDS, EARLIER
+from .bounds import ADAPTER_SECONDS, EARLIER_SECONDS
+from .configuration import LAST, SETS, Group
 
 Path = tuple[str, ...]
 # The table of a configuration that says what runs.
 SERVICE = "service"
 # The rules of `command` in a configuration.
-MOST_WORDS, LONGEST_WORD = 16, 255
-
-# The largest number that a worker can have.
-LAST = (1 << 32) - 1
-SETS = "\1"
-# What starts workers where nothing is to be started.
-NOTHING = ("false",)
+MOST_COMMAND_WORDS, LONGEST_WORD = 16, 255
 
 
 class Runs(enum.Enum):
@@ -71,6 +56,8 @@ class Recipe:
     # The program that must be there, and how many threads a worker has that serves by itself.
     program: str = ""
     threads: int = 0
+    # The bytes of memory at which a worker is killed; 0 is without a limit.
+    hard_memory: int = 0
 
     def processes(self) -> int:
         """How many processes and threads a worker is at least: those of its adapter and of the application."""
@@ -79,30 +66,21 @@ class Recipe:
     def seconds(self) -> float:
         """How long a master has to wait for it."""
         own = [one for one in (self.ready_within, self.finish) if one]
-        return max([ADAPTER_SECONDS, *own]) + EARLIER if self.runs and self.runs.has_adapter else max([0.0, *own])
+        return max([ADAPTER_SECONDS, *own]) + EARLIER_SECONDS if self.runs and self.runs.has_adapter else max([0.0, *own])
 
-    def settings(self) -> list[str]:
-        """The words of its settings. Those of a worker that is forked are its preloader's."""
-        if self.runs and self.runs.is_forked:
-            return []
-        return self.own_settings()
-
-    def own_settings(self) -> list[str]:
+    def settings(self) -> tuple[str, ...]:
+        """The words of its settings."""
         found = [f"folder {self.folder}"] if self.folder else []
         found += [f"set {name}={value}" for name, value in self.variables]
         found += [f"read {name}={path}" for name, path in self.secrets]
         found += [] if self.nice is None else [f"nice {self.nice}"]
         found += [f"limit {number} {soft} {hard}" for number, soft, hard in self.limits]
-        return [f"{SETS}{word}" for word in found]
+        return tuple(f"{SETS}{word}" for word in found)
 
-    def section(self, words: Sequence[str]) -> list[str]:
-        """Its section, with the words of a command."""
-        return [f"{SETS}workers {self.last}", *self.settings(), f"{SETS}command {len(words)}", *words]
-
-    def loading(self) -> bytes:
-        """The section of its preloader."""
-        words = [*self.own_settings(), f"{SETS}command {len(self.words)}", *self.words]
-        return b"".join(os.fsencode(word) + b"\0" for word in words)
+    def group(self) -> Group:
+        """What the core is told of it."""
+        is_forked = bool(self.runs and self.runs.is_forked)
+        return Group(self.words, self.last, self.name, self.settings(), is_forked, self.ready_within, self.hard_memory)
 
 
 @dataclasses.dataclass(frozen=True)
@@ -126,6 +104,7 @@ class Told:
     ready_within: float | None = None
     finish: float | None = None
     threads: int = 0
+    hard_memory: int = 0
 
     def as_json(self) -> dict[str, Any]:
         """All of it, for another process."""
@@ -133,7 +112,7 @@ class Told:
 
     def recipe(self, words: tuple[str, ...], runs: Runs | None, program: str) -> Recipe:
         """What starts workers without a table `service`."""
-        return Recipe(words, runs, ready_within=self.ready_within, finish=self.finish, program=program, threads=self.threads)
+        return Recipe(words, runs, ready_within=self.ready_within, finish=self.finish, program=program, threads=self.threads, hard_memory=self.hard_memory)
 
 
 def told_in(found: dict[str, Any]) -> Told:
@@ -158,39 +137,21 @@ class Setup:
     recipes: tuple[Recipe, ...] = ()
     answer_within: int | None = None
     hooks: dict[str, str] = dataclasses.field(default_factory=dict)
+    # What answers the questions of an upgrade that asks, if something does.
+    ask: dict[str, Any] | None = None
     faults: list[Fault] = dataclasses.field(default_factory=list)
     # The keys that the command line overrides.
     overridden: list[str] = dataclasses.field(default_factory=list)
     # What the files of variables have, by their paths.
     files: dict[str, str] = dataclasses.field(default_factory=dict, repr=False)
 
-    def group_of(self, worker: int) -> str:
-        """The name of the group of a worker; nothing if it has none."""
-        return next((one.name for one in self.recipes if worker <= one.last), "")
-
-
-def file_of(recipes: Sequence[Recipe], commands: Sequence[Sequence[str]], before: Iterable[str] = ()) -> bytes:
-    """The file of a generation whose groups have these commands."""
-    if not recipes:
-        words = [*before, *NOTHING]
-    elif len(recipes) == 1 and not recipes[0].settings():
-        words = [*before, *commands[0]]
-    else:
-        words = [*before, *(word for recipe, command in zip(recipes, commands) for word in recipe.section(command))]
-    return b"".join(os.fsencode(word) + b"\0" for word in words)
-
-
-def write_private(file: pathlib.Path, text: bytes) -> None:
-    """Writes a file that nobody else can read. Raises OSError."""
-    opened = os.open(file, os.O_WRONLY | os.O_CREAT | os.O_TRUNC | os.O_CLOEXEC, 0o600)
-    with open(opened, "wb") as written:
-        os.fchmod(opened, 0o600)
-        written.write(text)
+    def groups(self) -> tuple[Group, ...]:
+        return tuple(one.group() for one in self.recipes)
 
 
 def is_command(value: object) -> bool:
     """Whether a configuration may have this as its `command`."""
-    if not isinstance(value, list) or not 1 <= len(value) <= MOST_WORDS:
+    if not isinstance(value, list) or not 1 <= len(value) <= MOST_COMMAND_WORDS:
         return False
     texts = [word.encode() for word in value if isinstance(word, str)]
     return len(texts) == len(value) and all(1 <= len(text) <= LONGEST_WORD and 0 not in text for text in texts)

@@ -3,7 +3,8 @@
 Each master that the service starts has a folder `records/N`: `from.toml`, the configuration of its start; `blocks.1`,
 `blocks.2` and so on, the parts of what it printed, in their order; and for a block K that goes over to another
 configuration, `to.K.toml`. So prefork-ctl can certify them. If the new master of an upgrade had ended before block K, the
-mark `lost.K` says so: prefork-serve saw that itself.
+mark `lost.K` says so: prefork-serve saw that itself. If the master died after block K, and the next one has followed it, the
+mark `died.K` has the word that it was carrying out, or nothing.
 
 A tick at which nothing was missing has no block there, and nor have beats; only the last beat of each worker is written
 before the next block, since a later tick may rest on it. A tick that ends as the two before it did is not written
@@ -25,7 +26,9 @@ MEGABYTE = 1 << 20
 GAP = ".gap"
 # How the name of the mark begins that a new master had ended before a block.
 LOST = "lost."
-OWN = re.compile(r"from\.toml|to\.\d+\.toml|lost\.\d+|blocks\.\d+(\.gap)?")
+# How that of the mark begins that the master died after a block.
+DIED = "died."
+OWN_FILES = re.compile(r"from\.toml|to\.\d+\.toml|(lost|died)\.\d+|blocks\.\d+(\.gap)?")
 
 
 def is_quiet(text: str) -> bool:
@@ -110,6 +113,10 @@ class Records:
         """The block that was written last tells of a new master that has ended by itself, as prefork-serve has seen."""
         self.writer.add(self.folder() / f"{LOST}{self.count}", f"{why}\n".encode())
 
+    def mark_death(self, word: str) -> None:
+        """The master has died after the block that was written last, while it carried out this word, or between two."""
+        self.writer.add(self.folder() / f"{DIED}{self.count}", f"{word}\n".encode())
+
     def part_size(self) -> int:
         return min(PART, self.most // PARTS)
 
@@ -163,6 +170,6 @@ def part_number(file: pathlib.Path) -> int:
 
 def files_of(folder: pathlib.Path) -> list[pathlib.Path]:
     """The files of a master, its parts in their order."""
-    files = [file for file in folder.iterdir() if OWN.fullmatch(file.name)]
+    files = [file for file in folder.iterdir() if OWN_FILES.fullmatch(file.name)]
     parts = [file for file in files if file.name.startswith("blocks.")]
     return [*(file for file in files if file not in parts), *sorted(parts, key=part_number)]

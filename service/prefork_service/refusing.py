@@ -8,7 +8,7 @@ from .folder import text_of
 from .toml_lines import masked
 
 # How long the master's program may take to say whether it reads a configuration.
-ASKING_SECONDS = 10.0
+REFUSAL_SECONDS = 10.0
 # Lines of a refusal that begin to explain a fault, and the title of a code.
 HEADING, CODE = re.compile(r"  (?:config|file|usage|[A-Z]\d+): "), re.compile(r"  [A-Z]\d+: (.*)")
 # How the line begins that says what to write in place of an address.
@@ -20,11 +20,11 @@ def refusal_of(prefork: str, config: pathlib.Path) -> str | None:
     command = [prefork, "plan", "--why", "--from", str(config), "USR1"]
     streams: dict[str, Any] = {"stdin": subprocess.DEVNULL, "stdout": subprocess.DEVNULL, "stderr": subprocess.PIPE}
     try:
-        found = subprocess.run(command, **streams, text=True, timeout=ASKING_SECONDS)
+        found = subprocess.run(command, **streams, text=True, timeout=REFUSAL_SECONDS)
     except OSError as fault:
         return f"{prefork}: {fault.strerror}"
     except subprocess.TimeoutExpired:
-        return f"{prefork}: it has not said in {ASKING_SECONDS:g} seconds whether it reads the configuration"
+        return f"{prefork}: it has not said in {REFUSAL_SECONDS:g} seconds whether it reads the configuration"
     if not found.returncode:
         return None
     try:

@@ -1,11 +1,10 @@
 """What a word would do to a service as it runs now: how `prefork plan` and `prefork explore` are asked."""
 import pathlib
-from typing import Any
 
+from .forms import Status
 from .named import groups_of
 from .words import CHANGES
 
-Status = dict[str, Any]
 
 
 def rehearsal(kind: str, word: str, status: Status, options: list[str]) -> list[str]:

@@ -5,7 +5,7 @@ from typing import Any, Generic, TypeVar
 
 Found = TypeVar("Found")
 # How long something is remembered at least, and how much longer than it took to find out: others have the rest of the time.
-LEAST_SECONDS, TIMES = 0.1, 5.0
+REMEMBER_SECONDS, REMEMBER_TIMES = 0.1, 5.0
 
 
 class Remembered(Generic[Found]):
@@ -14,12 +14,13 @@ class Remembered(Generic[Found]):
     def __init__(self) -> None:
         self.key: Any = None
         self.found: Any = None
-        self.until = 0.0
+        self.moment, self.until = 0.0, 0.0
 
-    def get(self, look: Callable[[], Found], key: Any) -> Found:
+    def get(self, look: Callable[[], Found], key: Any, seconds: float = 0.0) -> Found:
+        """What is no older than some seconds is recent enough for the one who asks."""
         begun = time.monotonic()
-        if key != self.key or begun >= self.until or self.found is None:
+        if key != self.key or begun >= max(self.until, self.moment + seconds) or self.found is None:
             self.found, self.key = look(), key
-            now = time.monotonic()
-            self.until = now + max(LEAST_SECONDS, TIMES * (now - begun))
+            self.moment = now = time.monotonic()
+            self.until = now + max(REMEMBER_SECONDS, REMEMBER_TIMES * (now - begun))
         return self.found

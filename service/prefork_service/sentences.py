@@ -6,7 +6,7 @@ from .blocks import call_in, report_of
 from .done import Done
 from .words import is_routine, START
 
-NAMES = {
+SPOKEN = {
     "HUP": "reload", "USR2": "upgrade", "USR2 attended": "attended upgrade", "TTIN": "start of one worker more",
     "TTOU": "end of one worker", "WINCH": "end of all workers", "USR1": "opening of new logs", "QUIT": "stop", "INT": "stop",
     "TERM": "stop", START: "start",
@@ -30,7 +30,7 @@ def reason(done: Done) -> str:
 def sentence(done: Done) -> str:
     """What came of a word."""
     word = "tick" if is_routine(done.word) else done.word
-    subject = f"The {NAMES.get(word, word)} at {clock(done.began)}"
+    subject = f"The {SPOKEN.get(word, word)} at {clock(done.began)}"
     report = report_of(done.report)
     why = f": {reason(done)}" if reason(done) else ""
     missing = sum(report.lacks)
@@ -47,7 +47,7 @@ def sentence(done: Done) -> str:
 
 def on_its_way(word: str) -> str:
     """What a word that is being carried out does."""
-    name = NAMES.get(word, word)
+    name = SPOKEN.get(word, word)
     return f"{'An' if name[0] in 'aeiou' else 'A'} {name} is on its way."
 
 

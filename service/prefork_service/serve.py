@@ -29,6 +29,7 @@ stop, and 1 if the service could not run.
 """
 import argparse
 import errno
+import json
 import os
 import pathlib
 import socket
@@ -39,79 +40,100 @@ from typing import Any
 
 from . import beginning, places, programs
 from .becoming import become_core, has_journal
-from .bounds import ADAPTER_SECONDS, end_seconds
+from .bounds import ADAPTER_SECONDS
 from .claiming import ClaimedFolder
 from .commands import Commands
 from .errors import take_standard
-from .folder import Folder, say
+from .folder import Folder, content_of, say
 from .keeper import DEFER, socket_options
 from .inheriting import make_way, of_systemd
 from .limits import answer_seconds, known, limits_of
-from .named import addresses_of
 from .needs import needs_of, shortages
 from .options import arguments, fault_of, fault_of_adapter, hooks_of, place_of, processes_each, told_of
 from .outcomes import refusal_shown
 from .quickly import configured
+from .reader import SiteFile
 from .recipes import Runs
 from .records import MEGABYTE
 from .refusing import refusal_of
 from .sites import is_site
 from .starting import take_signals
-from .state import workers_in
 from .titles import set_title
 from .web import opened
 
 
-def commands_of(given: argparse.Namespace, folder: Folder) -> Commands | None:
-    """What starts workers; nothing if the configuration can't be served, and why was said."""
+def fitting(given: argparse.Namespace, folder: ClaimedFolder) -> tuple[SiteFile, Commands] | None:
+    """The configuration that the service starts with, and what starts its workers; nothing if it can't be served, and why was
+    said."""
     given.config = given.config or configured(given, folder)
-    commands = Commands(folder, given.config, told_of(given))
-    if check_fit(given, commands) or (commands.fall_back() and check_fit(given, commands)):
-        if overridden := overridden_of(given, commands):
+    site = SiteFile(pathlib.Path(given.config), told_of(given))
+    commands = Commands(folder, given.config, site.configuration())
+    if check_fit(given, site, commands) or (fall_back(site, commands) and check_fit(given, site, commands)):
+        if overridden := overridden_of(given, site):
             say(f"the command line overrides {', '.join(overridden)} of {given.config}, as long as this service runs")
-        return commands
+        keep_files(site, commands)
+        return site, commands
     commands.clear()
     return None
 
 
-def overridden_of(given: argparse.Namespace, commands: Commands) -> list[str]:
+def fall_back(site: SiteFile, commands: Commands) -> bool:
+    """Takes the configuration that a service had accepted which was killed; whether there is one."""
+    if not commands.accepted.exists():
+        return False
+    say(f"{site.config} is refused; the service that was killed had accepted another text, and starts with that")
+    site.take(commands.accepted.read_bytes(), kept_files(commands))
+    commands.take_first(site.configuration())
+    return True
+
+
+def keep_files(site: SiteFile, commands: Commands) -> None:
+    """Where the configuration is the one that a killed service had accepted, its files of variables have what they had."""
+    if site.text == content_of(commands.accepted) and (kept := kept_files(commands)):
+        site.take(site.text, kept)
+
+
+def kept_files(commands: Commands) -> dict[str, str] | None:
+    kept = content_of(commands.kept)
+    return json.loads(kept) if kept else None
+
+
+def overridden_of(given: argparse.Namespace, site: SiteFile) -> list[str]:
     """The keys of the file that the command line overrides."""
-    found = [f"hooks.{event}" for event in hooks_of(given) if event in commands.current.hooks]
-    within = ["answer_within"] if given.answer_within is not None and commands.current.answer_within is not None else []
-    return [*commands.current.overridden, *within, *found]
+    found = [f"hooks.{event}" for event in hooks_of(given) if event in site.setup.hooks]
+    within = ["answer_within"] if given.answer_within is not None and site.setup.answer_within is not None else []
+    return [*site.setup.overridden, *within, *found]
 
 
-def check_fit(given: argparse.Namespace, commands: Commands) -> bool:
+def check_fit(given: argparse.Namespace, site: SiteFile, commands: Commands) -> bool:
     """Whether the configuration can be served; why not is said."""
     if fault := fault_of(given.prefork):
         say(f"--prefork: {fault}")
         return False
-    if not commands.now.exists():
+    if site.why:
         # It could not be read, and that was said.
         return False
-    refusal, text = refusal_of(given.prefork, commands.source()), commands.now.read_bytes()
-    recipes, sites = commands.current.recipes, bool(given.page) + bool(given.metrics)
+    refusal, recipes = refusal_of(given.prefork, commands.source()), site.setup.recipes
     if refusal:
         say(refusal_shown(given.config, refusal))
-    is_forked = any(one.runs and one.runs.is_forked for one in recipes)
-    needs = needs_of(text, processes_each(recipes), sites, bool(recipes) and commands.has_adapter(), is_forked)
+    sites, is_forked = bool(given.page) + bool(given.metrics), any(one.runs and one.runs.is_forked for one in recipes)
+    needs = needs_of(site.for_master, processes_each(recipes), sites, bool(recipes) and site.has_adapter(), is_forked)
     faults = [] if refusal else [f"{given.config}: {fault}" for fault in shortages(needs)]
-    own = commands.fault()
-    found = commands.faults()
+    own, found = site.refusal(), site.faults()
     faults += found or ([f"{given.config}: {own[1]}"] if own else [])
     # A service that was killed starts again without its program: that may be back before long.
-    missing = [] if refusal or commands.accepted.exists() else missing_of(given, commands)
+    missing = [] if refusal or commands.accepted.exists() else missing_of(given, site)
     for fault in [*faults, *missing]:
         say(fault)
     return bool(recipes) and not refusal and not faults and not missing
 
 
-def missing_of(given: argparse.Namespace, commands: Commands) -> list[str]:
+def missing_of(given: argparse.Namespace, site: SiteFile) -> list[str]:
     """What workers need that is missing: a program, a folder, a file with a secret, what an adapter needs."""
-    found, told = [], commands.told
-    for one in commands.current.recipes:
+    found, told = [], site.told
+    for one in site.setup.recipes:
         folder = one.folder or told.place
-        is_told = one.runs is not Runs.COMMAND and not commands.has_table()
+        is_told = one.runs is not Runs.COMMAND and not site.has_table()
         where = "PROGRAM" if is_told else f"{given.config}: group {one.name}" if one.name else given.config
         texts = [fault_of(one.program, folder) if one.program else None]
         if one.folder and not os.path.isdir(one.folder):
@@ -131,38 +153,40 @@ def unread(path: str) -> str | None:
         return f"{path}: {fault.strerror}"
 
 
-def limits_for(given: argparse.Namespace, commands: Commands) -> list[str]:
+def limits_for(given: argparse.Namespace, site: SiteFile) -> list[str]:
     """The limits of masters."""
-    recipes, within = commands.current.recipes, answer_seconds(given.answer_within, commands.current.answer_within)
+    recipes, within = site.setup.recipes, answer_seconds(given.answer_within, site.setup.answer_within)
     has_adapter = any(one.runs and one.runs.has_adapter for one in recipes)
     return limits_of(within, max(one.seconds() for one in recipes), has_adapter)
 
 
-def settings_of(given: argparse.Namespace, folder: ClaimedFolder, commands: Commands, stored: dict[str, socket.socket]) -> dict[str, Any]:
+def settings_of(
+    given: argparse.Namespace, folder: ClaimedFolder, site: SiteFile, commands: Commands, stored: dict[str, socket.socket],
+) -> dict[str, Any]:
     """What the core is told."""
     configurations = ["--from", commands.now, "--to", commands.next]
     supervise = [given.prefork, "supervise", "--verbose", "--program", places.LAUNCH, *configurations]
-    place, limits = pathlib.Path(given.records or folder.path).absolute(), known(given.prefork, limits_for(given, commands))
+    place, limits = pathlib.Path(given.records or folder.path).absolute(), known(given.prefork, limits_for(given, site))
     return {
-        "folder": str(folder.path), "lock": folder.lock, "config": str(given.config), "text": commands.text.decode("latin-1"),
-        "supervise": [str(word) for word in supervise], "limits": limits, "most_seconds": end_seconds(limits),
+        "folder": str(folder.path), "lock": folder.lock, "config": str(given.config),
+        "configuration": site.configuration().as_json(), "supervise": [str(word) for word in supervise], "limits": limits,
         "hooks": hooks_of(given),
         "of_keeper": [*([DEFER] if given.defer_accept else []), *socket_options(given)],
         "place": str(place), "records_bytes": int(given.records_size * MEGABYTE),
         "stored": {address: one.fileno() for address, one in stored.items()}, "heir": folder.heritage.heir(),
         "inherited": {address: one.fileno() for address, one in folder.heritage.sockets.items()},
         "watched": given.reload_on_change, "keeps_trying": given.keep_trying,
-        "told": told_once(given, folder, place, commands),
+        "told": told_once(given, folder, place, site),
     }
 
 
-def told_once(given: argparse.Namespace, folder: Folder, place: pathlib.Path, commands: Commands) -> dict[str, Any]:
+def told_once(given: argparse.Namespace, folder: Folder, place: pathlib.Path, site: SiteFile) -> dict[str, Any]:
     """What prefork-watch is told of the service once."""
     return {
         "process": os.getpid(), "began": time.monotonic(), "folder": str(folder.path), "file": os.path.abspath(given.config),
         "prefork": str(given.prefork), "records": str(place / "records"), "journal": str(place / "journal"),
         "metrics": given.metrics, "page": given.page, "hosts": given.host,
-        "told": commands.told.as_json(), "ready_seconds": commands.told.ready_within or ADAPTER_SECONDS,
+        "told": site.told.as_json(), "ready_seconds": site.told.ready_within or ADAPTER_SECONDS,
     }
 
 
@@ -185,12 +209,12 @@ def check(given: argparse.Namespace) -> int:
     with tempfile.TemporaryDirectory(prefix="prefork-check-") as room:
         folder = ClaimedFolder(f"{room}/run")
         folder.claim()
-        commands = commands_of(given, folder)
-        if commands:
+        found = fitting(given, folder)
+        if found:
+            _, commands = found
             commands.clear()
-            addresses, workers = len(addresses_of(commands.proposed_text)), workers_in(commands.proposed_text)
-            print(f"{given.config}: fits: {addresses} addresses, {workers} workers")
-        return 0 if commands else 1
+            print(f"{given.config}: fits: {len(commands.current.addresses)} addresses, {commands.current.workers} workers")
+        return 0 if found else 1
 
 
 def folder_of(given: argparse.Namespace) -> ClaimedFolder:
@@ -206,20 +230,21 @@ def folder_of(given: argparse.Namespace) -> ClaimedFolder:
 def start(given: argparse.Namespace, folder: ClaimedFolder, stored: dict[str, socket.socket]) -> int:
     """Looks whether the service can be started, and becomes its core; the status if it can't."""
     try:
-        commands = commands_of(given, folder)
+        found = fitting(given, folder)
     except OSError as fault:
         sys.exit(f"prefork-serve: {fault}")
-    if not commands:
+    if not found:
         return 1
+    site, commands = found
     if why := fault_of_sites(given):
         say(why)
         commands.clear()
         return 1
-    addresses = addresses_of(commands.now_text)
+    addresses = [*commands.current.addresses]
     kept = [*stored, *folder.heritage.take(addresses, stored)]
     make_way(folder, [address for address in addresses if address not in kept])
     descriptors = [*(one.fileno() for one in stored.values()), *folder.heritage.descriptors()]
-    become_core(settings_of(given, folder, commands, stored), [folder.lock, *descriptors])
+    become_core(settings_of(given, folder, site, commands, stored), [folder.lock, *descriptors])
     return 1
 
 

@@ -8,9 +8,10 @@ from typing import TYPE_CHECKING, Any
 from .asking import Asking
 from .barrier import Barrier
 from .blocks import NEW_MASTER, block_of, report_of
-from .burying import await_holders, bury_orphans
+from .burying import bury_orphans
 from .chronicle import Chronicle
 from .commands import Commands
+from .configuration import Configuration
 from .feed import NOTES, Feed
 from .folder import say
 from .journal import wall_clock
@@ -18,16 +19,16 @@ from .keeping import Keeping
 from .leaving import Leaving
 from .bounds import end_seconds
 from .master import Master
-from .named import addresses_of, groups_of
 from .patience import UPGRADES, Hanging
 from .processes import masters_of
 from .questions import line_of
-from .state import workers_in
+from .reading import ReaderProcess
+from .stopping import Stopping
 from .summary import Summary
 from .surviving import Survivors, counted, running
 from .systemd import may_store, notify
 from .telling import Telling
-from .ticks import Ticks, timeout_of
+from .ticks import Ticks
 from .watching import Watching
 from .words import CHANGES, NOTE, START, STOPS, TICK, Queue, Word, is_routine, is_tick
 
@@ -56,8 +57,8 @@ class Service:
         self.master: Any = None
         self.waiting = Queue()
         self.current: Word | None = None
-        # The question that the current word asks, or 0.
-        self.question, self.asked = 0, 0.0
+        # The question that the current word asks, or 0; since when, and how many there were.
+        self.question, self.asked, self.questions = 0, 0.0, 0
         self.word_began = 0.0
         self.begun, self.ticks, self.is_stopped = 0.0, Ticks(), False
         self.has_heard, self.is_ready = False, False
@@ -72,10 +73,12 @@ class Service:
         self.leaving = Leaving(self.folder.path, end_seconds(limits))
         self.survivors = Survivors(self.folder.survivors, self.leaving)
         self.survivors.open()
-        self.hanging, self.status_of_end = Hanging(self), 0
+        self.hanging, self.stopping, self.status_of_end = Hanging(self), Stopping(self), 0
         self.summary = Summary(self)
         self.feed = Feed(self.events, told, self.summary.state, notify)
         self.telling = Telling(self, self.feed)
+        asked = {"config": str(commands.config), "told": told["told"], "most_seconds": end_seconds(limits), "python": sys.executable}
+        self.reading = ReaderProcess(self.events, asked, self.take_reading)
         self.asking = Asking(self)
 
     def run(self) -> int:
@@ -102,7 +105,7 @@ class Service:
         preloading += [self.changes.tend] if self.changes else []
         preloading += [self.keeping.listeners.tend] if self.keeping.listeners else []
         tends: list[Callable] = [self.commands.mend, self.keeping.mend, self.asking.tend, self.keeping.tend, *preloading, self.hurry]
-        tends += [bury_orphans, self.hanging.tend, self.tend_survivors, self.end_late]
+        tends += [self.reading.tend, bury_orphans, self.hanging.tend, self.tend_survivors, self.end_late, self.stopping.tend]
         tends += [self.chronicle.tend, self.telling.tend, sys.stderr.flush]
         for tend in tends:
             duty(tend)
@@ -132,8 +135,7 @@ class Service:
 
     def settle_survivors(self, report: str) -> None:
         """Where others serve in their place, workers that have survived their master finish."""
-        sizes = [workers for workers, _ in groups_of(self.commands.now_text)]
-        if count := self.survivors.settle(report, self.record, sizes):
+        if count := self.survivors.settle(report, self.record, [*self.commands.current.sizes]):
             self.note(f"{counted(count)} of a master that has died: told to finish, since others serve")
 
     def note(self, text: str) -> None:
@@ -150,7 +152,7 @@ class Service:
 
     def begin_master(self) -> None:
         """Starts a master if none runs, at most one a second. Its start is the first block."""
-        if self.master is not None or time.monotonic() - self.begun < 1:
+        if self.master is not None or self.stopping.is_due() or time.monotonic() - self.begun < 1:
             return
         self.begun = time.monotonic()
         try:
@@ -179,9 +181,9 @@ class Service:
         self.events.register(master.errors, selectors.EVENT_READ, self.hear_errors)
         self.master, self.current = master, Word(START)
         self.starts += 1
-        text = self.commands.current_text
-        self.watching.begin_master(workers_in(text), timeout_of(text))
-        self.barrier.duty(self.chronicle.begin_master, self.commands.now_text, master.process.pid)
+        current = self.commands.current
+        self.watching.begin_master(current.workers, current.timeout)
+        self.barrier.duty(self.chronicle.begin_master, current.for_master, master.process.pid)
         self.begin_word(self.current)
 
     def begin_word(self, word: Word) -> None:
@@ -203,43 +205,74 @@ class Service:
 
     def tell_next(self) -> None:
         """Tells the word that is due, once the master has done the one before."""
-        if self.master is None or self.current is not None:
+        if self.master is None or self.current is not None or not (word := self.due()):
             return
+        try:
+            self.current = word
+            self.begin_word(word)
+            if word.text in CHANGES:
+                # (it is told once the configuration has been read)
+                self.read_again()
+            else:
+                self.master.tell(word.text)
+        except Exception as fault:
+            # Nobody would answer a word that was not told. A stop needs no master.
+            if word.text in STOPS:
+                self.master.process.kill()
+            else:
+                self.refuse(NOT_READ, f"it is not told to the master: {fault}")
+            raise
+
+    def due(self) -> Word | None:
+        """The word that is to be told now."""
         if self.waiting:
             word = self.waiting.next()
             if word.text == TICK:
                 self.watching.begin(word.text)
                 word.text = self.ticks.tell(self.watching.pause())
-            self.begin_word(word)
-        elif self.ticks.is_due() and self.watching.wants_tick(self.ticks.told):
-            self.begin_word(Word(self.ticks.tell(self.watching.pause())))
-        elif self.ticks.is_due():
-            self.ticks.put_off()
-            return
-        else:
+            return word
+        if not self.ticks.is_due():
+            return None
+        if self.watching.wants_tick(self.ticks.told):
+            return Word(self.ticks.tell(self.watching.pause()))
+        self.ticks.put_off()
+        return None
+
+    def read_again(self) -> None:
+        """Has the configuration read again for the current word, which is refused if that is not possible."""
+        try:
+            self.reading.begin()
+        except OSError as fault:
+            self.refuse(NOT_READ, f"the configuration is not read: {fault}")
+
+    def take_reading(self, found: Configuration | None, why: str) -> None:
+        """The configuration has been read for the current word, or could not be, which refuses it."""
+        word = self.current
+        if not word or not self.master:
             return
         try:
-            if self.current and (self.current.text not in CHANGES or self.read_again()):
-                self.master.tell(self.current.text)
+            if not found:
+                self.refuse(NOT_READ, f"the configuration is not read: {why}")
+            elif self.goes_over(found):
+                self.master.tell(word.text)
         except Exception as fault:
-            # Nobody would answer a word that was not told.
             self.refuse(NOT_READ, f"it is not told to the master: {fault}")
             raise
 
-    def read_again(self) -> bool:
-        """Reads the configuration again for the current word, which is refused if the copy for the master can't be
-        written; whether the word is still to be told."""
+    def goes_over(self, found: Configuration) -> bool:
+        """Goes over to a configuration for the current word, which is refused if the copy for the master can't be written;
+        whether the word is still to be told."""
         try:
-            self.commands.change(self.record.generation)
-            self.chronicle.records.proposed = self.commands.next_text()
-            if wanted := self.keeping.wanted(self.commands.next_text()):
-                wanted.propose(self.commands.next_text())
+            self.commands.change(self.record.generation, found)
+            self.chronicle.records.proposed = found.for_master
+            if wanted := self.keeping.wanted(found):
+                wanted.propose(found)
             self.keeping.renew()
         except OSError as fault:
             self.refuse(NOT_READ, f"the configuration is not read: {fault}")
         else:
-            if refusal := self.commands.fault():
-                self.refuse(*refusal)
+            if found.refusal:
+                self.refuse(*found.refusal)
         return self.current is not None
 
     def refuse(self, report: str, reason: str) -> None:
@@ -272,6 +305,10 @@ class Service:
                 # Nothing would end it any more.
                 self.current = None
                 word.answer(block)
+            if word and word.text in STOPS and not self.is_stopped:
+                # A fault has kept it from its end.
+                self.end_master(word)
+                return
 
     def hear_errors(self, _: int) -> None:
         if self.master is None or self.is_stopped:
@@ -288,7 +325,7 @@ class Service:
 
     def ask(self, question: int) -> None:
         """The current word asks: no tick and no other word is told until it is answered."""
-        self.question, self.asked = question, time.monotonic()
+        self.question, self.asked, self.questions = question, time.monotonic(), self.questions + 1
         if self.current:
             say(f"{self.current.text} {line_of(question)}".rstrip())
             self.current.tell(line_of(question))
@@ -328,8 +365,8 @@ class Service:
     def settle_options(self, report: str) -> None:
         """The configuration that runs is certain, and with it the options of listeners."""
         self.commands.settle(report)
-        if wanted := self.keeping.wanted(self.commands.now_text):
-            wanted.settle(self.commands.now_text)
+        if wanted := self.keeping.wanted(self.commands.current):
+            wanted.settle(self.commands.current)
 
     def settle(self, word: Word, block: str) -> None:
         """Settles what rests on a block: the configuration, the keeper, and systemd."""
@@ -340,7 +377,7 @@ class Service:
         if word.text in (*CHANGES, START) and runs:
             duty(self.keeping.settle)
         if word.text in CHANGES and runs:
-            duty(self.keeping.drop_others, addresses_of(self.commands.now_text))
+            duty(self.keeping.drop_others, [*self.commands.current.addresses])
         duty(self.telling.end_word)
 
     def explain(self, word: Word, block: str) -> None:
@@ -377,14 +414,12 @@ class Service:
         if is_lost:
             self.barrier.duty(self.mark_lost, block)
             self.master.process.kill()
-        self.is_stopped = word.text in STOPS and (is_lost or ended.outcome == "done")
-        if word.text in STOPS and not self.is_stopped:
-            self.barrier.duty(self.keeping.open_again)
-            self.barrier.duty(self.survivors.open)
-        if self.is_stopped:
+        if word.text in STOPS:
+            # It ends the service, whatever the report is.
+            if ended.outcome != "done":
+                self.master.process.kill()
             self.barrier.duty(self.hanging.finish)
-            self.barrier.duty(self.survivors.await_end)
-            self.barrier.duty(await_holders)
+            self.stopping.finish(word)
         elif is_lost:
             self.end_master()
 
@@ -402,26 +437,40 @@ class Service:
         """The file with the configuration that the master has refused, if there is one."""
         return str(self.commands.source()) if self.is_unread(word, block) and self.commands.next.exists() else ""
 
-    def end_master(self) -> None:
-        """The master has ended without having been told to."""
+    def release_master(self) -> Master:
+        """Hears the master no longer, and tells it nothing more."""
+        self.barrier.duty(self.reading.end)
         master, self.master, self.question = self.master, None, 0
         for source in (master.output, master.errors):
             if source in self.events.get_map():
                 self.events.unregister(source)
-        status = self.barrier.duty(master.close)
+        return master
+
+    def end_master(self, stop: Word | None = None) -> None:
+        """The master has ended without having been told to, or is of no use for a stop, which goes on without it."""
+        master, duty = self.release_master(), self.barrier.duty
         word, self.current = self.current, None
-        duty = self.barrier.duty
+        if stop:
+            duty(master.process.kill)
+        status = duty(master.close)
         duty(self.leaving.take_all)
+        if not stop and word and word.text in STOPS:
+            stop = word
+        if stop:
+            # (no other master is started)
+            self.current = stop
+            duty(self.chronicle.cut_word, stop.text, master.block)
+            return
         duty(self.survivors.open)
         duty(self.survivors.note_death)
         if word:
             duty(self.chronicle.cut_word, word.text, master.block)
+        duty(self.chronicle.end_master, word.text if word else "")
         if not self.has_heard:
             sys.exit(f"prefork-serve: {self.command[0]} does not start as the master: it has ended with status {status} "
                      "before its first block. Is it the program prefork, in this version?")
         # One that has ended before its first block was perhaps told options that it does not know.
         self.is_old = not self.is_old and word is not None and word.text == START and not master.block
-        duty(self.keeping.open_again)
         duty(self.telling.end_word)
         duty(self.settle_options, "lost")
         say(f"the master has ended with status {status}, and is started again with the configuration that was accepted")

@@ -13,6 +13,7 @@ from . import places, programs
 from .environments import variables_in
 from .keys import KEYS, LISTENER, OF_WSGI, dotted, faults_of_keys
 from .recipes import LAST, SERVICE, Fault, Path, Recipe, Runs, Setup, Told, is_command
+from .sizes import bytes_of
 
 # The tables of groups.
 GROUPS = "groups"
@@ -51,6 +52,7 @@ class Settings:
     blocking: bool = False
     threads: int | None = None
     timeout: float | None = None
+    request_timeout: float | None = None
     keep: int | None = None
     trusted_proxy: tuple[str, ...] = ()
     access_log: str = ""
@@ -61,6 +63,7 @@ class Settings:
     user: str = ""
     group: str = ""
     nice: int | None = None
+    hard_memory: int | str = 0
     limits: dict[str, Any] = dataclasses.field(default_factory=dict)
 
     def options(self, runs: Runs) -> list[str]:
@@ -79,10 +82,12 @@ class Settings:
 # The keys that are options of adapters.
 OPTIONS = (
     "ready", "ready_within", "finish", "probe", "probe_within", "probe_limit", "stop", "usr1", "blocking", "threads", "timeout",
-    "keep", "trusted_proxy", "access_log", "access_form", "warm", "after_fork", "after_load",
+    "request_timeout", "keep", "trusted_proxy", "access_log", "access_form", "warm", "after_fork", "after_load",
 )
 
 
+# The keys that groups have too.
+GROUP_KEYS = {key.name for key in KEYS.values() if key.runs}
 # The keys that are paths from the folder in which prefork-serve was started.
 PATHS = {"folder", "access_log"}
 
@@ -126,7 +131,7 @@ class Reading:
             recipes = [self.recipe(at, *one) for at, one in enumerate(tables)]
             setup.recipes = tuple(one for one in recipes if one) if all(recipes) else ()
             setup.answer_within = self.table.get("answer_within")
-            setup.hooks = self.hooks()
+            setup.hooks, setup.ask = self.hooks(), self.ask()
         if setup.faults:
             setup.recipes = ()
             return setup
@@ -140,7 +145,7 @@ class Reading:
         told, tables = self.told, [self.table, *self.table.get(GROUPS, {}).values()]
         words = [word[2:].replace("-", "_") for word in (*told.of_program, *told.of_wsgi) if word.startswith("--")]
         named = {NOT_SET.get(word, word) for word in words} | ({"program", "wsgi"} if told.program or told.wsgi else set())
-        named |= {name for name, is_told in (("preload", told.is_preloaded), ("python", told.python), ("folder", told.folder)) if is_told}
+        named |= {name for name, is_told in (("preload", told.is_preloaded), ("python", told.python), ("folder", told.folder), ("hard_memory", told.hard_memory)) if is_told}
         return [name for name in KEYS if name in named and any(name in table for table in tables)]
 
     def hooks(self) -> dict[str, str]:
@@ -151,6 +156,20 @@ class Reading:
             if fault := programs.fault_of(program):
                 self.refuse((SERVICE, "hooks", event), f"service.hooks.{event} can't be started: {fault}")
         return found
+
+    def ask(self) -> dict[str, Any] | None:
+        """What answers questions, and when: for prefork-ctl, which runs it from anywhere."""
+        given = {name: self.table[f"ask_{name}"] for name in ("after", "within") if f"ask_{name}" in self.table}
+        command = [*self.table.get("ask", ())]
+        if not command:
+            for name in given:
+                self.refuse((SERVICE, f"ask_{name}"), f"service.ask_{name} is of a command that answers questions, and there is none: ask = [\"COMMAND\"] is wanted with it")
+            return None
+        if "/" in command[0]:
+            command[0] = os.path.join(self.told.place, command[0])
+        if fault := programs.fault_of(command[0]):
+            self.refuse((SERVICE, "ask"), f"service.ask can't be started: {fault}")
+        return {"command": command, **given}
 
     def tables(self) -> list[tuple[Path, Table, int]]:
         """Of each group the path of its own keys, the keys, and the number of its last worker."""
@@ -177,7 +196,7 @@ class Reading:
 
     def keys_of(self, own: Table) -> Table:
         """The keys of a group, and those of the whole service that it has not."""
-        top = {key: value for key, value in self.table.items() if key not in (GROUPS, "hooks", "answer_within")}
+        top = {key: value for key, value in self.table.items() if key in GROUP_KEYS}
         told = self.told
         if told.program or told.wsgi:
             top = {key: value for key, value in top.items() if key not in ("program", "wsgi")}
@@ -244,6 +263,7 @@ class Reading:
             tuple(plain.items()), tuple(secrets.items()), settings.nice, limits_of(settings.limits),
             self.told.ready_within or settings.ready_within, self.told.finish or settings.finish, self.looked_for(settings, runs, variables),
             (settings.threads or WSGI_THREADS) + bool(settings.access_log) if runs in OF_WSGI else 0,
+            self.told.hard_memory or bytes_of(settings.hard_memory) or 0,
         )
         return found
 

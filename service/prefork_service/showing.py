@@ -9,18 +9,18 @@ from typing import Any
 from . import live, metrics, page, view
 from .barrier import Barrier
 from .done import Done
-from .folder import say
+from .forms import Status
 from .hooks import OF_OUTCOMES, Hooks
 from .metrics import MetricsFile, metrics_of
 from .page import NextPlan
 from .picture import Picture
 from .sites import is_site
 from .state import SHORT
-from .status import Status
 from .web import Pages, Site
 
-# How often the file of metrics is written, and how often it is tried to open an address.
-FILE_SECONDS, OPEN_SECONDS = 10.0, 1.0
+# How often the file of metrics is written, and how often it is tried to open an address. How old the status of a page may be
+# that is open: it asks each second.
+FILE_SECONDS, OPEN_SECONDS, PAGE_SECONDS = 10.0, 1.0, 0.5
 
 
 class Showing:
@@ -34,7 +34,9 @@ class Showing:
         self.file: MetricsFile | None = None
         self.plan: NextPlan | None = None
         self.written, self.next_open = 0.0, 0.0
-        numbers = {"/metrics": lambda: (metrics.KIND, metrics_of(self.status()))}
+        # The event that pages were told last, with what it was made of.
+        self.told: tuple[Status, object, str] = {}, None, ""
+        numbers = {"/metrics": lambda: (metrics.METRICS_KIND, metrics_of(self.status()))}
         # The addresses that are not open yet, with what is shown there.
         self.wanted: dict[str, Pages] = {}
         if hello["metrics"] and is_site(hello["metrics"]):
@@ -49,14 +51,22 @@ class Showing:
         """What the page's address shows: the page, what keeps it as the service is, and the status for programs."""
         return {
             "/": lambda: (page.KIND, view.page_of(*self.seen())),
-            "/live": lambda: (live.KIND, view.event_of(*self.seen())),
+            "/live": lambda: (live.EVENT_KIND, self.event()),
             "/live.js": lambda: (live.SCRIPT_KIND, live.SCRIPT),
             "/status.json": lambda: (live.JSON_KIND, json.dumps(self.status()) + "\n"),
         }
 
-    def seen(self) -> tuple[Status, list[Done], list[str], str]:
-        """What a page shows."""
-        return self.status(), [*self.picture.words], self.picture.state["calls"], self.plan.text if self.plan else ""
+    def seen(self, seconds: float = 0.0) -> tuple[Status, list[Done], list[str], str]:
+        """What a page shows, which may be some seconds old."""
+        return self.status(seconds), [*self.picture.words], self.picture.state["calls"], self.plan.text if self.plan else ""
+
+    def event(self) -> str:
+        """What pages that are open are told: all of them the same, as long as that is the same."""
+        status, words, calls, plan = self.seen(PAGE_SECONDS)
+        last = words[-1] if words else None
+        if status is not self.told[0] or (last, len(calls), plan) != self.told[1]:
+            self.told = status, (last, len(calls), plan), view.event_of(status, words, calls, plan)
+        return self.told[2]
 
     def open(self) -> None:
         """Opens the addresses that are not open. One that others have is tried again."""

@@ -6,7 +6,7 @@ import stat
 
 # How much of where a symbolic link leads is said: the answer of a keeper has a bounded length.
 LONGEST_LINK = 100
-KINDS = (
+FILE_KINDS = (
     (stat.S_ISREG, "a file"), (stat.S_ISDIR, "a folder"), (stat.S_ISFIFO, "a pipe"),
     (stat.S_ISBLK, "a device"), (stat.S_ISCHR, "a device"),
 )
@@ -59,7 +59,7 @@ def kind_of(path: str, mode: int) -> str:
     """What a file is that is no socket, for people."""
     if stat.S_ISLNK(mode):
         return f"a symbolic link to {os.fsencode(os.readlink(path)).decode(errors='replace')[:LONGEST_LINK]}"
-    return next((kind for is_kind, kind in KINDS if is_kind(mode)), "something else")
+    return next((kind for is_kind, kind in FILE_KINDS if is_kind(mode)), "something else")
 
 
 def in_use(what: str) -> OSError:

@@ -1,7 +1,6 @@
 """What both parts of a start of prefork-serve need: the one that reads the command line, and the core that follows it in the
 same process."""
 import json
-import os
 import signal
 import sys
 from typing import Any

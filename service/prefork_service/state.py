@@ -1,14 +1,13 @@
 """The state of the whole: whether a service does what is wanted of it. Everything that tells of the service tells this."""
 import dataclasses
-import tomllib
 from typing import Any
 
 from .words import ATTENDED, SIGNALS
 
-SERVES, CHANGES, SHORT, STOPPED = "serves", "changes", "short", "stopped"
+SERVES, IN_CHANGE, SHORT, STOPPED = "serves", "changes", "short", "stopped"
 MEANINGS = {
     SERVES: "as many workers run as are wanted",
-    CHANGES: "a word that changes the service is being carried out, or its first workers start",
+    IN_CHANGE: "a word that changes the service is being carried out, or its first workers start",
     SHORT: "fewer workers run than are wanted",
     STOPPED: "no worker is wanted, or the service has ended",
 }
@@ -17,15 +16,6 @@ CHANGING = {word for word in (*SIGNALS, ATTENDED) if word != "USR1"}
 # How long a service has to be short before it is told to people and to hooks: a worker that is replaced at once is no
 # news. How many workers are named that do not start.
 SETTLE_SECONDS, MOST_NAMED = 1.0, 3
-
-
-def workers_in(text: bytes) -> int:
-    """How many workers a configuration wants; 0 where the master is to refuse it."""
-    try:
-        found = tomllib.loads(text.decode())
-        return sum(int(group.get("workers", 1)) for group in found.get("groups", [found]))
-    except (ValueError, TypeError, AttributeError, RecursionError):
-        return 0
 
 
 def times(count: int) -> str:
@@ -47,8 +37,8 @@ class Whole:
     @property
     def line(self) -> str:
         """The state in a line."""
-        if self.state == CHANGES:
-            return f"{CHANGES}: {self.word}"
+        if self.state == IN_CHANGE:
+            return f"{IN_CHANGE}: {self.word}"
         if self.state == STOPPED:
             return f"{STOPPED}: no worker is wanted"
         if self.state == SERVES:
@@ -66,9 +56,9 @@ def whole_of(
 ) -> Whole:
     """The state of a service that carries out this word, or none. `is_started` is false up to its first block."""
     if not is_started:
-        return Whole(CHANGES, wanted, running, "the service starts")
+        return Whole(IN_CHANGE, wanted, running, "the service starts")
     if word in CHANGING:
-        return Whole(CHANGES, wanted, running, f"{word}")
+        return Whole(IN_CHANGE, wanted, running, f"{word}")
     if not wanted:
         return Whole(STOPPED, wanted, running)
     is_short = running < wanted
@@ -90,7 +80,7 @@ class News:
         if key != self.seen:
             self.seen, self.since = key, now
         self.is_near = False
-        if whole.state == CHANGES or self.told and key == key_of(self.told):
+        if whole.state == IN_CHANGE or self.told and key == key_of(self.told):
             return None
         if whole.state == SHORT and now - self.since < SETTLE_SECONDS:
             self.is_near = True

@@ -6,7 +6,7 @@ from .blocks import calls_in
 DONE, NOW, NEXT = "done", "now", "next"
 # A station: its name, and the calls that belong to it. A call of the new master of an upgrade begins with a star.
 Stations = tuple[tuple[str, frozenset[str]], ...]
-BACK = "goes back, or starts again what is missing"
+GOES_BACK = "goes back, or starts again what is missing"
 
 
 def stations(*rows: tuple[str, str]) -> Stations:
@@ -15,7 +15,7 @@ def stations(*rows: tuple[str, str]) -> Stations:
 
 RELOAD = stations(
     ("open addresses", "open"), ("start workers", "fork"), ("hear them ready", "await-ready"), ("count them", "census"),
-    ("let the old ones finish", "quit"), ("close addresses", "close"), ("count again", "census"),
+    ("let the old ones finish", "quit await-gone"), ("close addresses", "close"), ("count again", "census"),
 )
 UPGRADE = stations(
     ("start a new master", "move-pid spawn-master"), ("start its workers", "*adopt *open *close *fork"),
@@ -23,13 +23,13 @@ UPGRADE = stations(
     ("let the old workers finish", "quit await-gone kill"), ("the old master leaves", "alive leave"),
     ("count again", "*remove-pid *census"),
 )
-ASKS = stations(("it asks", "ask"))
+ASKING = stations(("it asks", "ask"))
 # Where the questions of an attended upgrade come.
 FIRST_QUESTION, SECOND_QUESTION = 4, 5
 PLANS: dict[str, Stations] = {
     "HUP": RELOAD,
     "USR2": UPGRADE,
-    "USR2 attended": UPGRADE[:FIRST_QUESTION] + ASKS + UPGRADE[FIRST_QUESTION:SECOND_QUESTION] + ASKS + UPGRADE[SECOND_QUESTION:],
+    "USR2 attended": UPGRADE[:FIRST_QUESTION] + ASKING + UPGRADE[FIRST_QUESTION:SECOND_QUESTION] + ASKING + UPGRADE[SECOND_QUESTION:],
     "TTIN": stations(("start a worker", "fork"), ("hear it ready", "await-ready"), ("count", "census")),
     "TTOU": stations(("let a worker finish", "quit"), ("count", "census")),
     "WINCH": stations(("let the workers finish", "quit"), ("count", "census")),
@@ -45,10 +45,12 @@ def called(lines: Sequence[str]) -> Iterator[str]:
 
 
 def place(plan: Stations, lines: Sequence[str]) -> int:
-    """The number of the station at which a word is: that of the last call that belongs to one from there on."""
+    """The number of the station at which a word is: that of the last call that belongs to one from there on. A reload in
+    steps begins again where a step starts its workers."""
     at = 0
     for call in called(lines):
-        at = next((number for number in range(at, len(plan)) if call in plan[number][1]), at)
+        begins = 0 if plan is RELOAD and call == "fork" else at
+        at = next((number for number in range(begins, len(plan)) if call in plan[number][1]), at)
     return at
 
 
@@ -62,5 +64,5 @@ def shown_stations(word: str | None, lines: Sequence[str], question: int) -> lis
         asks = [number for number, (_, calls) in enumerate(plan) if "ask" in calls]
         at = asks[min(question, len(asks)) - 1] if asks else at
     if not all(call.is_plain for call in calls_in(lines)):
-        return [*((name, DONE) for name, _ in plan[:at + 1]), (BACK, NOW)]
+        return [*((name, DONE) for name, _ in plan[:at + 1]), (GOES_BACK, NOW)]
     return [(name, DONE if number < at else NOW if number == at else NEXT) for number, (name, _) in enumerate(plan)]

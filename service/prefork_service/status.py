@@ -1,35 +1,26 @@
 """The status of a service: who runs, what was done last, and what is being done now."""
-import os
 import time
-from typing import Any
+from collections.abc import Callable
 
+from .ages import age_of
 from .blocks import calls_in
 from .counted import Record
-from .processes import fields_of
+from .forms import Status
 from .questions import line_of
 from .state import times
+from .worker_files import WorkerName
 
-TICKS = os.sysconf("SC_CLK_TCK")
-Status = dict[str, Any]
 LEFT_BEHIND = "an upgrade has left it; it passes words on. QUIT and a new start of the service end it"
 
 
-def age_of(process: int) -> int:
-    """For how many whole seconds a process has run."""
-    return int(exact_age_of(process))
-
-
-def exact_age_of(process: int) -> float:
-    fields = fields_of(process)
-    return max(0.0, time.clock_gettime(time.CLOCK_BOOTTIME) - int(fields[19]) / TICKS) if fields else 0.0
-
-
-def workers_of(record: Record, running: dict[tuple[str, int], int], beats: dict[int, int]) -> list[Status]:
+def workers_of(
+    record: Record, running: dict[WorkerName, int], beats: dict[int, int], age_of: Callable[[int], float] = age_of
+) -> list[Status]:
     """Each worker that was counted last; one whose process is not known has ended since."""
-    found = []
+    found, now = [], time.monotonic()
     for number in record.workers:
         process = running.get((record.generation, number))
-        age, now = exact_age_of(process) if process else 0.0, time.monotonic()
+        age = age_of(process) if process else 0.0
         # A beat from before its start is that of another worker with this number. A beat has the whole second in which it
         # was asked for, so one of the second of the start may be either's.
         beat = max(0, int(now) - beats[number]) if number in beats and beats[number] >= now - age else None
@@ -41,28 +32,31 @@ def workers_of(record: Record, running: dict[tuple[str, int], int], beats: dict[
 
 
 # What a worker does after a call of it.
-STATES = {("fork", "forked"): "starts", ("await-ready", "ready"): "is ready", ("quit", "ok"): "finishes", ("kill", "ok"): "ends"}
+STATES_AFTER = {("fork", "forked"): "starts", ("await-ready", "ready"): "is ready", ("quit", "ok"): "finishes", ("kill", "ok"): "ends"}
 
 
-def states_in(lines: list[str]) -> dict[tuple[str, int], str]:
+def states_in(lines: list[str]) -> dict[WorkerName, str]:
     """What workers do, as the lines of a block say that is not complete."""
     found = {}
     for call in calls_in(lines):
-        if call.worker is not None and (state := STATES.get((call.kind, call.answer))):
+        if call.worker is not None and (state := STATES_AFTER.get((call.kind, call.answer))):
             found[call.generation, call.worker] = state
     return found
 
 
-def others_of(record: Record, running: dict[tuple[str, int], int], lines: list[str]) -> list[Status]:
+def others_of(
+    record: Record, running: dict[WorkerName, int], lines: list[str], age_of: Callable[[int], float] = age_of
+) -> list[Status]:
     """The workers that run beside those that were counted last: they start, or finish. `lines` are those of a block that
     is not complete."""
-    states, found = states_in(lines), []
-    for (generation, number), process in sorted(running.items()):
-        if generation != record.generation or number not in record.workers:
-            found.append({
-                "generation": generation, "number": number, "process": process, "seconds": age_of(process),
-                "state": states.get((generation, number), "starts" if lines and not record.generation else "finishes"),
-            })
+    counted, found = {(record.generation, number) for number in record.workers}, []
+    others = sorted((worker, process) for worker, process in running.items() if worker not in counted)
+    states = states_in(lines) if others else {}
+    for (generation, number), process in others:
+        found.append({
+            "generation": generation, "number": number, "process": process, "seconds": int(age_of(process)),
+            "state": states.get((generation, number), "starts" if lines and not record.generation else "finishes"),
+        })
     return found
 
 

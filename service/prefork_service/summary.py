@@ -1,16 +1,15 @@
 """The state of a service as prefork-serve knows it, without a look at any process: what prefork-watch tells everybody, and
 what is told in short where that does not run."""
 import time
-from typing import TYPE_CHECKING, Any
+from typing import TYPE_CHECKING
 
-from .named import addresses_of
+from .feed import Message
 from .sockets import inode_of
 from .state import Whole
 
 if TYPE_CHECKING:
     from .service import Service
 
-Told = dict[str, Any]
 # The lines of the present block that are told.
 MOST_CALLS = 1000
 
@@ -25,7 +24,7 @@ class Summary:
         """The open addresses: while a word changes the service all of them, and else those that are wanted. One that was
         opened on the way, or is dropped, stays open for a moment."""
         held = sorted(self.of.keeping.held)
-        wanted = set() if self.of.doing() else set(addresses_of(self.of.commands.current_text))
+        wanted = set() if self.of.doing() else set(self.of.commands.current.addresses)
         return [address for address in held if address in wanted] if wanted else held
 
     def runs_now(self) -> str:
@@ -45,7 +44,7 @@ class Summary:
         """Whether a state is about to be told."""
         return self.of.watching.news.is_near
 
-    def state(self) -> Told:
+    def state(self) -> Message:
         """What changes."""
         of, master = self.of, self.of.master
         keeper = of.keeping.process
@@ -67,9 +66,12 @@ class Summary:
             "doing": of.doing(),
             "question": of.question,
             "asked": of.asked,
+            "asking": self.asking(),
+            "ask": of.commands.current.ask,
+            "hard_memory": self.hard_memory(),
             "waiting": len(of.waiting),
             "hooks": of.commands.hooks(),
-            "accepted": of.commands.current_text.decode("latin-1"),
+            "accepted": of.commands.current.text.decode("latin-1"),
             "records_waiting": of.chronicle.waiting(),
             # The workers of a master that has died, which serve until others are ready.
             "survivors": of.survivors.as_json(),
@@ -79,10 +81,22 @@ class Summary:
             **({"preloaders": of.commands.preloading.status()} if of.commands.preloading else {}),
         }
 
-    def brief(self) -> Told:
+    def hard_memory(self) -> Message:
+        """The limits of the generation that runs, and those of the next one while it starts."""
+        commands = self.of.commands
+        now, following = ([[one.last, one.hard_memory] for one in found.groups] for found in (commands.current, commands.proposed))
+        return {"generation": self.of.watching.record.generation, "limits": now, "next": following if commands.is_changing else []}
+
+    def asking(self) -> Message | None:
+        """The question that is asked: its number among all of them, and the addresses of the old and the new configuration."""
+        commands = self.of.commands
+        sides = {"old": [*commands.current.addresses], "new": [*commands.proposed.addresses]}
+        return {"number": self.of.questions, **sides} if self.of.question else None
+
+    def brief(self) -> Message:
         """The status in short."""
         state, of = self.state(), self.of
-        names = ("addresses", "generation", "workers", "master", "master_restarts", "keeper", "doing", "question", "waiting")
+        names = ("addresses", "generation", "workers", "master", "master_restarts", "keeper", "doing", "question", "asking", "ask", "waiting")
         return {
             "brief": True,
             "service": {name: of.feed.hello[name] for name in ("process", "folder", "prefork", "records")}

@@ -18,9 +18,7 @@ from .leaving import Leaving, start_of
 from .processes import fields_of, is_ending
 
 # How often it is looked at them, and how often their files are touched.
-LOOK_SECONDS, TOUCH_SECONDS = 0.1, 1.0
-# How long those may take to end at a stop that no limit ends earlier, and how often it is looked then.
-STOP_SECONDS, PAUSE_SECONDS = 60.0, 0.02
+SURVIVOR_LOOK_SECONDS, TOUCH_SECONDS = 0.1, 1.0
 
 
 @dataclasses.dataclass(frozen=True)
@@ -34,7 +32,7 @@ class Survivor:
 
 
 class Survivors:
-    """Those that serve on now, and those that were told to finish since."""
+    """Those that serve on now."""
 
     def __init__(self, place: pathlib.Path, leaving: Leaving):
         self.place, self.leaving, self.is_open = place, leaving, False
@@ -43,7 +41,6 @@ class Survivors:
         self.starts: dict[str, str] = {}
         # The files of those that were there when another master died, and of those whose master was seen to run.
         self.elders, self.doubted = set[str](), set[str]()
-        self.told: list[Survivor] = []
         self.next_look, self.next_touch = 0.0, 0.0
 
     def open(self) -> None:
@@ -90,7 +87,7 @@ class Survivors:
         now = time.monotonic()
         if now < self.next_look:
             return
-        self.next_look = now + LOOK_SECONDS
+        self.next_look = now + SURVIVOR_LOOK_SECONDS
         self.look()
         waited = {one.file.name for one in self.now if masters and not parents_of(one, self.place.parent).isdisjoint(masters)}
         replaced = self.elders if 0 < wanted <= len(self.now) - len(self.elders) else set[str]()
@@ -113,7 +110,6 @@ class Survivors:
             with contextlib.suppress(OSError):
                 one.file.unlink()
             self.now.remove(one)
-            self.told.append(one)
             self.leaving.take_process(one.name, one.process, one.start)
 
     def release(self) -> int:
@@ -126,25 +122,6 @@ class Survivors:
     def settle(self, report: str, record: Record, sizes: list[int]) -> int:
         """A block has ended so: if others serve in their place, they finish. `sizes` are those of the groups."""
         return self.release() if self.now and is_replaced(report, record, sizes) else 0
-
-    def await_end(self) -> list[Survivor]:
-        """Waits for the end of those that were told to finish; those that take too long are killed."""
-        # (one may have begun to serve on in the very moment in which the others were told)
-        self.close()
-        deadline = time.monotonic() + (self.leaving.seconds or STOP_SECONDS)
-        while (left := self.left()) and time.monotonic() < deadline:
-            time.sleep(PAUSE_SECONDS)
-        return [one for one in left if self.leaving.kill(one.process, one.start)]
-
-    def left(self) -> list[Survivor]:
-        """Those that were told to finish and have not ended."""
-        self.told = [one for one in self.told if start_of(one.process) == one.start]
-        return self.told
-
-    def kill_all(self) -> None:
-        self.close()
-        for one in self.left():
-            self.leaving.kill(one.process, one.start)
 
     def as_json(self) -> list[dict[str, object]]:
         return [{"worker": one.name, "process": one.process} for one in self.now]

@@ -4,8 +4,8 @@ import socket
 import time
 from collections.abc import Iterable
 
-# What the system may take to accept a message.
-SECONDS = 1.0
+# How the names of variables begin that are for prefork-serve alone; and what the system may take to accept a message.
+OF_SYSTEMD, NOTIFY_SECONDS = ("LISTEN_", "NOTIFY_SOCKET", "WATCHDOG_"), 1.0
 # A watchdog that is not there; and one is told a little before half its time is over.
 LONG, SOON = 1e9, 0.9
 
@@ -17,7 +17,7 @@ def notify(text: str, sockets: Iterable[socket.socket] = ()) -> None:
         return
     try:
         with socket.socket(socket.AF_UNIX, socket.SOCK_DGRAM) as told:
-            told.settimeout(SECONDS)
+            told.settimeout(NOTIFY_SECONDS)
             told.connect(place.replace("@", "\0", 1) if place.startswith("@") else place)
             socket.send_fds(told, [text.encode()], [one.fileno() for one in sockets])
     except OSError:

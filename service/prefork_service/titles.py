@@ -2,9 +2,9 @@
 import ctypes
 
 SET_NAME = 15
-LONGEST = 15
+LONGEST_TITLE = 15
 
 
 def set_title(text: str) -> None:
     """Names this process."""
-    ctypes.CDLL(None).prctl(SET_NAME, text.encode()[:LONGEST], 0, 0, 0)
+    ctypes.CDLL(None).prctl(SET_NAME, text.encode()[:LONGEST_TITLE], 0, 0, 0)

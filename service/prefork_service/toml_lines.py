@@ -1,10 +1,11 @@
 """In which line of a TOML text a key is, for people."""
 import re
 
-Path = tuple[str, ...]
-NAME = r"""(?:[A-Za-z0-9_-]+|"[^"\n]*"|'[^'\n]*')"""
-NAMES = rf"{NAME}(?:\s*\.\s*{NAME})*"
-HEADER, ENTRY, ONE = re.compile(rf"\s*\[\[?\s*({NAMES})\s*\]\]?"), re.compile(rf"\s*({NAMES})\s*="), re.compile(NAME)
+from .recipes import Path
+
+TOML_NAME = r"""(?:[A-Za-z0-9_-]+|"[^"\n]*"|'[^'\n]*')"""
+TOML_NAMES = rf"{TOML_NAME}(?:\s*\.\s*{TOML_NAME})*"
+HEADER, ENTRY, ONE = re.compile(rf"\s*\[\[?\s*({TOML_NAMES})\s*\]\]?"), re.compile(rf"\s*({TOML_NAMES})\s*="), re.compile(TOML_NAME)
 
 
 def names_in(text: str) -> Path:

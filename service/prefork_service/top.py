@@ -2,12 +2,11 @@
 import sys
 import time
 from collections.abc import Callable
-from typing import Any
 
+from .forms import Status
 from .guarding import put
 
-Status = dict[str, Any]
-CLEAR, SECONDS = "\033[H\033[2J", 1.0
+CLEAR_SCREEN, DRAW_SECONDS = "\033[H\033[2J", 1.0
 
 
 def shares(status: Status, before: Status | None) -> dict[int, float]:
@@ -55,9 +54,9 @@ def show(ask: Callable[[], Status]) -> int:
             if measured is None or status["measured"] != measured["measured"]:
                 parts, measured = shares(status, measured), status
             is_terminal = sys.stdout is not None and sys.stdout.isatty()
-            put((CLEAR if is_terminal else "") + drawn(status, parts))
+            put((CLEAR_SCREEN if is_terminal else "") + drawn(status, parts))
             if not is_terminal:
                 return 0
-            time.sleep(SECONDS)
+            time.sleep(DRAW_SECONDS)
     except KeyboardInterrupt:
         return 0

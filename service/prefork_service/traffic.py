@@ -15,16 +15,20 @@ import threading
 import time
 from typing import Any
 
+from .signs import Unchanged
+
 # The upper bounds, in seconds, of the buckets of latencies; the last bucket has no bound.
 BOUNDS = (0.005, 0.01, 0.025, 0.05, 0.1, 0.25, 0.5, 1.0, 2.5, 5.0, 10.0)
 # Statuses of answers by their first digit: 1xx to 5xx.
 CLASSES = ("1xx", "2xx", "3xx", "4xx", "5xx")
 # How often a worker writes what it has counted, and how often the files of those that have ended are added up at least.
 WRITE_SECONDS, LOOK_SECONDS = 0.2, 60.0
+# How many files stay open: each is a descriptor.
+MOST_OPEN = 256
 # The file with the sum of those that have ended; and that of a worker, by its name and its process, which has another name
 # before it is locked.
 SUM = "ended"
-FILE = re.compile(r"(\d+\.\d+\.\d+)\.(\d+)")
+COUNT_FILE = re.compile(r"(\d+\.\d+\.\d+)\.(\d+)")
 
 
 class Place(enum.IntEnum):
@@ -37,6 +41,7 @@ class Place(enum.IntEnum):
 
 COUNT = Place.FIRST_BUCKET + len(BOUNDS) + 1
 FORM = f"={COUNT}Q"
+COUNT_BYTES = struct.calcsize(FORM)
 
 
 @dataclasses.dataclass
@@ -78,7 +83,7 @@ class Counts:
 
 def counts_in(text: bytes) -> Counts | None:
     """The counts of a file; nothing if it is not whole."""
-    if len(text) != struct.calcsize(FORM):
+    if len(text) != COUNT_BYTES:
         return None
     numbers = list(struct.unpack(FORM, text))
     threads, busy, microseconds, lost_lines = numbers[: Place.FIRST_CLASS]
@@ -132,14 +137,60 @@ def opened(folder: str, name: str) -> int:
     return file
 
 
+class CountFile:
+    """The file of a worker. Its lock says whether the worker has ended."""
+
+    def __init__(self, path: pathlib.Path):
+        self.path, self.process, self.generation = path, int(path.name.rpartition(".")[2]), path.name.rsplit(".", 2)[0]
+        self.counts: Counts | None = None
+        # Whether its counts are in the sum of those that have ended.
+        self.is_added, self.file, self.text = False, -1, b""
+
+    def look(self, is_kept: bool) -> bool:
+        """Reads what the worker has counted; whether it has ended. The file stays open if it is kept. Raises OSError."""
+        if self.file < 0:
+            self.file = os.open(self.path, os.O_RDWR | os.O_CLOEXEC)
+        try:
+            # The lock comes first: what is read afterwards is all that a worker has counted that has ended.
+            is_over = is_free(self.file)
+            text = os.pread(self.file, COUNT_BYTES + 1, 0)
+            if text != self.text:
+                self.text, self.counts = text, counts_in(text)
+            return is_over
+        finally:
+            if not is_kept:
+                self.close()
+
+    def remove(self) -> None:
+        """Removes the file, unless another worker has one of this name by now. Raises OSError."""
+        if self.file < 0 or os.path.samestat(os.fstat(self.file), os.stat(self.path)):
+            self.path.unlink()
+
+    def close(self) -> None:
+        if self.file >= 0:
+            os.close(self.file)
+        self.file = -1
+
+
+def is_free(file: int) -> bool:
+    """Whether no other process has locked a file. It is locked then."""
+    try:
+        fcntl.lockf(file, fcntl.LOCK_EX | fcntl.LOCK_NB)
+        return True
+    except OSError:
+        return False
+
+
 class Traffic:
     """The folder of these files, as the service reads it."""
 
     def __init__(self, place: pathlib.Path, is_again: bool = False):
         """Where the process that adds up is started again (`is_again`), it goes on from the sum of the one before."""
-        self.place, self.past = place, Counts()
-        # Whether a worker has counted here, and what those that run have counted, by their processes.
-        self.is_counted, self.running, self.looked = False, dict[int, Counts](), 0.0
+        self.place, self.past, self.listed = place, Counts(), Unchanged(place)
+        # Whether a worker has counted here, the files, and what those that run have counted, by their processes.
+        self.is_counted, self.files, self.running, self.looked = False, dict[str, CountFile](), dict[int, Counts](), 0.0
+        # By the generation: what those that run have counted, and what those of it that have ended had.
+        self.generations, self.ended = dict[str, Counts](), dict[str, Counts]()
         with contextlib.suppress(OSError):
             place.mkdir(mode=0o700, exist_ok=True)
             self.past = (counts_in((place / SUM).read_bytes()) if is_again else None) or Counts()
@@ -149,29 +200,59 @@ class Traffic:
 
     def look(self) -> None:
         """Reads all files. Those of workers that have ended are added up, and removed."""
-        self.running, self.looked = {}, time.monotonic()
-        for file in self.files():
-            counts, is_over = read(file)
-            if counts:
-                self.is_counted = True
-            if is_over:
-                self.past.add(counts or Counts())
-                with contextlib.suppress(OSError):
-                    (self.place / SUM).write_bytes(self.past.packed())
-                    file.unlink()
-            elif counts:
-                self.running[int(file.name.rpartition(".")[2])] = counts
+        self.looked = time.monotonic()
+        if not self.listed.holds():
+            self.list_files()
+        for at, file in enumerate([*self.files.values()]):
+            try:
+                if file.look(at < MOST_OPEN):
+                    self.bury(file)
+            except OSError:
+                # It has gone.
+                file.counts = None
+            self.is_counted = self.is_counted or file.counts is not None
+        self.add_up()
+
+    def add_up(self) -> None:
+        """Takes what those that run have counted, together and by the generation."""
+        self.running, self.generations = {}, {}
+        for file in self.files.values():
+            if file.counts and not file.is_added:
+                self.running[file.process] = file.counts
+                self.generations.setdefault(file.generation, Counts()).add(file.counts)
+        self.ended = {generation: counts for generation, counts in self.ended.items() if generation in self.generations}
+
+    def list_files(self) -> None:
+        """Takes the files that have come, and forgets those that have gone."""
+        try:
+            names = {name for name in os.listdir(self.place) if COUNT_FILE.fullmatch(name)}
+        except OSError:
+            names = set()
+        for name in self.files.keys() - names:
+            self.files.pop(name).close()
+        for name in names - self.files.keys():
+            self.files[name] = CountFile(self.place / name)
+
+    def bury(self, file: CountFile) -> None:
+        """The worker has ended: what it has counted stays in the sum, once."""
+        if not file.is_added:
+            self.is_counted = self.is_counted or file.counts is not None
+            self.past.add(file.counts or Counts())
+            self.ended.setdefault(file.generation, Counts()).add(file.counts or Counts())
+            file.is_added = True
+            # (a disk that is full is no reason to count it again)
+            with contextlib.suppress(OSError):
+                (self.place / SUM).write_bytes(self.past.packed())
+        file.remove()
+        file.close()
+        del self.files[file.path.name]
+        # Another worker may have a file of this name already.
+        self.listed.sign = None
 
     def tend(self) -> None:
         """Workers come and go, also where nobody asks what they have answered."""
         if time.monotonic() - self.looked > LOOK_SECONDS:
             self.look()
-
-    def files(self) -> list[pathlib.Path]:
-        try:
-            return [file for file in self.place.iterdir() if FILE.fullmatch(file.name)]
-        except OSError:
-            return []
 
     def told(self) -> dict[str, Any] | None:
         """What all workers have answered, those that have ended too; nothing if none of them counts."""
@@ -181,23 +262,23 @@ class Traffic:
         for counts in self.running.values():
             whole.add(counts)
         busy, threads = sum(one.busy for one in self.running.values()), sum(one.threads for one in self.running.values())
-        return {**whole.as_json(), "busy": busy, "threads": threads}
+        return {**whole.as_json(), "busy": busy, "threads": threads, "generations": self.by_generation()}
+
+    def by_generation(self) -> dict[str, dict[str, int]]:
+        """What each generation that runs has answered, by statuses: so that a new one can be compared with the old one."""
+        found = {}
+        for generation, counts in sorted(self.generations.items()):
+            whole = dataclasses.replace(counts)
+            whole.add(self.ended.get(generation, Counts()))
+            found[generation] = dict(zip(CLASSES, whole.classes))
+        return found
 
     def of(self, process: int | None) -> dict[str, int] | None:
         """What a worker that runs has answered, and its threads."""
         counts = self.running.get(process or 0)
         return {"count": sum(counts.buckets), "busy": counts.busy, "threads": counts.threads} if counts else None
 
-
-def read(file: pathlib.Path) -> tuple[Counts | None, bool]:
-    """What a worker has counted, and whether it has ended."""
-    try:
-        with open(file, "r+b") as opened_file:
-            try:
-                fcntl.lockf(opened_file, fcntl.LOCK_EX | fcntl.LOCK_NB)
-                is_over = True
-            except OSError:
-                is_over = False
-            return counts_in(opened_file.read()), is_over
-    except OSError:
-        return None, False
+    def end(self) -> None:
+        for file in self.files.values():
+            file.close()
+        self.files.clear()

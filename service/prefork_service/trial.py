@@ -18,20 +18,20 @@ from typing import Any
 
 from . import places
 from .addresses import family_of, text_of
-from .commands import ADDRESSES
+from .configuration import ADDRESSES
 from .conversation import Conversation
+from .folder import write_private
 from .last_lines import LastLines, shown
 from .measures import memory_of
 from .reasons import Reasons
-from .recipes import write_private
 from .settings import groups_in
 from .words import NOTE, TRY
 
 # No generation of a service is called so.
-GENERATION = "0.0"
-DONE, FAILED = "done ready", "failed not-ready"
+TRIAL_GENERATION = "0.0"
+READY_REPORT, FAILED = "done ready", "failed not-ready"
 # How long it may take to end.
-END_SECONDS = 60.0
+TRIAL_END_SECONDS = 60.0
 
 
 def free_port(family: socket.AddressFamily) -> str:
@@ -49,7 +49,7 @@ class Room:
     """A folder as that of a service, with a keeper."""
 
     def __init__(self, place: pathlib.Path, number: int, addresses: list[str], commands: bytes):
-        self.place, self.number, self.addresses, self.name = place, number, addresses, f"{GENERATION}.{number}"
+        self.place, self.number, self.addresses, self.name = place, number, addresses, f"{TRIAL_GENERATION}.{number}"
         for folder in ("commands", "workers"):
             (place / folder).mkdir(parents=True)
         write_private(place / "commands" / "next", os.fsencode(f"{ADDRESSES}={' '.join(addresses)}") + b"\0" + commands)
@@ -63,7 +63,7 @@ class Room:
     def started(self, start: str) -> Conversation:
         environment = {**os.environ, "PREFORK_KEEPER": str(self.path), "PREFORK_FOLDER": str(self.place), "PREFORK_PLACE": start}
         talk = Conversation([str(places.LAUNCH), "child"], environment)
-        talk.say(f"worker {GENERATION} {self.number} {int(time.monotonic())}", *(f"listener {address}" for address in self.addresses), "go")
+        talk.say(f"worker {TRIAL_GENERATION} {self.number} {int(time.monotonic())}", *(f"listener {address}" for address in self.addresses), "go")
         return talk
 
     def why(self) -> list[str]:
@@ -87,8 +87,8 @@ def tried(room: Room, start: str, seconds: float) -> tuple[list[str], str]:
         if said == "ready":
             notes = [f"ready after {took:.1f} s, with {memory_of(talk.process.pid) / 1e6:.0f} MB"]
             talk.say("quit")
-            is_gone = talk.hear(END_SECONDS) == "gone"
-            return notes + ([] if is_gone else [f"it has not ended {END_SECONDS:g} s after quit"]), DONE
+            is_gone = talk.hear(TRIAL_END_SECONDS) == "gone"
+            return notes + ([] if is_gone else [f"it has not ended {TRIAL_END_SECONDS:g} s after quit"]), READY_REPORT
         if talk.wait(1.0) not in (0, 1):
             talk.process.kill()
         return room.why() if said else [], FAILED
@@ -120,9 +120,9 @@ def try_all(config: pathlib.Path, start: str, seconds: float, commands: bytes, p
             room.end()
         begin = f"for {addresses[0]}: " if len(groups) > 1 else ""
         notes += [f"{begin if at == 0 else ''}{note}" for at, note in enumerate(said)]
-        if report != DONE:
+        if report != READY_REPORT:
             return notes, report
-    return notes, DONE
+    return notes, READY_REPORT
 
 
 def main(words: list[str]) -> int:

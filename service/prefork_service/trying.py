@@ -14,14 +14,12 @@ import shutil
 from typing import Any
 
 from .blocks import block_of
-from .state import times
+from .state import MOST_NAMED, times
 from .ticks import IN_TIMEOUT
 
 FIRST_SECONDS, MOST_SECONDS, JITTER = 1.0, 60.0, 0.25
 # How many tries all workers together have in a row, and how often there is another one: 48 in ten minutes.
 MOST_TRIES, EACH_SECONDS = 8.0, 15.0
-# How many workers are named that fail.
-MOST_NAMED = 3
 NUMBERS = re.compile(r"0x[0-9a-fA-F]+|\d+")
 
 

@@ -1,39 +1,35 @@
 """The page of a service, from top to bottom as an operator reads: how it is, in a colour, a word and a sentence; what to
 type, if it asks; the workers of each generation; where the present word is; the last words; and then queues and numbers."""
 import pathlib
+import shlex
 from collections.abc import Sequence
 
 from . import live
 from .done import Done
+from .look import LOOK
 from .page import drawn, masters_list, said, text, workers_table
+from .questions import WHO_SERVES, told_of
 from .sentences import newest, on_its_way, sentence
-from .state import CHANGES, SERVES, SHORT, STOPPED
+from .forms import Status
+from .state import IN_CHANGE, SERVES, SHORT, STOPPED
 from .stations import shown_stations
-from .status import Status, asked, shown_doing, shown_requests, workers
+from .status import shown_doing, shown_requests, workers
 from .words import START
 
 # The cells of a generation that are drawn.
 MOST_CELLS = 256
-STYLE = """
-:root { color-scheme: light dark; --ink: #1c2430; --soft: #4c5766; --line: #d5dbe3; --edge: #7f8a99; --paper: #fff;
-  --ground: #f4f6f9; --good: #146c43; --warn: #8a5300; --bad: #b02a37; --accent: #2f6fb5; --new: #1e8a5a }
-@media (prefers-color-scheme: dark) { :root { --ink: #e4e9f0; --soft: #a3afbe; --line: #36404d; --edge: #76828f;
-  --paper: #1a212b; --ground: #12171e; --good: #5fc990; --warn: #e0a85a; --bad: #f08a94; --accent: #6aa8ea; --new: #55c791 } }
-* { box-sizing: border-box }
-body { font: 15px/1.5 system-ui, sans-serif; margin: 0 auto; max-width: 70rem; padding: 1rem; color: var(--ink);
-  background: var(--ground) }
-section, details { background: var(--paper); border: 1px solid var(--line); border-radius: 8px; padding: .7rem; margin-top: .8rem }
+STYLE = LOOK + """body { font: 15px/1.5 system-ui, sans-serif; margin: 0 auto; max-width: 70rem; padding: 1rem }
+section, main > details { padding: .7rem; margin-top: .8rem }
 h1 { font-size: 1.4rem; margin: 0 } h2 { font-size: 1.05rem; margin: 0 0 .3rem } p { margin: .2rem 0 }
-.soft, .count, .state { color: var(--soft) } .state.short { color: var(--ink) } code, pre { font: .87rem/1.5 ui-monospace, monospace; overflow-wrap: anywhere }
+.count, .state { color: var(--soft) } .state.short { color: var(--ink) } code, pre { font: .87rem/1.5 ui-monospace, monospace; overflow-wrap: anywhere }
 pre { background: var(--ground); padding: .6rem; overflow-x: auto; white-space: pre-wrap; margin: .2rem 0 }
 .band { border-left: .5rem solid var(--good) } .band strong { color: var(--good) }
 .band.changes { border-color: var(--warn) } .band.changes strong { color: var(--warn) }
 .band.short, .band.stopped { border-color: var(--bad) } .band.short strong, .band.stopped strong { color: var(--bad) }
 .question { border-left: .5rem solid var(--accent) }
 .bar { display: flex; flex-wrap: wrap; gap: 3px; align-items: center; margin: .3rem 0 }
-.bar b { font-weight: 600; min-width: 9rem } i.cell { width: 16px; height: 20px; border-radius: 3px; border: 2px solid var(--accent) }
-i.ready { background: var(--accent) } .new i.cell { border-color: var(--new) } .new i.ready { background: var(--new) }
-i.starts { background: linear-gradient(to top, var(--new) 45%, transparent 45%) } i.leaves { border-style: dotted; opacity: .75 }
+.bar b { font-weight: 600; min-width: 9rem } i.cell { width: 16px; height: 20px; border-radius: 3px }
+i.leaves { border-style: dotted; opacity: .75 }
 .bar i.missing { border: 2px dashed var(--bad) } .bar i.ended { border-color: var(--bad) }
 .stations { display: flex; flex-wrap: wrap; gap: .3rem; list-style: none; margin: 0; padding: 0 }
 .stations li { border: 1px solid var(--edge); border-radius: 1rem; padding: .05rem .7rem; color: var(--soft) }
@@ -42,18 +38,19 @@ i.starts { background: linear-gradient(to top, var(--new) 45%, transparent 45%) 
 .words { list-style: none; margin: 0; padding: 0 } .words li { border-left: 4px solid var(--edge); padding-left: .6rem; margin: .5rem 0 }
 .words li.done { border-color: var(--good) } .words li.rolled-back { border-color: var(--warn) }
 .words li.degraded, .words li.refused, .words li.lost { border-color: var(--bad) } .words .why { color: var(--bad) }
-.calls { display: flex; flex-wrap: wrap; gap: 2px; margin: .2rem 0 } .calls i { width: 8px; height: 14px; background: var(--edge); border-radius: 2px }
+.calls { display: flex; flex-wrap: wrap; gap: 2px; margin: .2rem 0 } .calls i { width: 8px; height: 14px; background: var(--edge); border: 0 }
 .calls i.wrong { background: var(--bad) } .calls i.cause { outline: 2px solid var(--ink) }
 .scroll { overflow-x: auto } table { border-collapse: collapse } th, td { text-align: left; padding: .15rem 1rem .15rem 0; vertical-align: top }
 td:last-child { min-width: 12rem } td.number { text-align: right; font-variant-numeric: tabular-nums } th { font-weight: 600; border-bottom: 1px solid var(--line) }
-summary { cursor: pointer; font-weight: 600 } :focus-visible { outline: 2px solid var(--accent); outline-offset: 1px }
+summary { cursor: pointer; font-weight: 600 }
 #live { color: var(--bad); font-weight: 600 } ul { margin: .2rem 0; padding-left: 1.2rem }
+@media (max-width: 600px) { body { padding: .5rem } table { font-size: .8rem } th, td { padding-right: .5rem } td:last-child { min-width: 0 } .bar b { flex-basis: 100% } }
 """
-STATES = {SERVES: "serves", CHANGES: "changes", SHORT: "is short", STOPPED: "is stopped"}
+STATES = {SERVES: "serves", IN_CHANGE: "changes", SHORT: "is short", STOPPED: "is stopped"}
 # What marks the station that is lit, for a reader that hears the page.
-MARK = ' aria-current="step"'
+CURRENT_STEP = ' aria-current="step"'
 # What a cell shows of a worker by what it does.
-KINDS = {"is ready": "ready", "starts": "starts", "finishes": "leaves", "ends": "leaves"}
+KINDS = {"is ready": "ready", "starts": "starting", "finishes": "leaves", "ends": "leaves"}
 
 
 def name_of(status: Status) -> str:
@@ -73,7 +70,7 @@ def title_of(status: Status) -> str:
 def band(status: Status, words: Sequence[Done]) -> str:
     """How the service is."""
     state = status["state"]
-    told = on_its_way(status["doing"]) if state == CHANGES and status["doing"] else newest(words)
+    told = on_its_way(status["doing"]) if state == IN_CHANGE and status["doing"] else newest(words)
     return f'<section class="band {text(state)}" aria-label="state"><h1>{text(name_of(status))} ' \
         f'<strong>{text(STATES.get(state, state))}</strong></h1><p>{text(told)}</p>' \
         f'<p class="state {text(state)}">{text(status["line"])}</p><p class="count">{text(count(status))}</p></section>'
@@ -83,8 +80,12 @@ def question(status: Status) -> str:
     """What is asked, and what to type."""
     if not status["question"]:
         return ""
-    return f'<section class="question" aria-label="question"><h2>It asks whether to go on</h2><p>{text(asked(status))}.</p>' \
-        "<pre>prefork-ctl go\nprefork-ctl back</pre></section>"
+    number, seconds = status["question"], status["question_seconds"]
+    look, answers = told_of(number)
+    folder = shlex.quote(status["service"]["folder"])
+    typed = "".join(f"<pre>prefork-ctl --folder {text(folder)} {answer}</pre><p>{text(told)}</p>" for answer, told in answers.items())
+    return f'<section class="question" aria-label="question"><h2>It asks whether to go on</h2>' \
+        f"<p>Question {number} of {len(WHO_SERVES)}, for {seconds}&nbsp;s: {text(WHO_SERVES[number])}.</p><p>{text(look)}</p>{typed}</section>"
 
 
 def cell(kind: str, told: str) -> str:
@@ -94,11 +95,11 @@ def cell(kind: str, told: str) -> str:
 def bar(name: str, cells: list[tuple[str, str]], is_new: bool) -> str:
     """A generation: a cell for each worker, and in words how many there are of each kind."""
     kinds = list(dict.fromkeys(kind for kind, _ in cells))
-    said = ", ".join(f"{sum(kind == it for it, _ in cells)} {'leaving' if kind == 'leaves' else 'starting' if kind == 'starts' else kind}" for kind in kinds)
+    said = ", ".join(f"{sum(kind == it for it, _ in cells)} {'leaving' if kind == 'leaves' else kind}" for kind in kinds)
     drawn_cells = "".join(cell(*it) for it in cells[:MOST_CELLS])
     more = f"<span>and {len(cells) - MOST_CELLS} more</span>" if len(cells) > MOST_CELLS else ""
     told = f"{name}: {said or 'no worker'}"
-    return f'<div class="bar{" new" if is_new else ""}" role="img" aria-label="{text(told)}"><b>{text(name)}</b>{drawn_cells}{more}' \
+    return f'<div class="bar g{int(is_new)}" role="img" aria-label="{text(told)}"><b>{text(name)}</b>{drawn_cells}{more}' \
         f'<span class="soft">{text(said or "no worker")}</span></div>'
 
 
@@ -109,12 +110,12 @@ def bars(status: Status) -> str:
         process = worker["process"]
         told = f"worker {worker['number']}: " + (f"process {process}, for {worker['seconds']} s" if process else "has ended")
         cells.append(("ready" if process else "ended", told))
-    missing = max(0, status["wanted"] - len(cells)) if status["state"] != CHANGES else 0
+    missing = max(0, status["wanted"] - len(cells)) if status["state"] != IN_CHANGE else 0
     cells += [("missing", "is wanted, and does not run")] * missing
     found = [bar(f"generation {status['generation']}" if status["generation"] else "no generation", cells, False)]
     for generation in sorted({worker["generation"] for worker in status["others"]}):
         beside = [worker for worker in status["others"] if worker["generation"] == generation]
-        others = [(KINDS.get(it["state"], "starts"), f"worker {it['number']}: process {it['process']}, {it['state']}") for it in beside]
+        others = [(KINDS.get(it["state"], "starting"), f"worker {it['number']}: process {it['process']}, {it['state']}") for it in beside]
         is_new = any(kind != "leaves" for kind, _ in others)
         if is_new:
             others += [("missing", "is to be started")] * max(0, status["wanted"] - len(others))
@@ -127,7 +128,7 @@ def stations(status: Status, calls: Sequence[str]) -> str:
     found = shown_stations(status["doing"], calls, status["question"])
     if not found:
         return ""
-    rows = "".join(f'<li class="{kind}"{MARK if kind == "now" else ""}>{text(name)}</li>' for name, kind in found)
+    rows = "".join(f'<li class="{kind}"{CURRENT_STEP if kind == "now" else ""}>{text(name)}</li>' for name, kind in found)
     progress = status.get("progress")
     far = f'<p class="soft">{text(progress["line"])}</p>' if progress else ""
     return f'<section><h2>{text(status["doing"])}, on its way</h2><ol class="stations">{rows}</ol>{far}</section>'
@@ -140,7 +141,7 @@ def word_row(done: Done) -> str:
     why = "".join(f'<p class="why"><code>{text(line)}</code></p>' for line in done.reasons)
     cause = f'<p class="why">call that went wrong: <code>{text(done.cause)}</code></p>' if done.cause and not why else ""
     return f'<li class="{text(kind)}"><p title="{text(done.began)}">{text(sentence(done))}</p>' \
-        f'<p class="soft"><code class="word">{text(word)}</code>: <code class="report">{text(done.report)}</code>, in {done.seconds:.2f} s</p>' \
+        f'<p class="soft"><code class="word">{text(word)}</code>: <code class="report">{text(done.report)}</code>, in {done.seconds:.2f}&nbsp;s</p>' \
         f"{why}{cause}{said(done.errors)}{drawn(done)}</li>"
 
 
@@ -174,7 +175,7 @@ def numbers(status: Status, plan: str) -> str:
     return f"""<details id="processes" open><summary>Processes</summary>
 <p>Service process {service["process"]} in {text(service["folder"])}, for {service["seconds"]} s. Addresses: {text(addresses)}.
 Now: {text(shown_doing(status))}.</p>
-<div class="scroll">{workers_table(status)}</div>{masters_list(status)}</details>
+<div class="scroll" tabindex="0" role="region" aria-label="workers">{workers_table(status)}</div>{masters_list(status)}</details>
 <details id="plan"><summary>Plan of the next HUP</summary>{changed}<pre>{text(plan)}</pre></details>"""
 
 

@@ -4,9 +4,7 @@ Tells what a service does, beside prefork-serve, which starts it: the page, metr
 calls, hooks, trials, and the line that systemd shows. It gets events as lines of JSON from the socket STREAM, and those that
 ask from the socket ASKERS. Nobody waits for it, and it ends with PROCESS. It is nothing to be started by hand.
 """
-import ctypes
 import json
-import os
 import selectors
 import signal
 import socket
@@ -20,23 +18,24 @@ from .blocks import block_of
 from .done import Done
 from .errors import take_standard
 from .explaining import explained
+from .feed import Message
 from .folder import say
+from .hard_memory import Guard, passed
 from .last_lines import shown
 from .lines import Lines
 from .outcomes import NOBODY_SERVES, OLD_SERVES, PRELOADER_SERVES, is_broken
+from .parents import end_with
 from .picture import Picture
 from .refusing import refused
 from .showing import Showing
 from .titles import set_title
 from .words import CHANGES, START, STOPS, is_routine
 
-PR_SET_PDEATHSIG = 1
-MOST_BYTES = 1 << 18
+MOST_STREAM_BYTES = 1 << 18
 # The longest pause of the loop.
-PAUSE = 0.5
+WATCH_PAUSE = 0.5
 # Signals to a whole group, or a terminal's, are not for it: it ends with prefork-serve.
-IGNORED = (signal.SIGINT, signal.SIGTERM, signal.SIGHUP, signal.SIGQUIT)
-Told = dict[str, Any]
+IGNORED_SIGNALS = (signal.SIGINT, signal.SIGTERM, signal.SIGHUP, signal.SIGQUIT)
 
 
 class Watch:
@@ -44,29 +43,32 @@ class Watch:
 
     def __init__(self, stream: socket.socket, askers: socket.socket):
         self.stream, self.events, self.barrier = stream, selectors.DefaultSelector(), Barrier(say)
-        self.unheard, self.number, self.is_over = b"", 0, False
+        # Whether something was told since the line of systemd was made.
+        self.unheard, self.number, self.is_over, self.has_news = b"", 0, False, False
         self.picture: Any = None
         self.showing: Any = None
         self.lines: Any = None
         self.status_line = ""
+        self.guard: Any = None
         self.answers = Answers(self, askers)
         self.events.register(stream, selectors.EVENT_READ, self.hear)
 
     def run(self) -> None:
         while not self.is_over:
-            for key in self.barrier.select(self.events, self.barrier.duty(self.pause) or PAUSE):
+            for key in self.barrier.select(self.events, self.barrier.duty(self.pause) or WATCH_PAUSE):
                 self.barrier.event(self.events, key)
             for tend in (self.answers.tend, self.tend, sys.stderr.flush):
                 self.barrier.duty(tend)
         if self.showing:
             self.showing.end()
+            self.barrier.duty(self.picture.end)
 
     def pause(self) -> float:
-        return self.answers.seconds(PAUSE)
+        return self.answers.seconds(WATCH_PAUSE)
 
     def hear(self, _: socket.socket) -> None:
         try:
-            got = self.stream.recv(MOST_BYTES)
+            got = self.stream.recv(MOST_STREAM_BYTES)
         except OSError:
             # prefork-serve has ended in the middle of something.
             got = b""
@@ -86,6 +88,7 @@ class Watch:
 
     def take(self, line: bytes) -> None:
         """Takes a line. What it raises costs that line alone."""
+        self.has_news = True
         told = json.loads(line)
         self.number = told.pop("n")
         kind = told.pop("kind")
@@ -93,6 +96,7 @@ class Watch:
             self.picture = Picture(told)
             self.lines = Lines(told["journal"])
             self.showing = Showing(self.events, self.picture, self.barrier)
+            self.guard = Guard(self.picture.folder, told["process"])
         elif kind == "state":
             self.picture.state = told
         elif kind == "news":
@@ -100,7 +104,7 @@ class Watch:
         elif kind == "word":
             self.end_word(told)
 
-    def end_word(self, told: Told) -> None:
+    def end_word(self, told: Message) -> None:
         """A word has ended: why calls of it failed is found out, noted in the journal, and told to those that wait."""
         word, block, is_again = told["word"], told["block"], told.get("again", False)
         mistakes = refused(self.picture.hello["prefork"], told["refused"]) if told["refused"] else told["mistakes"]
@@ -116,13 +120,14 @@ class Watch:
             self.answers.add_notes(self.number, notes)
             self.showing.tell_word(self.picture.words[-1] if word != START else None)
 
-    def note(self, told: Told, why: list[str], notes: list[str]) -> None:
+    def note(self, told: Message, why: list[str], notes: list[str]) -> None:
         """Notes in the journal why calls failed, and why workers have ended that no call tells of."""
         word, noted = told["word"], told["noted"].items()
+        self.picture.passed.update(passed(told["noted"]))
         ended = [f"worker {name}: {reason}" for name, reason in noted if not is_told(reason, why)]
         self.lines.note(*(f"{word}: {line}" for line in notes), *ended)
 
-    def notes_of(self, told: Told) -> list[str]:
+    def notes_of(self, told: Message) -> list[str]:
         """What else is said to people of a word: what is to be done about the files, and what runs."""
         word, block, found = told["word"], told["block"], []
         if is_broken(word, block) and not told["refusals"]:
@@ -142,11 +147,19 @@ class Watch:
     def tend(self) -> None:
         if not self.picture or not self.picture.state:
             return
+        if self.has_news or self.picture.is_changing():
+            self.has_news = False
+            self.tell_line()
+        if limits := self.picture.state.get("hard_memory"):
+            self.barrier.duty(self.guard.tend, limits)
+        self.showing.tend()
+
+    def tell_line(self) -> None:
+        """Tells the line that systemd shows, where it is another one."""
         line = self.picture.line()
         if line != self.status_line:
             self.status_line = line
             self.say(f"status {line}")
-        self.showing.tend()
 
 
 def is_told(reason: str, why: list[str]) -> bool:
@@ -161,11 +174,10 @@ def main() -> int:
     take_standard()
     stream, askers, parent = map(int, sys.argv[1:4])
     set_title("prefork-watch")
-    ctypes.CDLL(None).prctl(PR_SET_PDEATHSIG, signal.SIGKILL, 0, 0, 0)
-    if os.getppid() != parent:
+    if not end_with(parent):
         return 1
     signal.pthread_sigmask(signal.SIG_SETMASK, ())
-    for number in IGNORED:
+    for number in IGNORED_SIGNALS:
         signal.signal(number, signal.SIG_IGN)
     try:
         Watch(socket.socket(fileno=stream), socket.socket(fileno=askers)).run()

@@ -14,9 +14,9 @@ from .socket_files import make_place
 from .sockets import file_of, is_tcp
 
 # How long a visit may take, and how long a question may be. How many visits there may be, and how many that say nothing.
-SECONDS, LONGEST, MOST_VISITS, MOST_SILENT = 10.0, 8192, 16, 16
-QUEUE = 32
-REASONS = {200: "OK", 400: "Bad Request", 404: "Not Found", 405: "Method Not Allowed", 421: "Misdirected Request"}
+VISIT_SECONDS, LONGEST_REQUEST, MOST_VISITS, MOST_SILENT_VISITORS = 10.0, 8192, 16, 16
+PAGE_QUEUE = 32
+STATUS_TEXTS = {200: "OK", 400: "Bad Request", 404: "Not Found", 405: "Method Not Allowed", 421: "Misdirected Request"}
 # What is said to a visitor that asks for another host: a page of another site may have a name that leads here.
 ELSEWHERE = "this page is not that of {}. Ask for {}, or name the other one to prefork-serve: --host NAME\n"
 # What a page may do: show itself, and run and ask the scripts and paths of its own address.
@@ -36,7 +36,7 @@ def opened(address: str) -> socket.socket:
         else:
             one.setsockopt(socket.SOL_SOCKET, socket.SO_REUSEADDR, 1)
             one.bind(endpoint_of(address))
-        one.listen(QUEUE)
+        one.listen(PAGE_QUEUE)
     except (OSError, ValueError, OverflowError) as fault:
         one.close()
         raise OSError(f"{address}: {getattr(fault, 'strerror', None) or fault}") from fault
@@ -60,7 +60,7 @@ class Visit:
 
     def __init__(self, client: socket.socket):
         self.client, self.heard, self.unsaid = client, b"", b""
-        self.until, self.is_answered = time.monotonic() + SECONDS, False
+        self.until, self.is_answered = time.monotonic() + VISIT_SECONDS, False
 
 
 class Site:
@@ -73,7 +73,7 @@ class Site:
         self.address, self.listener = address, opened(address)
         # What tells its Unix socket from others.
         self.file = file_of(address)
-        self.door = Door(events, self.listener, self.welcome, say, MOST_SILENT)
+        self.door = Door(events, self.listener, self.welcome, say, MOST_SILENT_VISITORS)
 
     def welcome(self, client: socket.socket) -> None:
         if len(self.visits) >= MOST_VISITS:
@@ -94,17 +94,19 @@ class Site:
             # It has been dropped in this very turn.
             return
         try:
-            got = client.recv(LONGEST)
+            got = client.recv(LONGEST_REQUEST)
         except BlockingIOError:
             return
         except OSError:
             got = b""
         visit.heard += got
-        if not got or visit.is_answered and len(visit.heard) > LONGEST:
+        if not got or visit.is_answered and len(visit.heard) > LONGEST_REQUEST:
             self.drop(visit)
-        elif not visit.is_answered and (b"\r\n\r\n" in visit.heard or b"\n\n" in visit.heard or len(visit.heard) > LONGEST):
+        elif not visit.is_answered and (b"\r\n\r\n" in visit.heard or b"\n\n" in visit.heard or len(visit.heard) > LONGEST_REQUEST):
             visit.is_answered, visit.unsaid = True, self.answer(visit.heard, door_of(client))
-            self.events.modify(client, selectors.EVENT_WRITE, self.say_more)
+            self.say_more(client)
+            if visit.unsaid and client in self.visits:
+                self.events.modify(client, selectors.EVENT_WRITE, self.say_more)
 
     def answer(self, heard: bytes, place: str = "") -> bytes:
         """The answer to a question that has come at a place, HOST:PORT."""
@@ -112,7 +114,7 @@ class Site:
         path = words[1].partition("?")[0] if len(words) == 3 else ""
         status, kind, text = 200, "text/plain; charset=utf-8", ""
         asked = hosts_in(heard)
-        if len(words) != 3 or not words[2].startswith("HTTP/1.") or len(asked) > 1 or len(heard) > LONGEST:
+        if len(words) != 3 or not words[2].startswith("HTTP/1.") or len(asked) > 1 or len(heard) > LONGEST_REQUEST:
             status, text = 400, "not a question\n"
         elif place and asked and not self.is_own(asked[0], place):
             status, text = 421, ELSEWHERE.format(plain(asked[0]), place)
@@ -123,7 +125,7 @@ class Site:
         else:
             kind, text = self.pages[path]()
         body = text.encode()
-        head = f"HTTP/1.1 {status} {REASONS[status]}\r\nContent-Type: {kind}\r\nContent-Length: {len(body)}\r\n" \
+        head = f"HTTP/1.1 {status} {STATUS_TEXTS[status]}\r\nContent-Type: {kind}\r\nContent-Length: {len(body)}\r\n" \
             f"Cache-Control: no-store\r\nContent-Security-Policy: {POLICY}\r\n" \
             "X-Content-Type-Options: nosniff\r\nConnection: close\r\n\r\n"
         return head.encode() + (b"" if words[0] == "HEAD" else body)
@@ -145,7 +147,8 @@ class Site:
             if not visit.unsaid:
                 # Its own side ends first: what the client still sends would cut the answer off.
                 client.shutdown(socket.SHUT_WR)
-                self.events.modify(client, selectors.EVENT_READ, self.hear)
+                if self.events.get_key(client).events != selectors.EVENT_READ:
+                    self.events.modify(client, selectors.EVENT_READ, self.hear)
         except BlockingIOError:
             pass
         except OSError:

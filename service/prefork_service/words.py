@@ -3,7 +3,8 @@ import collections
 import socket
 import time
 
-STOPS = ("QUIT", "INT", "TERM")
+# The words that stop a service: the one that lets requests in progress finish, and one that does not.
+STOPS, GENTLE, AT_ONCE = ("QUIT", "INT", "TERM"), "QUIT", "TERM"
 # Words that a signal says too.
 SIGNALS = ("HUP", "USR1", "USR2", "WINCH", "TTIN", "TTOU", *STOPS)
 ATTENDED = "USR2 attended"

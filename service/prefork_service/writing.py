@@ -7,7 +7,7 @@ import pathlib
 from .folder import say
 
 # How many bytes may wait, in texts that could not be written.
-MOST_WAITING = 1 << 20
+MOST_TEXT_WAITING = 1 << 20
 
 
 def append(path: pathlib.Path, text: bytes) -> None:
@@ -38,7 +38,7 @@ class Writer:
 
     def add(self, path: pathlib.Path, text: bytes) -> bool:
         """Appends a text now or later; whether there is room for it to wait."""
-        if sum(len(other) for _, other in self.waiting) + len(text) > MOST_WAITING:
+        if sum(len(other) for _, other in self.waiting) + len(text) > MOST_TEXT_WAITING:
             return False
         self.waiting.append((path, text))
         self.write()

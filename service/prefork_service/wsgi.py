@@ -6,6 +6,7 @@ A worker of a Prefork master that serves a WSGI application, with waitress as it
 - A kept connection may be idle for --keep seconds (75), and for --idle seconds (2) while the worker finishes.
 - If all threads have been at one request for more than --timeout seconds (30), the worker ends, with the stacks of
   its threads on standard error. The master starts another one.
+- A request that has taken more than --request-timeout seconds (none) ends its worker, once the others are answered.
 - An application that has not loaded --ready-within seconds (30) after `go` ends the worker: the reload is rolled back.
 
 With --preloader it is no worker but the preloader of its generation: it loads the application, and forks each worker.
@@ -36,6 +37,8 @@ from .preloader import Preloader, Lifeline
 from .titles import set_title
 from .traffic import Counter
 
+# The longest time of a request, a day.
+MOST_REQUEST_SECONDS = 86400
 # The lifeline of a worker that was forked by a preloader.
 lifeline: Lifeline | None = None
 
@@ -53,6 +56,9 @@ class Serving(Protocol):
 
     def is_stuck(self, timeout: float) -> bool:
         """Whether it has answered nothing for so long."""
+
+    def give_up(self, seconds: float) -> list[str]:
+        """End without the requests that have taken so long; why."""
 
     def reopen(self) -> None:
         """Open its log files anew."""
@@ -104,6 +110,7 @@ class Worker:
     def end_if_broken(self) -> None:
         """Ends where the worker no longer serves, or what represents it to its master has ended."""
         self.end_if_stuck()
+        self.end_overdue()
         if lifeline and lifeline.is_broken():
             leave(1)
 
@@ -158,12 +165,21 @@ class Worker:
         self.settle()
         leave(1)
 
+    def end_overdue(self) -> None:
+        """Ends without requests that take too long, after the others."""
+        limit = getattr(self.given, "request_timeout", None)
+        found = self.server.give_up(limit) if limit and self.server else []
+        for why in found:
+            warn(why)
+        if found:
+            faulthandler.dump_traceback(all_threads=True)
+
     def serve(self, application: Callable) -> None:
         """Serves up to the end."""
         from .wsgi_server import Requests, Server
 
         if self.pipes.has_master():
-            given, name = self.given, convention.NAME or ""
+            given, name = self.given, convention.WORKER_NAME or ""
             log = AccessLog(given.access_log, given.access_form) if given.access_log else None
             requests = Requests(self.counter or Counter(given.threads, convention.FOLDER, name), log, name)
             told = corrected(application, given.trusted_proxy)
@@ -223,6 +239,8 @@ def arguments() -> argparse.Namespace:
         ("--ready-within", float, 30.0, "how long it may load (30)"),
     ):
         parser.add_argument(option, type=kind, default=seconds, metavar="SECONDS", help=text)
+    text = "end once the others are answered if a request has taken this long (none)"
+    parser.add_argument("--request-timeout", type=seconds_of, metavar="SECONDS", help=text)
     parser.add_argument("--chdir", default=".", metavar="FOLDER", help="where the module is (the current folder)")
     parser.add_argument("--preloader", action="store_true", help="load the application, and fork workers that have it")
     parser.add_argument("--warm", action="append", default=[], metavar="PATH", help="ask it for PATH before the first fork")
@@ -252,6 +270,14 @@ def arguments() -> argparse.Namespace:
     if given.check and given.access_log and (fault := access_log.fault_of(given.access_log)):
         parser.error(f"argument --access-log: {fault}")
     return given
+
+
+def seconds_of(text: str) -> float:
+    """A time that is more than nothing."""
+    found = float(text)
+    if not 0 < found <= MOST_REQUEST_SECONDS:
+        raise argparse.ArgumentTypeError(f"it takes more than 0 seconds, and at most {MOST_REQUEST_SECONDS}, not: {text}")
+    return found
 
 
 def path_of(text: str) -> str:
@@ -303,6 +329,12 @@ def ask(given: argparse.Namespace, application: Callable) -> None:
         warm(application, path, bool(given.trusted_proxy))
 
 
+def share_modules() -> None:
+    """Loads what each worker would load and have for itself: the server, and what it looks up addresses with."""
+    importlib.import_module(".wsgi_server", __package__)
+    importlib.import_module("encodings.idna")
+
+
 def forked(given: argparse.Namespace) -> Callable:
     """Is the preloader: loads the application, and forks workers. Returns the application in each of them."""
     global lifeline
@@ -311,8 +343,7 @@ def forked(given: argparse.Namespace) -> Callable:
     faulthandler.dump_traceback_later(given.ready_within, exit=True)
     clear_environment()
     try:
-        from . import wsgi_server as _
-
+        share_modules()
         prepare(given.chdir)
         application = loaded(given.application)
         ask(given, application)
@@ -324,7 +355,7 @@ def forked(given: argparse.Namespace) -> Callable:
         leave(1)
     faulthandler.cancel_dump_traceback_later()
     lifeline = preloader.run(warn)
-    convention.NAME = lifeline.name
+    convention.WORKER_NAME = lifeline.name
     set_title(f"worker {lifeline.name}")
     lifeline.fasten()
     for name in given.after_fork:
@@ -354,13 +385,13 @@ def main() -> int:
     try:
         if not application:
             if given.user or given.group:
-                worker.counter = Counter(given.threads, convention.FOLDER, convention.NAME or "")
+                worker.counter = Counter(given.threads, convention.FOLDER, convention.WORKER_NAME or "")
                 become(given.user, given.group)
             prepare(given.chdir)
             application = loaded(given.application)
             ask(given, application)
             for name in given.after_fork:
-                loaded(name)(convention.NAME)
+                loaded(name)(convention.WORKER_NAME)
         if given.probe:
             probe(application, given.probe, bool(given.trusted_proxy))
         worker.serve(application)

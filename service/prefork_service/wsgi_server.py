@@ -10,27 +10,35 @@ import resource
 import socket
 import threading
 import time
+import types
 from collections.abc import Callable
 from typing import Any
 
+import waitress.channel
+import waitress.server
 from waitress import wasyncore
 from waitress.channel import ClientDisconnected, HTTPChannel
 from waitress.server import create_server
 from waitress.task import ErrorTask, WSGITask
 
-from .access_log import AccessLog, Answer
+from .access_log import AccessLog, LoggedAnswer
+from .opening import MOST_QUEUE
+from .overdue import late_ones, told
 from .traffic import Counter
 
-BACKLOG = 1024
 MOST_CONNECTIONS = 1000
 # The descriptors that are left to the application, whatever the limit is.
 OF_APPLICATION = 64
 # A connection that has asked for nothing whole for so long makes way, once there are nearly as many as there may be.
-SILENT_SECONDS, NEARLY = 30.0, 0.9
+SILENT_CLIENT_SECONDS, NEARLY = 30.0, 0.9
 # The longest pause of the loop, in service and while it finishes.
-PAUSE, SHORT_PAUSE = 1.0, 0.1
+SERVER_PAUSE, SERVER_SHORT_PAUSE = 1.0, 0.1
 # How long the last lines of an access log may take.
 LOG_SECONDS = 1.0
+# When waitress has heard a connection last it reads from the clock on the wall, which may be set at any moment.
+STEADY = types.SimpleNamespace(**{**vars(time), "time": time.monotonic})
+for module in (waitress.channel, waitress.server):
+    setattr(module, "time", STEADY)
 # What a client gets that has gone before its answer had begun: nothing. nginx names it so.
 CLIENT_HAS_GONE = 499
 
@@ -47,7 +55,7 @@ class Requests:
         """If every thread is at a request: since when the last of them is, or its client has taken something of the answer.
         One that waits for its client is not at it."""
         all_begun = list(self.begun.values())
-        begun = [max(moment, last_sent(channel)) for moment, channel in all_begun if not waits_for_client(channel)]
+        begun = [max(moment, channel.last_activity) for moment, channel in all_begun if not waits_for_client(channel)]
         return max(begun) if len(begun) >= threads else None
 
     def note(self, task: Any, request: Any, status: int, size: int, came: float) -> None:
@@ -58,7 +66,7 @@ class Requests:
             return
         known: dict[str, Any] = getattr(task, "environ", None) or {}
         target = getattr(request, "request_uri", "") or getattr(request, "path", "")
-        self.log.note(Answer(
+        self.log.note(LoggedAnswer(
             client=known.get("REMOTE_ADDR") or client_of(task.channel), user=str(known.get("REMOTE_USER") or ""),
             method=getattr(request, "command", None) or "", target=target, version=request.version, status=status,
             size=size, referer=request.headers.get("REFERER", ""),
@@ -142,11 +150,6 @@ def waits_for_client(channel: HTTPChannel) -> bool:
     return channel.total_outbufs_len > channel.adj.outbuf_high_watermark
 
 
-def last_sent(channel: HTTPChannel) -> float:
-    """When something was sent or received last, by the clock that nobody sets."""
-    return time.monotonic() - (time.time() - channel.last_activity)
-
-
 def most_connections() -> int:
     """How many connections the descriptors of this process are enough for: waitress spins where they run out."""
     soft, _ = resource.getrlimit(resource.RLIMIT_NOFILE)
@@ -161,9 +164,11 @@ class Server:
         self.lock, self.is_told_to_finish = threading.Lock(), False
         self.map: dict[int, Any] = {}
         self.wanted: list[str] = []
+        # The connections whose requests have taken too long: nobody waits for them.
+        self.given_up: set[Any] = set()
         self.keep, self.most = keep, most_connections()
         limits: dict[str, Any] = {
-            "threads": threads, "backlog": BACKLOG, "connection_limit": self.most, "channel_timeout": keep,
+            "threads": threads, "backlog": MOST_QUEUE, "connection_limit": self.most, "channel_timeout": keep,
             "cleanup_interval": 1, "asyncore_use_poll": True, "ident": None, "clear_untrusted_proxy_headers": False,
         }
         create_server(application, map=self.map, sockets=list(sockets.values()), **limits)
@@ -187,7 +192,7 @@ class Server:
                 deadline = deadline or self.turned + finish
                 if self.has_finished(idle) or self.turned > deadline:
                     return
-            pause = SHORT_PAUSE if self.is_told_to_finish else PAUSE
+            pause = SERVER_SHORT_PAUSE if self.is_told_to_finish else SERVER_PAUSE
             wasyncore.loop(timeout=pause, use_poll=True, map=self.map, count=1)
 
     def act(self) -> None:
@@ -206,7 +211,7 @@ class Server:
         """Closes connections that take nothing of their answer, and, where there are too many, those that ask too slowly."""
         channels: list[Any] = [one for one in list(self.map.values()) if isinstance(one, HTTPChannel)]
         for one in channels:
-            if one.total_outbufs_len and time.time() - one.last_activity > self.keep:
+            if one.total_outbufs_len and time.monotonic() - one.last_activity > self.keep:
                 one.handle_close()
         if len(channels) < NEARLY * self.most:
             return
@@ -214,7 +219,7 @@ class Server:
         for one in channels:
             # (a client that has never asked has no such moment, and gets one)
             one.has_asked = getattr(one, "has_asked", now)
-            if not one.requests and not one.total_outbufs_len and now - one.has_asked > SILENT_SECONDS:
+            if not one.requests and not one.total_outbufs_len and now - one.has_asked > SILENT_CLIENT_SECONDS:
                 one.handle_close()
 
     def close(self, address: str) -> None:
@@ -242,9 +247,19 @@ class Server:
         channels = [one for one in self.map.values() if isinstance(one, HTTPChannel)]
         for one in channels:
             is_idle = not one.requests and not one.total_outbufs_len and not one.close_when_flushed
-            if is_idle and time.time() - one.last_activity > idle:
+            if is_idle and time.monotonic() - one.last_activity > idle:
                 one.will_close = True
-        return not channels
+        return not set(channels) - self.given_up
+
+    def give_up(self, seconds: float) -> list[str]:
+        """Finishes where requests have taken longer than this; why, for each of them once."""
+        begun = list(self.requests.begun.values())
+        late = [one for one in late_ones(begun, seconds) if one not in self.given_up]
+        self.given_up |= set(late)
+        if late and not self.is_told_to_finish:
+            self.finish()
+        others = sum(channel not in self.given_up for _, channel in begun)
+        return [told(one, seconds, others) for one in late]
 
     def is_stuck(self, timeout: float) -> bool:
         """Whether no thread has taken a new request for so long, or the loop has not turned."""

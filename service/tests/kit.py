@@ -15,7 +15,7 @@ from collections.abc import Callable
 from typing import Any
 from unittest import mock
 
-from prefork_service.conversation import MARK, Conversation, marked
+from prefork_service.conversation import CHECKED_WORKER, Conversation, marked
 
 SERVICE = pathlib.Path(__file__).resolve().parent.parent
 BIN, OUT, PROGRAMS = SERVICE / "bin", SERVICE / "out", SERVICE / "tests" / "programs"
@@ -151,7 +151,7 @@ class WorkerTest(unittest.TestCase):
 
     def started(self, *command, addresses: tuple[str, ...] = (), go: bool = True, **more: str) -> Conversation:
         """A worker that was told its addresses."""
-        environment = {**os.environ, MARK: self.mark, "PREFORK_KEEPER": str(self.path), **more}
+        environment = {**os.environ, CHECKED_WORKER: self.mark, "PREFORK_KEEPER": str(self.path), **more}
         talk = Conversation([str(word) for word in command], environment)
         self.talks.append(talk)
         talk.say("worker 1.1 0 7", *(f"listener {address}" for address in addresses))

@@ -12,9 +12,9 @@ from unittest import mock
 
 from kit import until
 from prefork_service import access_log
-from prefork_service.access_log import AccessLog, Answer, combined, fault_of
+from prefork_service.access_log import AccessLog, LoggedAnswer, combined, fault_of
 
-ANSWER = Answer("10.0.0.1", "", "GET", "/a?b=c", "1.1", 200, 1234, "http://x/", "curl/8", 0.25, 1_700_000_000.5, "1.2.0")
+ANSWER = LoggedAnswer("10.0.0.1", "", "GET", "/a?b=c", "1.1", 200, 1234, "http://x/", "curl/8", 0.25, 1_700_000_000.5, "1.2.0")
 
 
 class ShapeTest(unittest.TestCase):
@@ -80,7 +80,7 @@ class AccessLogTest(unittest.TestCase):
         """A pipe without a reader holds the thread that writes, and nobody else; what is too much is lost and counted."""
         os.mkfifo(self.path)
         log = AccessLog(str(self.path), "json")
-        with mock.patch.object(access_log, "MOST_WAITING", 2000):
+        with mock.patch.object(access_log, "MOST_LOG_WAITING", 2000):
             for _ in range(100):
                 log.note(ANSWER)
             log.reopen(0.05)

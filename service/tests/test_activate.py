@@ -7,7 +7,7 @@ import threading
 import unittest
 
 from kit import OUT, PROGRAMS, PYTHON, SERVICE, WorkerTest, answer_of, free_address, has_ipv6, is_open, marked, until
-from prefork_service.conversation import END, NOTHING, Conversation
+from prefork_service.conversation import END, NO_OUTPUT, Conversation
 
 ACTIVATE, PAGE = OUT / "prefork-activate", OUT / "page"
 SCRIPT = [PYTHON, PROGRAMS / "page.py"]
@@ -147,7 +147,7 @@ class ReadyTest(WorkerTest):
             script = wait if how == ["accept"] else wait.replace(f"exec {PAGE} {{fd}}", program)
             # (the shell stays the process of LISTEN_PID)
             talk = self.started(ACTIVATE, "--ready", *how, "--", "sh", "-c", script, addresses=(free_address(),))
-            self.assertEqual(talk.hear(0.5), NOTHING, how)
+            self.assertEqual(talk.hear(0.5), NO_OUTPUT, how)
             talk.say("ping")
             self.assertEqual(talk.hear(), "pong")
             flag.touch()
@@ -155,7 +155,7 @@ class ReadyTest(WorkerTest):
 
     def test_one_of_two_sockets_is_not_enough(self) -> None:
         talk = self.started(ACTIVATE, "--", PAGE, "{fd0}", addresses=(free_address(), free_address()))
-        self.assertEqual(talk.hear(1.0), NOTHING)
+        self.assertEqual(talk.hear(1.0), NO_OUTPUT)
 
     def test_not_ready_in_time(self) -> None:
         talk = self.started(ACTIVATE, "--ready-within", "0.3", "--", "sleep", "1000", addresses=(free_address(),))
@@ -343,7 +343,7 @@ class ProbeTest(WorkerTest):
         self.assertTrue(until(held.exists))
         client = threading.Thread(target=lambda: answers.append(answer_of(address)))
         client.start()
-        self.assertEqual((talk.hear(1.0), answers), (NOTHING, []))
+        self.assertEqual((talk.hear(1.0), answers), (NO_OUTPUT, []))
         held.unlink()
         self.assertEqual(talk.hear(), "ready")
         client.join()

@@ -9,7 +9,7 @@ from collections.abc import Iterator
 
 from kit import has_ipv6, until
 from prefork_service.addresses import endpoint_of, family_of, host_and_port, text_of
-from prefork_service.queues import queues_of
+from prefork_service.queues import Queues
 from prefork_service.sites import fault_of_site
 from prefork_service.opening import is_taken, listening
 from prefork_service.sockets import inode_of, is_tcp, seal
@@ -54,11 +54,13 @@ class AddressTest(unittest.TestCase):
 @unittest.skipUnless(has_ipv6(), "this machine has no IPv6")
 class ListeningTest(unittest.TestCase):
     def test_both_families_have_one_port(self) -> None:
+        queues = Queues()
+        self.addCleanup(queues.end)
         with both_families() as (four, six):
             for one in (four, six):
                 self.assertTrue(is_tcp(one))
                 with socket.create_connection(one.getsockname()[:2], 10) as client:
-                    self.assertTrue(until(lambda: queues_of({text_of(one.getsockname()): inode_of(one)})[0]["waiting"] == 1))
+                    self.assertTrue(until(lambda: queues.of({text_of(one.getsockname()): inode_of(one)})[0]["waiting"] == 1))
                     one.accept()[0].close()
                     client.recv(1)
 

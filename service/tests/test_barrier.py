@@ -6,7 +6,7 @@ from unittest import mock
 
 from kit import clock_ahead
 from prefork_service import barrier
-from prefork_service.barrier import MOST_BLIND, MOST_FAULTS, TELL_SECONDS, Barrier, Broken
+from prefork_service.barrier import MOST_BLIND, MOST_FAULTS, FAULT_TELL_SECONDS, Barrier, Broken
 
 
 def broken(*_: object) -> None:
@@ -60,7 +60,7 @@ class BarrierTest(unittest.TestCase):
         for _ in range(50):
             self.barrier.duty(broken)
         self.assertEqual((len(self.said), self.barrier.count), (1, 50))
-        with mock.patch.object(barrier, "time", clock_ahead(TELL_SECONDS + 1)):
+        with mock.patch.object(barrier, "time", clock_ahead(FAULT_TELL_SECONDS + 1)):
             self.barrier.duty(broken)
         self.assertIn("(49 more since it was told last)", self.said[1])
 

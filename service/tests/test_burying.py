@@ -66,8 +66,8 @@ class BuryingTest(unittest.TestCase):
 
     def test_all_that_prefork_serve_starts_is_known(self) -> None:
         """What a module starts by itself would be buried here, and its status lost."""
-        # (a trial is a process of its own)
-        of_others = {"burying.py", "checkworker.py", "checkpreloader.py", "conversation.py", "trial.py"}
+        # (a trial is a process of its own, and so is prefork-ctl)
+        of_others = {"answering.py", "burying.py", "checkworker.py", "checkpreloader.py", "conversation.py", "trial.py"}
         files = [file for file in (BIN.parent / "prefork_service").glob("*.py") if file.name not in of_others]
         self.assertEqual([file.name for file in files if "Popen(" in file.read_text()], [])
 

@@ -13,7 +13,8 @@ DONE = "done cause none pid no-file\n"
 START, HUP, TTIN = f"word tick 0\n{DONE}", f"word HUP\n{DONE}", f"word TTIN\n{DONE}"
 USR2, ATTENDED = f"word USR2\n{DONE}", f"word USR2 attended\n{DONE}"
 REFUSED, NOTHING = "word HUP\nrefused C1\n", "word HUP\nnothing\n"
-# In place of `prefork certify`: keeps what it is given, and refuses the block that the file `wrong` names.
+# In place of `prefork certify`: keeps what it is given, and refuses the block that the file `wrong` names, if there is one, or
+# says what the file `holds` has.
 PROGRAM = """#!/bin/sh
 here=$(dirname "$0")
 echo "$@" >"$here/arguments"
@@ -23,7 +24,11 @@ for argument; do
     before=$argument
 done
 cat >"$here/given"
-[ -f "$here/wrong" ] || exit 0
+wrong=$(sed -n 's/prefork: certify \\([0-9]*\\) .*/\\1/p' "$here/wrong" 2>/dev/null)
+if [ ! -f "$here/wrong" ] || [ "${wrong:-0}" -gt "$(grep -c '^word ' "$here/given")" ]; then
+    [ ! -f "$here/holds" ] || cat "$here/holds"
+    exit 0
+fi
 cat "$here/wrong" >&2
 exit 5
 """
@@ -52,6 +57,13 @@ class CertifyingTest(unittest.TestCase):
     def given(self, name: str = "given") -> str:
         return (self.room / name).read_text()
 
+    def test_a_report_that_was_cut_off_is_left_out(self) -> None:
+        for cut in range(1, len(DONE) + 1):
+            shutil.rmtree(self.place, ignore_errors=True)
+            self.keep("1", from_toml="a", blocks_1=START + HUP[:-cut])
+            self.said(0)
+            self.assertEqual(self.given(), START)
+
     def test_parts_are_joined_in_their_order(self) -> None:
         parts = {f"blocks_{number}": f"word TTIN {number}\n{DONE}" for number in range(2, 12)}
         self.keep("1", from_toml="a", blocks_1=START, **parts)
@@ -66,17 +78,67 @@ class CertifyingTest(unittest.TestCase):
         self.assertIn(": block 3, word HUP, is not accepted: Y1 3", self.said(5)[0])
         self.assertEqual(self.given(), START + HUP)
 
+    def test_what_holds_of_the_whole_life_is_said_by_the_numbers_of_the_record(self) -> None:
+        self.keep("1", from_toml="a", blocks_1=START + REFUSED + HUP + TTIN)
+        (self.room / "holds").write_text("next\nnext\nlife words 3\nopen throughout 0.0.0.0:80 least ready 2 at word 2 after call 9\n"
+                                         "short start missing 3 healed word 1\nshort word 2 missing 1 healed word 3\n")
+        lines = self.said(0)[0].splitlines()
+        self.assertRegex(lines[0], r": 4 blocks are accepted, from the first on$")
+        self.assertEqual(lines[1:], ["  open throughout 0.0.0.0:80 least ready 2 at block 3 after call 9",
+                                     "  short start missing 3 healed block 1", "  short block 3 missing 1 healed block 4"])
+        self.assertIn(" --life", self.given("arguments"))
+        # A record that is not accepted has no life.
+        (self.room / "wrong").write_text("prefork: certify 2 Y1 3\n")
+        self.assertEqual(len(self.said(5)[0].splitlines()), 1)
+
     def test_a_new_master_that_had_ended_is_no_block_that_is_not_accepted(self) -> None:
         lost = "word tick 9\n1 m2 census 2.2 : master-gone\nlost cause 1 pid no-file\n"
         self.keep("1", from_toml="a", blocks_1=START + REFUSED + HUP + lost, lost_4="the new master m2 has ended\n")
         (self.room / "wrong").write_text("prefork: certify 3 Y1 1\n")
-        self.assertRegex(self.said(0)[0], r": 3 blocks are accepted, from the first on; before block 4, word tick 9, the new "
+        (self.room / "holds").write_text("life words 2\nopen throughout 0.0.0.0:80 least ready 2 at word 2 after call 9\nshort none\n")
+        first, *holds = self.said(0)[0].splitlines()
+        self.assertRegex(first, r": 3 blocks are accepted, from the first on; before block 4, word tick 9, the new "
                          r"master had ended\. The service saw that, and started the next master$")
+        # (what holds of the blocks before it is said too)
+        self.assertEqual((holds, self.given()), (["  open throughout 0.0.0.0:80 least ready 2 at block 3 after call 9", "  short none"],
+                                                 START + HUP))
         # Another block is not excused by it, and a mark excuses nothing that is accepted.
         (self.room / "wrong").write_text("prefork: certify 2 Y1 1\n")
         self.assertIn(": block 3, word HUP, is not accepted: Y1 1", self.said(5)[0])
         (self.room / "wrong").unlink()
         self.assertIn(": 4 blocks are accepted", self.said(0)[0])
+
+    def test_masters_that_died_are_one_life_with_what_came_after(self) -> None:
+        said = "life words 1\nopen throughout 0.0.0.0:80 least ready 1 at start\nopen throughout /s least ready none\n"
+        (self.room / "holds").write_text(f"{said}short start missing 2 healed word 1\n")
+        self.keep("1", from_toml="a", blocks_1=START + HUP, died_2="USR2 attended\n")
+        self.keep("2", from_toml="a", blocks_1=START, died_1="tick 9\n")
+        self.keep("3", from_toml="a", blocks_1=START, died_0="tick 0\n")
+        self.keep("4", from_toml="a", blocks_1=START)
+        lines = self.said(0)
+        self.assertEqual([line.splitlines()[0].partition("first on")[2] for line in lines[:4]],
+                         ["; then the master died, in USR2 attended", "; then the master died, in a tick",
+                          "; then the master died, at its start", ""])
+        self.assertEqual(lines[4:], ["1 to 4 are one life, if the keeper kept the sockets: open throughout 0.0.0.0:80, /s; it ends "
+                                     "without missing workers"])
+
+    def test_a_life_of_several_masters_ends_with_a_stop_and_has_no_more_addresses_than_each_part(self) -> None:
+        (self.room / "holds").write_text("life words 1\nopen throughout none\nshort word 1 missing 1 not healed\n")
+        self.keep("1", from_toml="a", blocks_1=START)
+        self.keep("2", from_toml="a", blocks_1=START, died_1="\n")
+        self.keep("3", from_toml="a", blocks_1=START)
+        self.keep("4", from_toml="a", blocks_1=START)
+        lines = self.said(0)
+        self.assertIn("; then the master died, between two words\n", lines[1])
+        self.assertEqual([line for line in lines if "one life" in line],
+                         ["2 to 3 are one life, if the keeper kept the sockets: open throughout none; it ends with missing workers"])
+        self.assertIn("2 to 3", lines[3])
+
+    def test_a_life_with_a_part_that_is_not_accepted_is_not_told(self) -> None:
+        (self.room / "wrong").write_text("prefork: certify 1 Y1 3\n")
+        self.keep("1", from_toml="a", blocks_1=START, died_1="HUP\n")
+        self.keep("2", from_toml="a", blocks_1=START)
+        self.assertEqual(len(self.said(5)), 2)
 
     def test_each_word_goes_over_to_its_own_configuration(self) -> None:
         files = {"to_2_toml": "b", "to_6_toml": "c", "to_8_toml": "d"}

@@ -1,4 +1,5 @@
 """Commands of generations, and what a worker's launcher does with them."""
+import json
 import os
 import pathlib
 import resource
@@ -11,13 +12,14 @@ import unittest
 from typing import Any
 
 from kit import BIN, OUT, built, until
-from prefork_service.commands import (
-    EMPTY, HAS_KEYS, HAS_PID, NO_LISTENERS, PID_OF_MASTER, Commands, parted,
-)
+from prefork_service.commands import Commands
+from prefork_service.configuration import Configuration, configuration_in, file_of
 from prefork_service.places import SHIM
 from prefork_service.preloading import Preloading
-from prefork_service.recipes import Recipe, Runs, Told, file_of, setup_of
+from prefork_service.reader import EMPTY, HAS_KEYS, HAS_PID, NO_LISTENERS, PID_OF_MASTER, SiteFile, parted
+from prefork_service.recipes import Recipe, Runs, Told, setup_of
 from prefork_service.refusing import mistake_of, refusal_of
+from prefork_service.serve import fall_back
 
 
 def words_of(file: pathlib.Path) -> list[str]:
@@ -78,8 +80,16 @@ class CommandsTest(unittest.TestCase):
         self.commands.begin()
 
     def made(self, default: list[str] | None = None, runs: Runs = Runs.PROGRAM) -> Commands:
-        told = Told(tuple(default), runs, tuple(default)) if default else Told()
-        return Commands(types.SimpleNamespace(path=self.room), str(self.config), told)
+        self.told = Told(tuple(default), runs, tuple(default)) if default else Told()
+        return Commands(types.SimpleNamespace(path=self.room), str(self.config), self.read())
+
+    def read(self) -> Configuration:
+        """What prefork-read would say of the file."""
+        said = json.dumps(SiteFile(self.config, self.told).configuration().as_json())
+        return configuration_in(json.loads(said))
+
+    def change(self, running: str) -> None:
+        self.commands.change(running, self.read())
 
     def configure(self, text: str) -> None:
         self.config.write_text(text)
@@ -94,7 +104,7 @@ class CommandsTest(unittest.TestCase):
     def test_a_reload_that_is_done(self) -> None:
         self.assertEqual(self.start("1.1"), ["one"])
         self.configure('command = ["two"]\nworkers = 2\n')
-        self.commands.change("1.1")
+        self.change("1.1")
         self.assertEqual((self.start("1.2"), self.start("1.1")), (["two"], ["one"]))
         self.assertEqual(self.commands.next.read_text(), '"workers" = 2\n')
         self.commands.settle("done cause none pid no-file")
@@ -109,21 +119,21 @@ class CommandsTest(unittest.TestCase):
         self.commands.begin()
         self.assertEqual(self.start("1.1"), ["PREFORK_ADDRESSES=127.0.0.1:1 127.0.0.1:2", "one"])
         self.configure(text % '"127.0.0.1:3", "127.0.0.1:1"')
-        self.commands.change("1.1")
+        self.change("1.1")
         new, old = "PREFORK_ADDRESSES=127.0.0.1:3 127.0.0.1:1", "PREFORK_ADDRESSES=127.0.0.1:1 127.0.0.1:2"
         self.assertEqual((self.start("1.2")[0], self.start("1.1")[0]), (new, old))
         self.commands.settle("rolled-back cause 2 pid no-file")
         self.assertEqual(words_of(self.place / "next")[0], old)
         groups = '[[groups]]\nlisteners = ["/b"]\nworkers = 1\n[[groups]]\nlisteners = ["/a"]\nworkers = 1\n'
         self.configure(f'command = ["one"]\n{groups}')
-        self.commands.change("1.1")
+        self.change("1.1")
         self.assertEqual(self.start("1.2")[0], "PREFORK_ADDRESSES=/b /a")
 
     def test_late_workers_are_noted_while_a_generation_is_tried(self) -> None:
         self.start("1.1")
         for report in ("done cause none pid no-file", "rolled-back cause 2 pid no-file"):
             self.assertFalse(self.commands.late.exists())
-            self.commands.change("1.1")
+            self.change("1.1")
             self.assertEqual(self.commands.late.read_bytes(), b"")
             self.commands.late.write_text("1.2\n")
             self.commands.settle(report)
@@ -133,7 +143,7 @@ class CommandsTest(unittest.TestCase):
         self.start("1.1")
         for command in ("two", "three"):
             self.configure(f'command = ["{command}"]\n')
-            self.commands.change("1.1")
+            self.change("1.1")
             self.assertEqual(self.start("1.2"), [command])
             self.commands.settle("rolled-back cause 2 pid no-file")
             self.assertEqual((self.start("1.1"), words_of(self.place / "next")), (["one"], ["one"]))
@@ -143,11 +153,11 @@ class CommandsTest(unittest.TestCase):
         self.start("1.1")
         for command in ("two", "three"):
             self.configure(f'command = ["{command}"]\n')
-            self.commands.change("1.1")
+            self.change("1.1")
             self.commands.settle("rolled-back cause 2 pid no-file")
             self.assertEqual(self.start("1.2"), ["one"])
         self.configure('command = ["four"]\n')
-        self.commands.change("1.1")
+        self.change("1.1")
         self.assertEqual((self.start("1.2"), self.start("1.1")), (["four"], ["one"]))
         self.commands.settle("done cause none pid no-file")
         self.assertEqual((self.start("1.2"), self.start("1.3")), (["four"], ["four"]))
@@ -155,18 +165,18 @@ class CommandsTest(unittest.TestCase):
     def test_which_side_of_a_degraded_reload_runs(self) -> None:
         for side, wanted in (("old", "one"), ("target", "two")):
             self.configure('command = ["two"]\n')
-            self.commands.change("1.1")
+            self.change("1.1")
             self.commands.settle(f"degraded {side} 1 cause 2 pid no-file")
             self.assertEqual(words_of(self.place / "next"), [wanted])
 
     def test_a_master_that_starts_again_has_the_command_that_ran(self) -> None:
         self.configure('command = ["two"]\n')
-        self.commands.change("1.1")
+        self.change("1.1")
         self.start("1.2")
         self.commands.settle("lost")
         self.commands.begin()
         self.assertEqual(self.start("1.1"), ["one"])
-        self.commands.change("1.1")
+        self.change("1.1")
         self.commands.settle("done cause none pid no-file")
         self.commands.begin()
         self.assertEqual(self.start("1.1"), ["two"])
@@ -191,7 +201,7 @@ class CommandsTest(unittest.TestCase):
 
         self.assertEqual(socket_of("1.1"), "preloader.1")
         for number in (2, 3):
-            commands.change("1.1")
+            self.change("1.1")
             self.assertEqual((socket_of("1.2"), socket_of("1.1")), (f"preloader.{number}", "preloader.1"))
             commands.settle("rolled-back cause 2 pid no-file")
             # One that was late is forked by the preloader that runs, and none by the one that was given up.
@@ -200,48 +210,48 @@ class CommandsTest(unittest.TestCase):
         # A master that is started again has the preloader, and so the version, that ran.
         commands.begin()
         self.assertEqual(socket_of("1.1"), "preloader.1")
-        commands.change("1.1")
+        self.change("1.1")
         self.assertEqual(socket_of("1.2"), "preloader.4")
         commands.settle("done cause none pid no-file")
         self.assertEqual((socket_of("1.2"), socket_of("1.3")), ("preloader.4", "preloader.4"))
         self.assertEqual([file.name for file in self.room.glob("preloader.*")], ["preloader.4"])
         # A configuration with a command has no preloader, and the one after it a new one.
         self.configure('command = ["one"]\nworkers = 1\n')
-        commands.change("1.2")
+        self.change("1.2")
         self.assertEqual(self.start("1.3"), ["one"])
         commands.settle("done cause none pid no-file")
         self.assertEqual([*self.room.glob("preloader.*")], [])
         self.configure("workers = 1\n")
-        commands.change("1.3")
+        self.change("1.3")
         self.assertEqual(socket_of("1.4"), "preloader.5")
         commands.settle("done cause none pid no-file")
         self.assertEqual(socket_of("1.4"), "preloader.5")
 
     def test_the_program_of_the_command_line_is_for_configurations_without_a_command(self) -> None:
-        commands = self.made(["program"])
+        commands = self.commands = self.made(["program"])
         commands.begin()
         self.assertEqual(words_of(self.place / "next"), ["one"])
         self.configure("workers = 1\n")
-        commands.change("1.1")
+        self.change("1.1")
         self.assertEqual(words_of(self.place / "next"), ["program"])
 
     def test_without_any_command_no_worker_starts(self) -> None:
         self.configure("workers = 1\n")
-        self.commands.change("1.1")
+        self.change("1.1")
         self.assertEqual(words_of(self.place / "next"), ["false"])
 
     def test_what_was_accepted_is_kept(self) -> None:
         self.commands.accept()
         first = self.config.read_text()
         self.configure("listeners = [")
-        self.commands.change("1.1")
+        self.change("1.1")
         self.assertTrue(self.commands.has_changed())
         self.commands.settle("refused C1")
         # A master that is started again.
         self.commands.accept()
         self.assertEqual(self.commands.accepted.read_text(), first)
         self.configure('command = ["two"]\nworkers = 2\n')
-        self.commands.change("1.1")
+        self.change("1.1")
         self.commands.settle("done cause none pid no-file")
         self.assertEqual(self.commands.accepted.read_text(), 'command = ["two"]\nworkers = 2\n')
         self.assertFalse(self.commands.has_changed())
@@ -250,13 +260,14 @@ class CommandsTest(unittest.TestCase):
         self.commands.accept()
         self.configure("listeners = [")
         later = self.made()
-        self.assertEqual(later.current.recipes, ())
-        self.assertTrue(later.fall_back())
-        self.assertEqual((list(later.current.recipes[0].words), later.now.read_text()), (["one"], '"workers" = 1\n'))
+        self.assertEqual(later.current.groups, ())
+        site = SiteFile(self.config, Told())
+        self.assertTrue(fall_back(site, later))
+        self.assertEqual((list(later.current.groups[0].command), later.now.read_text()), (["one"], '"workers" = 1\n'))
         later.accept()
         self.assertTrue(later.has_changed())
         later.clear()
-        self.assertFalse(self.made().fall_back())
+        self.assertFalse(fall_back(site, self.made()))
 
     def test_a_copy_that_cannot_be_written_ends_nothing(self) -> None:
         self.commands.accepted.mkdir()
@@ -266,43 +277,43 @@ class CommandsTest(unittest.TestCase):
 
     def test_a_pid_of_the_master_is_seen(self) -> None:
         self.configure('command = ["one"]\nlisteners = []\n')
-        self.commands.change("1.1")
-        self.assertIsNone(self.commands.fault())
+        self.change("1.1")
+        self.assertIsNone(self.read().refusal)
         self.configure('command = ["one"]\npid = "/tmp/x"\n')
-        self.commands.change("1.1")
-        self.assertEqual(self.commands.fault(), (HAS_PID, PID_OF_MASTER))
+        self.change("1.1")
+        self.assertEqual(self.read().refusal, (HAS_PID, PID_OF_MASTER))
         self.configure("pid = [")
-        self.commands.change("1.1")
-        self.assertIsNone(self.commands.fault())
+        self.change("1.1")
+        self.assertIsNone(self.read().refusal)
 
     def test_an_empty_configuration_is_seen(self) -> None:
         for text in ("", "# soon\n", "workers = 2\n", 'command = ["one"]\n'):
             self.configure(text)
-            self.commands.change("1.1")
-            self.assertEqual(self.commands.fault(), (NO_LISTENERS, EMPTY), text)
+            self.change("1.1")
+            self.assertEqual(self.read().refusal, (NO_LISTENERS, EMPTY), text)
         self.configure('[[groups]]\nlisteners = ["127.0.0.1:1"]\nworkers = 1\n')
-        self.commands.change("1.1")
-        self.assertIsNone(self.commands.fault())
+        self.change("1.1")
+        self.assertIsNone(self.read().refusal)
 
     def test_a_key_of_the_service_that_is_wrong_is_refused(self) -> None:
         served = 'listeners = ["127.0.0.1:1"]\n'
         self.configure(f'{served}[service]\nwsgi = "a:b"\nthreads = "8"\nthread = 1\n[service.environment]\nCOLOUR = 3\n')
-        self.commands.change("1.1")
-        report, why = self.commands.fault() or ("", "")
+        self.change("1.1")
+        report, why = self.read().refusal or ("", "")
         self.assertEqual(report, HAS_KEYS)
         begin = f'{self.config}, line 4: service.threads is "8": a whole number from 1 to 1024 is allowed'
         self.assertEqual(why, f"{begin}; and 2 more, which prefork-serve --check {self.config} says")
-        self.assertEqual(len(self.commands.faults()), 3)
+        self.assertEqual(len(SiteFile(self.config, self.told).faults()), 3)
         for text in (served, f"{served}[service]\n", f'{served}[service]\nwsgi = "a:b"\n'):
             self.configure(text)
-            self.commands.change("1.1")
-            self.assertIsNone(self.commands.fault(), text)
+            self.change("1.1")
+            self.assertIsNone(self.read().refusal, text)
 
     def test_a_pipe_is_no_configuration(self) -> None:
         self.config.unlink()
         os.mkfifo(self.config)
-        self.commands.change("1.1")
-        self.assertEqual((self.commands.proposed_text, self.commands.next.exists()), (b"", False))
+        self.change("1.1")
+        self.assertEqual((self.commands.proposed.for_master, self.commands.next.exists()), (b"", False))
         self.assertTrue(self.commands.has_changed())
 
     def test_why_the_master_refuses_a_configuration(self) -> None:
@@ -333,7 +344,7 @@ class CommandsTest(unittest.TestCase):
 
     def test_a_configuration_that_is_missing_is_missing_for_the_master(self) -> None:
         self.config.unlink()
-        self.commands.change("1.1")
+        self.change("1.1")
         self.assertFalse(self.commands.next.exists())
         self.commands.settle("refused W4")
         self.assertEqual(words_of(self.place / "next"), ["one"])
@@ -386,7 +397,7 @@ class LaunchTest(unittest.TestCase):
                        secrets=(("S", f"{room}/secret"),), nice=19, limits=((7, 55, 66),)),
             ]
             (room / "workers").mkdir()
-            (room / "commands" / "next").write_bytes(file_of(recipes, [one.words for one in recipes], ["PREFORK_ADDRESSES=a b"]))
+            (room / "commands" / "next").write_bytes(file_of([one.group() for one in recipes], [one.words for one in recipes], ["PREFORK_ADDRESSES=a b"]))
             limits, nice = f"{resource.getrlimit(7)[0]} {resource.getrlimit(7)[1]}", os.getpriority(os.PRIO_PROCESS, 0)
             for number, wanted in (
                 (0, f"one \1x|b\nc||{os.getcwd()}|{nice}|{limits}|a b\n"), (1, f"one \1x|b\nc||{os.getcwd()}|{nice}|{limits}|a b\n"),

@@ -10,7 +10,7 @@ from collections.abc import Callable
 from typing import Any
 
 from kit import BIN, PROGRAMS, PYTHON, SERVICE, built, free_address, until
-from prefork_service.errors import MOST_WAITING, Errors, polled
+from prefork_service.errors import MOST_ERRORS_WAITING, Errors, polled
 
 SECONDS = 120
 LINE = "x" * 99 + "\n"
@@ -62,7 +62,7 @@ class ErrorsTest(unittest.TestCase):
         for _ in range(3000):
             errors.write(LINE)
         self.assertGreater(errors.dropped, 0)
-        self.assertLessEqual(len(errors.waiting), MOST_WAITING)
+        self.assertLessEqual(len(errors.waiting), MOST_ERRORS_WAITING)
         missed = errors.dropped
         got = self.heard(lambda text: "which standard error did not take\n" in text, errors)
         self.assertIn(f"prefork: {missed} bytes of messages are lost", got)
@@ -76,7 +76,7 @@ class ErrorsTest(unittest.TestCase):
         self.reader = -1
         for _ in range(3000):
             errors.write(LINE)
-        self.assertLessEqual(len(errors.waiting), MOST_WAITING)
+        self.assertLessEqual(len(errors.waiting), MOST_ERRORS_WAITING)
 
     def test_a_device_that_is_full(self) -> None:
         with open("/dev/full", "wb") as full:

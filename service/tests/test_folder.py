@@ -7,7 +7,7 @@ import unittest
 from unittest import mock
 
 from prefork_service.claiming import LONGEST_PATH, ClaimedFolder as Folder
-from prefork_service.folder import MARK, plain, text_of
+from prefork_service.folder import FOLDER_MARK, plain, text_of
 
 
 class FolderTest(unittest.TestCase):
@@ -49,7 +49,7 @@ class FolderTest(unittest.TestCase):
             (self.path / "workers" / name).write_text("1\n")
         (self.path / "notes").write_text("")
         folder.clear()
-        self.assertEqual(self.left(), [MARK, "notes", "workers"])
+        self.assertEqual(self.left(), [FOLDER_MARK, "notes", "workers"])
         self.assertEqual([file.name for file in folder.workers.iterdir()], ["__init__.py"])
 
     def test_a_start_that_is_stopped_while_it_takes_the_folder_leaves_nothing(self) -> None:
@@ -61,14 +61,14 @@ class FolderTest(unittest.TestCase):
             self.assertRaises(SystemExit, folder.claim)
         folder.pid.write_text("1\n")
         folder.clear()
-        self.assertEqual(self.left(), [MARK])
+        self.assertEqual(self.left(), [FOLDER_MARK])
 
     def test_what_another_service_has_in_its_folder_stays(self) -> None:
         self.made()
         other = Folder(str(self.path))
         self.addCleanup(lambda: os.close(other.lock))
         other.clear()
-        self.assertEqual(self.left(), [MARK, "serve.pid", "traffic", "workers"])
+        self.assertEqual(self.left(), [FOLDER_MARK, "serve.pid", "traffic", "workers"])
 
     def test_the_folder_of_an_earlier_version_is_taken(self) -> None:
         (self.path / "records" / "1").mkdir(parents=True)
@@ -76,7 +76,7 @@ class FolderTest(unittest.TestCase):
         for name in ("journal", "journal.1", "blocks"):
             (self.path / name).write_text("")
         self.made()
-        self.assertTrue((self.path / MARK).exists())
+        self.assertTrue((self.path / FOLDER_MARK).exists())
 
     def test_a_file_named_workers_is_refused(self) -> None:
         folder = Folder(str(self.path))
@@ -95,7 +95,7 @@ class FolderTest(unittest.TestCase):
         self.assertFalse(folder.mend())
         subprocess.run(["rm", "-r", self.path], check=True)
         self.assertTrue(folder.mend())
-        self.assertEqual(self.left(), [MARK, "reasons", "serve.pid", "traffic", "workers"])
+        self.assertEqual(self.left(), [FOLDER_MARK, "reasons", "serve.pid", "traffic", "workers"])
         self.assertEqual(self.path.stat().st_mode & 0o777, 0o700)
         self.assertFalse(Folder.is_claimed(type("Other", (), {"lock": os.open(self.path, os.O_RDONLY)})()))  # type: ignore
 

@@ -7,7 +7,7 @@ from unittest import mock
 
 from kit import clock_ahead, until
 from prefork_service import hooks
-from prefork_service.hooks import EVENTS, MOST, OF_OUTCOMES, Hooks
+from prefork_service.hooks import EVENTS, MOST_HOOKS, OF_OUTCOMES, Hooks
 
 
 class HooksTest(unittest.TestCase):
@@ -64,10 +64,10 @@ class HooksTest(unittest.TestCase):
 
     def test_not_more_than_some_run_at_a_time(self) -> None:
         found = Hooks({"on-done": self.program("sleep 1000")})
-        with mock.patch.object(hooks, "say") as said, mock.patch.object(hooks, "END_SECONDS", 0.0):
-            for _ in range(MOST + 1):
+        with mock.patch.object(hooks, "say") as said, mock.patch.object(hooks, "HOOK_END_SECONDS", 0.0):
+            for _ in range(MOST_HOOKS + 1):
                 found.tell("on-done", {})
-            self.assertEqual((len(found.running), said.call_count), (MOST, 1))
+            self.assertEqual((len(found.running), said.call_count), (MOST_HOOKS, 1))
             found.end()
         self.assertTrue(all(process.returncode == -9 for process, _, _ in found.running))
 

@@ -32,7 +32,7 @@ class JournalTest(unittest.TestCase):
         self.assertEqual(self.lines(), ["tick: short", "tick: 2 more ended so", "tick: shorter", "tick: 1 more ended so"])
 
     def test_files_are_bounded(self) -> None:
-        with mock.patch.object(journal, "MOST_BYTES", 1000):
+        with mock.patch.object(journal, "MOST_JOURNAL_BYTES", 1000):
             for number in range(200):
                 self.journal.note(f"{number} " + "x" * 100)
         files = sorted(self.path.parent.iterdir())

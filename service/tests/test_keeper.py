@@ -139,6 +139,27 @@ class KeeperTest(unittest.TestCase):
         time.sleep(0.6)
         self.assertTrue(kept.exists())
 
+    def test_what_a_reload_added_is_held_and_given_once_nobody_else_has_it(self) -> None:
+        """A master dies in a reload that adds an address, and all workers with it: the keeper alone has both sockets. It gives
+        the very same ones to the next workers, with the connections that wait there."""
+        names = [str(self.room / name) for name in ("ran", "added")]
+        first = [self.asked(name) for name in names]
+        inodes = [os.fstat(one.fileno()).st_ino for _, one, _ in first]
+        waiting = [socket.socket(socket.AF_UNIX) for _ in names]
+        for client, name in zip(waiting, names):
+            self.addCleanup(client.close)
+            client.connect(name)
+        for _, one, hold in first:
+            one.close()
+            hold.close()
+        # (longer than it keeps an address that nobody holds while others are held)
+        time.sleep(0.6)
+        for client, name, inode in zip(waiting, names, inodes):
+            said, one, _ = self.asked(name)
+            self.assertEqual((said, os.fstat(one.fileno()).st_ino), ("ok", inode))
+            one.accept()[0].close()
+            self.assertEqual(client.recv(1), b"")
+
     def test_a_connection_holds_several_addresses_and_gives_each_up(self) -> None:
         places = [self.room / name for name in ("first", "second", "third")]
         _, _, hold = self.asked(str(places[0]))

@@ -50,7 +50,7 @@ class KeepingTest(unittest.TestCase):
         self.addCleanup(self.events.close)
         # What workers hold their sockets by.
         self.holds: list[socket.socket] = []
-        pauses = mock.patch.object(keeping, "PAUSE_SECONDS", 0.1)
+        pauses = mock.patch.object(keeping, "KEEPER_PAUSE_SECONDS", 0.1)
         pauses.start()
         self.addCleanup(pauses.stop)
         self.keeping = Keeping(self.events, self.folder, [], {}, {})
@@ -173,24 +173,18 @@ class KeepingTest(unittest.TestCase):
         workers = [threading.Thread(target=lambda one=one: one.accept()[0].close()) for one in listeners]
         for worker in workers:
             worker.start()
-        with mock.patch.object(keeping, "DRAIN_SECONDS", 60.0):
+        with mock.patch.object(keeping, "KEEPER_DRAIN_SECONDS", 60.0):
             self.keeping.drain()
         for worker, client in zip(workers, waiting):
             worker.join()
             self.assertEqual(client.recv(1), b"")
             client.close()
-        # Where the service goes on after all, who asks gets another socket.
-        self.keeping.open_again()
-        again = [self.given(tcp), self.given(path)]
-        for address, one in zip((tcp, path), again):
-            connected(address).close()
-            one.accept()[0].close()
 
     def test_a_drain_has_its_limit(self) -> None:
         address = free_address()
         listener = self.given(address)
         self.assertTrue(self.turn(lambda: self.keeping.held))
-        with connected(address), mock.patch.object(keeping, "DRAIN_SECONDS", 0.05):
+        with connected(address), mock.patch.object(keeping, "KEEPER_DRAIN_SECONDS", 0.05):
             self.keeping.seal()
             self.keeping.drain()
             listener.accept()[0].close()
@@ -308,9 +302,9 @@ class KeepingTest(unittest.TestCase):
             self.assertEqual((said.decode(), os.fstat(one.fileno()).st_ino), before)
 
     def test_a_keeper_that_hangs_is_replaced(self) -> None:
-        with mock.patch.multiple(keeping, ANSWER_SECONDS=30.0, ASK_SECONDS=0.1):
+        with mock.patch.multiple(keeping, KEEPER_ANSWER_SECONDS=30.0, ASK_SECONDS=0.1):
             self.assertFalse(self.turn(lambda: self.keeping.restarts, 1.0))
-        with mock.patch.multiple(keeping, ANSWER_SECONDS=0.5, ASK_SECONDS=0.1):
+        with mock.patch.multiple(keeping, KEEPER_ANSWER_SECONDS=0.5, ASK_SECONDS=0.1):
             process = self.killed(signal.SIGSTOP)
             self.assertTrue(self.turn(lambda: self.is_another(process)))
 

@@ -32,6 +32,7 @@ WRONG: dict[str, tuple[list[str], list[str]]] = {
     "blocking": (['"yes"', "1"], []),
     "threads": (['"8"', "4.0", "true"], ["0", "-1", "1025"]),
     "timeout": (['"30"', "true"], ["0", "86401"]),
+    "request_timeout": (['"30"', "true"], ["0", "-1", "86401"]),
     "keep": (['"75"', "7.5"], ["0", "86401"]),
     "trusted_proxy": (['"10.0.0.1"', "[1]"], ['["10.0.0.1/8"]', '["proxy"]']),
     "access_log": (["3", "[]"], ['""']),
@@ -42,8 +43,12 @@ WRONG: dict[str, tuple[list[str], list[str]]] = {
     "user": (["33", "[]"], ['""', '"no-such-user"']),
     "group": (["33", "[]"], ['""', '"no-such-group"']),
     "nice": (['"5"', "1.5", "true"], ["20", "-21"]),
+    "hard_memory": (["true", "1.5", '["1G"]'], ["0", "1000", '""', '"512"', '"1.5X"', '"-1G"', '"512MB"', '"1T1"', '"9999T"']),
     "limits": (['"nofile=4"', "4"], []),
     "answer_within": (['"60"', "1.5", "true"], ["-1", "536870912"]),
+    "ask": (['"./look"', "3", "[1]"], ["[]", '[""]', '["a\\u0000"]']),
+    "ask_after": (['"10"', "true"], ["-1", "86401", "nan"]),
+    "ask_within": (['"60"', "false"], ["0", "-0.5", "86401"]),
     "hooks": (['"x"', '["x"]'], []),
     "groups": (['"x"', "[1]"], []),
 }
@@ -58,7 +63,7 @@ def faults(text: str, told: Told = Told()) -> list[str]:
 
 def kind_for(name: str) -> str:
     """What workers run that have a key."""
-    return PROGRAM if name in ("wsgi", "groups", "hooks", "answer_within") or KEYS[name].runs >= KEYS["stop"].runs else WSGI
+    return PROGRAM if name == "wsgi" or not KEYS[name].runs or KEYS[name].runs >= KEYS["stop"].runs else WSGI
 
 
 class KeysTest(unittest.TestCase):
@@ -128,6 +133,8 @@ class KeysTest(unittest.TestCase):
             (f'{PROGRAM}\nready = "probe"', '5: service.ready is "probe": a key probe is wanted with it'),
             (f'{WSGI}\nprobe = "/"', '5: service.probe of wsgi is asked once'),
             (f'{WSGI}\npreload = true\nuser = "root"', "6: service.user is a key of a program or wsgi, and the workers run wsgi with preload"),
+            (f"{PROGRAM}\nask_after = 5", "5: service.ask_after is of a command that answers questions, and there is none"),
+            (f'{PROGRAM}\nask = ["/no/such"]\nask_within = 5', "5: service.ask can't be started: /no/such: No such file"),
             (f'{PROGRAM}\nready = "notify"\nuser = "root"', "6: service.user: another user reaches no file"),
         ):
             found = faults(f"{SERVED}[service]\n{text}\n")

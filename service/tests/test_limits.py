@@ -8,7 +8,7 @@ from unittest import mock
 
 from prefork_service import limits as told
 from prefork_service.bounds import end_seconds
-from prefork_service.limits import MOST, answer_seconds, known, limits_of
+from prefork_service.limits import MOST_TIMEOUT, answer_seconds, known, limits_of
 from prefork_service.options import arguments, seconds_given
 from prefork_service.recipes import Recipe, Runs
 
@@ -24,14 +24,14 @@ class LimitsTest(unittest.TestCase):
         self.assertEqual(self.limits(), ["--answer-within", "60"])
         self.assertEqual(self.limits("--answer-within", "0"), [])
         self.assertEqual(self.limits("--answer-within", "+9"), ["--answer-within", "9"])
-        self.assertEqual(self.limits("--answer-within", str(MOST)), ["--answer-within", str(MOST)])
+        self.assertEqual(self.limits("--answer-within", str(MOST_TIMEOUT)), ["--answer-within", str(MOST_TIMEOUT)])
 
     def test_an_adapter_ends_its_program_before_the_master_does(self) -> None:
         self.assertEqual(self.limits("--answer-within", "2"), ["--answer-within", "2", "--ready-within", "60"])
         for option in ("--ready-within", "--finish"):
             self.assertEqual(self.limits(option, "450"), ["--answer-within", "60"])
             self.assertEqual(self.limits(option, "450.5"), ["--answer-within", "60", "--ready-within", "481"])
-            self.assertEqual(self.limits(option, "1e300")[2:], ["--ready-within", str(MOST)])
+            self.assertEqual(self.limits(option, "1e300")[2:], ["--ready-within", str(MOST_TIMEOUT)])
             self.assertEqual(self.limits(option, "soon"), ["--answer-within", "60"])
 
     def test_a_worker_without_an_adapter_has_what_is_said(self) -> None:
@@ -50,7 +50,7 @@ class LimitsTest(unittest.TestCase):
             self.assertEqual(end_seconds(limits), wanted)
 
     def test_what_is_refused(self) -> None:
-        for text in ("-1", "1.5", "", "x", str(MOST + 1)):
+        for text in ("-1", "1.5", "", "x", str(MOST_TIMEOUT + 1)):
             with self.assertRaises(SystemExit), open(os.devnull, "w") as nowhere:
                 with mock.patch("sys.stderr", nowhere):
                     self.limits(f"--answer-within={text}")
@@ -61,7 +61,7 @@ class LimitsTest(unittest.TestCase):
             program = pathlib.Path(room) / "prefork"
             for script, seconds, wanted in (
                 ("echo '  --answer-within <S>  Kill'", 60.0, limits), ("echo '  --other'", 60.0, []),
-                ("false", 60.0, []), ("sleep 1000", 2.0, []),
+                ("false", 60.0, []), ("sleep 1000", 2.0, limits),
             ):
                 program.write_text(f"#!/bin/sh\n[ \"$*\" = 'supervise --help' ] && exec {script}\n")
                 program.chmod(stat.S_IRWXU)

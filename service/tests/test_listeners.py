@@ -11,12 +11,13 @@ from typing import Any
 from unittest import mock
 
 from kit import free_address, until
-from prefork_service import listeners
-from prefork_service.commands import Commands
+from prefork_service import listeners, socket_tables
+from prefork_service.configuration import Configuration
 from prefork_service.keeping import Keeping
-from prefork_service.listeners import faults_of_sockets, options_in
 from prefork_service.opening import DEFER_SECONDS, Wanted, listening
+from prefork_service.reader import SiteFile
 from prefork_service.recipes import Told
+from prefork_service.socket_tables import faults_of_sockets, options_in
 
 # In the TCP_INFO of a listening socket: the length of its queue.
 LENGTH_AT, INFO_BYTES = 28, 104
@@ -62,24 +63,24 @@ class ReadingTest(unittest.TestCase):
         with tempfile.TemporaryDirectory(prefix="listeners-") as room:
             config = pathlib.Path(room) / "site.toml"
             config.write_bytes(text)
-            commands = Commands(folder_in(pathlib.Path(room)), str(config), Told())
-            self.assertEqual(commands.faults(), [
+            site = SiteFile(config, Told())
+            self.assertEqual(site.faults(), [
                 f'{config}, line 5: sockets."/a".group is "no-such-group", which is no group of this system',
                 f'{config}, line 6: sockets."/a".owner is "nobody-at-all", which is no user of this system',
             ])
-            self.assertEqual((commands.fault() or ("",))[0], "refused socket-options")
+            self.assertEqual((site.refusal() or ("",))[0], "refused socket-options")
             config.write_bytes(text.replace(b"no-such-group", b"0") + b"[service]\nthread = 1\n")
-            commands.change("")
-            self.assertEqual((commands.fault() or ("",))[0], "refused service-keys")
-            self.assertEqual(len(commands.faults()), 2)
+            site = SiteFile(config, Told())
+            self.assertEqual((site.refusal() or ("",))[0], "refused service-keys")
+            self.assertEqual(len(site.faults()), 2)
 
     def test_a_user_without_rights_gives_to_its_own_groups_alone(self) -> None:
         text = f'[sockets."/a"]\ngroup = "{max(os.getgroups() + [os.getegid()]) + 1}"\nowner = "{os.geteuid() + 1}"\n'.encode()
-        with mock.patch.object(listeners, "may_give", lambda: False):
+        with mock.patch.object(socket_tables, "may_give", lambda: False):
             self.assertEqual([fault.path[2] for fault in faults_of_sockets(text)], ["group", "owner"])
             own = f'[sockets."/a"]\ngroup = "{os.getegid()}"\nowner = "{os.geteuid()}"\n'.encode()
             self.assertEqual(faults_of_sockets(own), [])
-        with mock.patch.object(listeners, "may_give", lambda: True):
+        with mock.patch.object(socket_tables, "may_give", lambda: True):
             self.assertEqual(faults_of_sockets(text), [])
 
     def test_what_is_said_goes_over_what_is_usual(self) -> None:
@@ -133,12 +134,13 @@ class KeptTest(unittest.TestCase):
         return keeping
 
     def seen_to(self, keeping: Keeping) -> Any:
-        return keeping.wanted(b"sockets")
+        return keeping.wanted(self.named(path=Wanted()))
 
-    def named(self, **wanted: Wanted) -> bytes:
+    def named(self, **wanted: Wanted) -> Configuration:
         """A configuration with these options of the two addresses, and of a third one."""
         places = {"path": self.path, "tcp": self.tcp, "new": self.new}
-        return "".join(f"[sockets.{json.dumps(places[name])}]\n{text_of(one)}" for name, one in wanted.items()).encode()
+        text = "".join(f"[sockets.{json.dumps(places[name])}]\n{text_of(one)}" for name, one in wanted.items()).encode()
+        return Configuration(listeners={address: one.told() for address, one in options_in(text).items()})
 
     def hears(self, keeping: Keeping, *addresses: str) -> None:
         def all_held() -> bool:
@@ -159,7 +161,7 @@ class KeptTest(unittest.TestCase):
     def test_options_go_over_those_of_all_sockets(self) -> None:
         keeping = self.begin("--defer-accept", "--socket-mode", "640", path=Wanted(mode=0o606), tcp=Wanted(defer_accept=False))
         self.assertEqual((self.file()[2], deferral_of(keeping.held[self.tcp])), (0o606, 0))
-        self.seen_to(keeping).settle(b"")
+        self.seen_to(keeping).settle(Configuration())
         self.assertEqual(self.file()[2], 0o640)
         self.assertTrue(deferral_of(keeping.held[self.tcp]))
 
@@ -170,7 +172,7 @@ class KeptTest(unittest.TestCase):
         self.seen_to(keeping).settle(self.named(path=Wanted(mode=0o622), tcp=Wanted(backlog=5, defer_accept=True)))
         self.assertEqual((self.file(), length_of(keeping.held[self.tcp])), ((*usual[:2], 0o622), 5))
         self.assertTrue(deferral_of(keeping.held[self.tcp]))
-        self.seen_to(keeping).settle(b"")
+        self.seen_to(keeping).settle(Configuration())
         self.assertEqual((self.file(), length_of(keeping.held[self.tcp])), (usual, system_most()))
         self.assertFalse(deferral_of(keeping.held[self.tcp]))
         self.assertEqual(inodes, {address: os.fstat(one.fileno()).st_ino for address, one in keeping.held.items()})
@@ -182,7 +184,7 @@ class KeptTest(unittest.TestCase):
         usual = self.file()
         self.seen_to(keeping).settle(self.named(path=Wanted(owner=12, group=34)))
         self.assertEqual(self.file(), (12, 34, usual[2]))
-        self.seen_to(keeping).settle(b"")
+        self.seen_to(keeping).settle(Configuration())
         self.assertEqual(self.file(), usual)
 
     def test_what_is_proposed_counts_for_what_is_opened(self) -> None:
@@ -196,7 +198,7 @@ class KeptTest(unittest.TestCase):
     def test_what_was_proposed_and_is_rolled_back_counts_no_more(self) -> None:
         keeping = self.begin()
         self.seen_to(keeping).propose(self.named(new=Wanted(mode=0o604)))
-        self.seen_to(keeping).settle(b"")
+        self.seen_to(keeping).settle(Configuration())
         keeping.hold([self.new])
         self.hears(keeping, self.new)
         self.assertEqual(self.file(self.new)[2], self.file()[2])
@@ -246,12 +248,12 @@ class KeptTest(unittest.TestCase):
         inherited = {self.tcp: listening(self.tcp, Wanted(backlog=9, defer_accept=True)), self.path: listening(self.path, Wanted(mode=0o600))}
         keeping: Any = Keeping(self.events, self.folder, ["--socket-mode", "640"], {}, inherited)
         self.addCleanup(keeping.end)
-        self.assertIsNotNone(keeping.wanted(b""))
+        self.assertIsNotNone(keeping.wanted(Configuration()))
         keeping.listeners.begin(self.named(tcp=Wanted(backlog=5)))
         self.assertEqual((length_of(inherited[self.tcp]), deferral_of(inherited[self.tcp]), self.file()[2]), (5, 0, 0o640))
 
     def test_without_options_nobody_sees_to_them(self) -> None:
-        self.assertIsNone(self.begin_alone().wanted(b"workers = 1"))
+        self.assertIsNone(self.begin_alone().wanted(Configuration()))
 
     def begin_alone(self) -> Keeping:
         keeping = Keeping(self.events, self.folder, [], {}, {})

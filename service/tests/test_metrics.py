@@ -16,10 +16,10 @@ STATUS = {
     "masters": [3, 4], "master_restarts": 1, "keeper": {"process": 5, "restarts": 2},
     "last": {"word": "HUP", "report": "rolled-back cause 2 pid no-file"}, "doing": None, "question": 0, "waiting": 3,
     "counts": [{"word": "USR2 attended", "outcome": "done", "count": 4}], "file_has_changed": True, "records_waiting": 0,
-    "ticks": 59, "tick_outcomes": {"nothing": 50, "degraded": 8, "lost": 1}, "question_seconds": 0, "others": [],
+    "limits_passed": {"hard_memory": 2, "request_timeout": 0}, "ticks": 59, "tick_outcomes": {"nothing": 50, "degraded": 8, "lost": 1}, "question_seconds": 0, "others": [],
     "state": "short", "wanted": 3, "running": 1, "failed_starts": 21, "line": "short: wanted 3, runs 1: worker 2 has failed",
     "queues": [{"address": "127.0.0.1:8080", "waiting": 5, "most": 1024, "dropped": 7}],
-    "requests": {**COUNTS, "busy": 3, "threads": 4},
+    "requests": {**COUNTS, "busy": 3, "threads": 4, "generations": {"1.2": {"2xx": 8, "5xx": 1}}},
     "failing": [{"worker": 2, "failed": 21, "reason": "it <ended>", "next_try_seconds": 9.0}],
 }
 
@@ -41,6 +41,8 @@ class MetricsTest(unittest.TestCase):
             'prefork_queue_limit{address="127.0.0.1:8080"} 1024', 'prefork_queue_dropped_total{address="127.0.0.1:8080"} 7',
             'prefork_worker_memory_bytes{generation="1.2",number="0"} 12000000',
             'prefork_worker_processor_seconds_total{generation="1.2",number="0"} 1.5',
+            'prefork_limits_passed_total{limit="hard_memory"} 2', 'prefork_limits_passed_total{limit="request_timeout"} 0',
+            'prefork_generation_requests_total{generation="1.2",class="5xx"} 1',
             'prefork_requests_total{class="2xx"} 8', 'prefork_requests_total{class="5xx"} 1',
             'prefork_request_seconds_bucket{le="0.005"} 4', 'prefork_request_seconds_bucket{le="5.0"} 4',
             'prefork_request_seconds_bucket{le="10.0"} 9', 'prefork_request_seconds_bucket{le="+Inf"} 10',
@@ -66,7 +68,7 @@ class MetricsTest(unittest.TestCase):
 
     def test_a_service_whose_workers_count_nothing(self) -> None:
         status = {**STATUS, "requests": None, "workers": [{**WORKER, "requests": None}]}
-        self.assertFalse([line for line in metrics_of(status).splitlines() if "request" in line or "thread" in line])
+        self.assertFalse([line for line in metrics_of(status).splitlines() if "_request" in line or "thread" in line])
 
     def test_labels_are_quoted(self) -> None:
         status = {**STATUS, "generation": 'a"b\\c\nd'}

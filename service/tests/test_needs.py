@@ -3,7 +3,7 @@ import unittest
 from unittest import mock
 
 from prefork_service import needs
-from prefork_service.named import addresses_of, groups_of
+from prefork_service.named import addresses_of, groups_of, timeout_of, workers_in
 from prefork_service.needs import needs_of, shortages
 
 SITE = b'listeners = ["127.0.0.1:1", "127.0.0.1:2", "127.0.0.1:3", "127.0.0.1:4"]\nworkers = 200\n'
@@ -15,6 +15,17 @@ class NeedsTest(unittest.TestCase):
         text = b'[[groups]]\nlisteners = ["a:1"]\nworkers = 3\n[[groups]]\nlisteners = ["a:2", "a:3"]\nworkers = 1\n'
         self.assertEqual(groups_of(text), [(3, 1), (1, 2)])
         self.assertEqual(addresses_of(text), ["a:1", "a:2", "a:3"])
+
+    def test_the_workers_of_a_configuration(self) -> None:
+        for text, wanted in (
+            (b"workers = 3\n", 3), (b"", 1), (b"workers = 0\n", 0), (b'groups = [{ listeners = ["/a"] }, { workers = 4 }]\n', 5),
+            (b"workers = \n", 0), (b'groups = "x"\n', 0), (b"\xff", 0),
+        ):
+            self.assertEqual(workers_in(text), wanted, text)
+
+    def test_the_timeout_of_a_configuration(self) -> None:
+        for text, wanted in ((b"timeout = 7", 7), (b"workers = 1", 60), (b"timeout =", 60), (b'timeout = "7"', 60), (b"\xff", 60)):
+            self.assertEqual(timeout_of(text), wanted, text)
 
     def test_a_configuration_that_the_master_is_to_refuse_needs_nothing(self) -> None:
         for text in (b"", b"\xff", b"workers =", b"workers = 1", b"groups = 1", b'listeners = 1\nworkers = "x"'):

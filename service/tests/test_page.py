@@ -7,7 +7,7 @@ import unittest
 
 from kit import until
 from prefork_service.done import Done
-from prefork_service.page import MOST_LINES, NextPlan, drawn, masters_list, said, workers_table
+from prefork_service.page import MOST_PLAN_LINES, NextPlan, drawn, masters_list, said, workers_table
 from test_metrics import STATUS
 
 BLOCK = "word HUP\n1 m1 fork 1.2 0 : forked\n2 m1 await-ready 1.2 0 : gone\nrolled-back cause 2 pid no-file\n"
@@ -86,7 +86,7 @@ class NextPlanTest(unittest.TestCase):
 
     def test_it_is_made_once_and_again_when_something_has_changed(self) -> None:
         self.assertTrue(self.comes("x\n1\n"))
-        self.assertEqual(len(self.plan.text.splitlines()), MOST_LINES + 1)
+        self.assertEqual(len(self.plan.text.splitlines()), MOST_PLAN_LINES + 1)
         for _ in range(20):
             self.plan.tend(self.status)
             time.sleep(0.05)

@@ -72,7 +72,7 @@ class PatienceTest(unittest.TestCase):
         for script, wanted in (("cat", True), ("exec sleep 1000", False), ("exec >&-; sleep 1000", True)):
             folder: Any = types.SimpleNamespace(lock=os.open(self.workers, os.O_RDONLY))
             self.addCleanup(os.close, folder.lock)
-            with mock.patch("prefork_service.master.END_SECONDS", 0.2):
+            with mock.patch("prefork_service.master.MASTER_END_SECONDS", 0.2):
                 self.assertEqual(Master(["sh", "-c", script], folder, print).finish(1.0), wanted, script)
 
 

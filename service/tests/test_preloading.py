@@ -26,6 +26,15 @@ def application(environ, start):
     start("200 OK", [("Content-Type", "text/plain"), ("Content-Length", str(len(text)))])
     return [text]
 """
+# Answers with the modules that a worker has loaded itself.
+MODULES = """import os, sys
+known = set()
+os.register_at_fork(after_in_child=lambda: known.update(sys.modules))
+def application(environ, start):
+    text = (" ".join(sorted(set(sys.modules) - known)) or "none").encode()
+    start("200 OK", [("Content-Type", "text/plain"), ("Content-Length", str(len(text)))])
+    return [text]
+"""
 
 
 def runs(process: int) -> bool:
@@ -50,7 +59,7 @@ class PreloadingTest(WorkerTest):
         events = selectors.DefaultSelector()
         seconds = 5.0 if options[:1] == ("--ready-within",) else 30.0
         self.preloading = Preloading(events, types.SimpleNamespace(path=self.room), seconds)
-        self.word = self.preloading.words(False, 0, Recipe(command, Runs.PRELOADED))
+        self.word = self.preloading.words(False, 0, Recipe(command, Runs.PRELOADED).group())
         waked, self.wake = os.pipe()
         events.register(waked, selectors.EVENT_READ, lambda number: os.read(number, 1))
         self.thread = threading.Thread(target=self.loop, args=(events,))
@@ -94,6 +103,13 @@ class PreloadingTest(WorkerTest):
             talk.say("quit")
             self.assertEqual((talk.hear(), talk.hear(), talk.wait()), ("gone", END, 0))
         self.assertTrue(until(lambda: not any(map(runs, processes))))
+
+    def test_a_worker_shares_all_modules(self) -> None:
+        (self.room / "app.py").write_text(MODULES)
+        self.begun()
+        talk, address = self.worker()
+        self.assertEqual(talk.hear(), "ready")
+        self.assertEqual(answer_of(address), "none")
 
     def test_each_ends_when_the_other_is_killed(self) -> None:
         self.begun()

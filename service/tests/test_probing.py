@@ -32,7 +32,7 @@ class Application:
 
 class ProbingTest(unittest.TestCase):
     def setUp(self) -> None:
-        for change in (mock.patch.object(probing, "PAUSE_SECONDS", 0), contextlib.redirect_stderr(io.StringIO())):
+        for change in (mock.patch.object(probing, "PROBE_PAUSE_SECONDS", 0), contextlib.redirect_stderr(io.StringIO())):
             self.enterContext(change)
 
     def test_a_probe_is_answered(self) -> None:

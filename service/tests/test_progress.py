@@ -12,7 +12,7 @@ from unittest import mock
 from kit import SERVICE
 from prefork_service import following
 from prefork_service.following import Follower
-from prefork_service.progress import is_newer, progress_of
+from prefork_service.progress import Running, Progress, counts_of, is_newer
 
 
 def run(*generations: str) -> list[dict[str, Any]]:
@@ -20,7 +20,7 @@ def run(*generations: str) -> list[dict[str, Any]]:
 
 
 def far(seconds: float) -> dict[str, Any]:
-    return progress_of("HUP", seconds, "1.9", run("1.9", "1.10"))
+    return Progress().of("HUP", 0.0, seconds, counts_of("1.9", 1, run("1.9", "1.10")), 1)
 
 
 class ProgressTest(unittest.TestCase):
@@ -31,10 +31,30 @@ class ProgressTest(unittest.TestCase):
 
     def test_new_and_old_workers(self) -> None:
         ended = [{"generation": "1.9", "process": None}]
-        told = progress_of("HUP", 8.9, "1.9", [*run("1.9", "1.9", "1.8", "1.10"), *ended])
-        self.assertEqual(told, {"word": "HUP", "seconds": 8, "new": 1, "old": 3, "line": "HUP, for 8 s: 1 new and 3 old workers run"})
-        self.assertEqual(progress_of("QUIT", 3.0, "1.9", run("1.9"))["line"], "QUIT, for 3 s: 1 worker runs")
-        self.assertEqual(progress_of("QUIT", 3.0, "1.9", run("1.9", "1.9"))["line"], "QUIT, for 3 s: 2 workers run")
+        counts = counts_of("1.9", 4, [*run("1.9", "1.9", "1.8", "1.10"), *ended])
+        told = Progress().of("HUP", 100.0, 108.9, counts, 4)
+        line = "HUP, for 8 s: 1 of 4 new and 3 old workers run; new workers start, for 8 s"
+        self.assertEqual(told, {"word": "HUP", "seconds": 8, "new": 1, "old": 3, "wanted": 4, "step": "new workers start",
+                                "step_seconds": 8, "line": line})
+        for old, wanted in ((1, "QUIT, for 3 s: 1 worker runs; old workers finish, for 3 s"),
+                            (2, "QUIT, for 3 s: 2 workers run; old workers finish, for 3 s")):
+            self.assertEqual(Progress().of("QUIT", 0.0, 3.0, Running(0, old, 2), 0)["line"], wanted)
+
+    def test_the_steps_of_a_word_and_since_when_each_is_waited_for(self) -> None:
+        progress, told = Progress(), []
+        for now, new, old in ((1, 0, 3), (2, 1, 3), (5, 3, 3), (8, 3, 3), (9, 3, 2), (11, 3, 0)):
+            far = progress.of("HUP", 0.0, now, Running(new, old, 3), 3)
+            told.append((far["step"], far["step_seconds"]))
+        self.assertEqual(told, [
+            ("new workers start", 1), ("new workers start", 2), ("the new workers are to be ready", 0),
+            ("the new workers are to be ready", 3), ("old workers finish", 0), ("the end of the word", 0),
+        ])
+        self.assertEqual(progress.of("HUP", 20.0, 21.0, Running(0, 3, 3), 3)["step_seconds"], 1)
+
+    def test_a_word_that_goes_back(self) -> None:
+        progress = Progress()
+        steps = [progress.of("HUP", 0.0, 1.0, Running(new, 3, 3), 3)["step"] for new in (1, 3, 2, 0)]
+        self.assertEqual(steps[2:], ["new workers have ended"] * 2)
 
 
 class Terminal(io.StringIO):
@@ -54,7 +74,7 @@ class FollowerTest(unittest.TestCase):
             if isinstance(found, Exception):
                 raise found
             return found
-        with mock.patch.object(following, "EACH_SECONDS", period), mock.patch.object(following, "SELDOM_SECONDS", period):
+        with mock.patch.object(following, "TERMINAL_SECONDS", period), mock.patch.object(following, "SELDOM_SECONDS", period):
             with Follower(ask, output):
                 deadline = time.monotonic() + 20
                 while left and time.monotonic() < deadline:
@@ -65,7 +85,7 @@ class FollowerTest(unittest.TestCase):
     def test_a_line_that_moves_at_a_terminal_and_is_gone_at_the_end(self) -> None:
         states = [{"progress": far(seconds)} for seconds in (1.0, 2.0)]
         shown = self.followed(Terminal(), [*states, {"progress": None}])
-        self.assertIn("\r\033[KHUP, for 1 s: 1 new and 1 old workers run\r\033[KHUP, for 2 s: ", shown)
+        self.assertIn("\r\033[KHUP, for 1 s: 1 of 1 new and 1 old workers run; the new workers are to be ready, for 1 s\r\033[KHUP, for 2 s: ", shown)
         self.assertTrue(shown.endswith("\r\033[K"))
 
     def test_standard_error_of_these_programs_is_known_as_a_terminal(self) -> None:
@@ -83,7 +103,7 @@ class FollowerTest(unittest.TestCase):
     def test_lines_elsewhere(self) -> None:
         states = [{"progress": far(seconds)} for seconds in (1.0, 2.0, 3.0)]
         shown = self.followed(io.StringIO(), [*states, OSError("nobody")])
-        self.assertEqual(shown.splitlines()[0], "prefork-ctl: HUP, for 1 s: 1 new and 1 old workers run")
+        self.assertEqual(shown.splitlines()[0], "prefork-ctl: HUP, for 1 s: 1 of 1 new and 1 old workers run; the new workers are to be ready, for 1 s")
         self.assertNotIn("\033", shown)
         self.assertEqual(len(shown.splitlines()), 3)
 

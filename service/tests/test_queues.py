@@ -8,10 +8,11 @@ import time
 import unittest
 from unittest import mock
 
-from kit import PROGRAMS, clock_ahead, until
-from prefork_service import measures
+from kit import PROGRAMS, clock_ahead, has_ipv6, until
+from prefork_service import measures, queues
+from prefork_service.addresses import text_of
 from prefork_service.measures import Measures, processor_seconds_of
-from prefork_service.queues import queues_of
+from prefork_service.queues import Queues
 from prefork_service.sockets import inode_of
 from prefork_service.status import shown_queue
 from prefork_service.top import drawn, shares
@@ -21,8 +22,9 @@ CROWD = 5000
 
 class QueueTest(unittest.TestCase):
     def setUp(self) -> None:
-        self.clients: list[socket.socket] = []
+        self.clients, self.queues = list[socket.socket](), Queues()
         self.addCleanup(lambda: [client.close() for client in self.clients])
+        self.addCleanup(self.queues.end)
 
     def test_connections_that_wait_at_both_kinds_of_sockets(self) -> None:
         with tempfile.TemporaryDirectory() as room, socket.socket() as tcp, socket.socket(socket.AF_UNIX) as unix:
@@ -38,11 +40,38 @@ class QueueTest(unittest.TestCase):
                 self.clients[-1].connect(path)
             held = {path: inode_of(unix), "t": inode_of(tcp)}
             wanted = [{"address": path, "waiting": 20, "most": 40, "dropped": 0}, {"address": "t", "waiting": 30, "most": 50, "dropped": 0}]
-            self.assertTrue(until(lambda: queues_of(held) == wanted), queues_of(held))
+            self.assertTrue(until(lambda: self.queues.of(held) == wanted), self.queues.of(held))
             self.assertEqual(shown_queue(wanted[1]), "queue       t: 30 of at most 50 connections wait")
             tcp.accept()[0].close()
-            self.assertEqual(queues_of({"t": inode_of(tcp)})[0]["waiting"], 29)
-        self.assertEqual(queues_of({"t": held["t"], path: held[path]}), [])
+            self.assertEqual(self.queues.of({"t": inode_of(tcp)})[0]["waiting"], 29)
+        self.assertEqual(self.queues.of({"t": held["t"], path: held[path]}), [])
+
+    def test_one_connection_to_the_system_serves_all_questions(self) -> None:
+        with socket.socket() as tcp, socket.socket(socket.AF_INET6) if has_ipv6() else socket.socket() as other:
+            for one in (tcp, other):
+                one.listen(10)
+            held = {text_of(one.getsockname()): inode_of(one) for one in (tcp, other)}
+            with mock.patch.object(queues.socket, "socket", wraps=socket.socket) as made:
+                for _ in range(3):
+                    self.assertEqual(sorted(queue["address"] for queue in self.queues.of(held)), sorted(held))
+                self.assertEqual(made.call_count, 1)
+
+    def test_an_answer_to_an_earlier_question_is_passed_over(self) -> None:
+        with socket.socket() as tcp:
+            tcp.listen(10)
+            held = {"t": inode_of(tcp)}
+            body = queues.struct.pack(queues.ASKED_TCP, socket.AF_INET, socket.IPPROTO_TCP, 0, 0, queues.LISTENS)
+            # (a question whose answers nobody reads)
+            next(self.queues.asker.answers(body, queues.ALL))
+            self.assertEqual(self.queues.of(held)[0]["most"], 10)
+
+    def test_a_connection_that_has_failed_is_made_again(self) -> None:
+        with socket.socket() as tcp:
+            tcp.listen(10)
+            held = {"t": inode_of(tcp)}
+            self.assertEqual(len(self.queues.of(held)), 1)
+            self.queues.asker.opened().close()
+            self.assertEqual((self.queues.of(held), len(self.queues.of(held))), ([], 1))
 
     def test_five_thousand_connections(self) -> None:
         """In a network of its own, where that is allowed; else as many as the system lets wait."""
@@ -67,7 +96,7 @@ class QueueTest(unittest.TestCase):
                 self.clients.append(socket.socket())
                 self.clients[-1].setblocking(False)
                 self.clients[-1].connect_ex(tcp.getsockname())
-            self.assertTrue(until(lambda: queues_of({"t": inode_of(tcp)})[0]["dropped"] > 0))
+            self.assertTrue(until(lambda: self.queues.of({"t": inode_of(tcp)})[0]["dropped"] > 0))
 
 
 class MeasuresTest(unittest.TestCase):
@@ -83,17 +112,26 @@ class MeasuresTest(unittest.TestCase):
     def test_they_are_measured_again_when_that_is_worth_it(self) -> None:
         found = Measures()
         with mock.patch.object(measures, "memory_of", side_effect=lambda process: process) as measured:
-            self.assertEqual(found.of([1])[1][0], 1)
-            found.of([1])
-            found.of([1, 2])
+            self.assertEqual(found.of({1: 0.0})[1].memory, 1)
+            found.of({1: 0.0})
+            self.assertEqual(sorted(found.of({1: 0.0, 2: 0.0})), [1])
             self.assertEqual(measured.call_count, 1)
-            with mock.patch.object(measures, "time", clock_ahead(measures.LEAST_SECONDS + 0.5)):
-                self.assertEqual(sorted(found.of([1, 2])), [1, 2])
+            with mock.patch.object(measures, "time", clock_ahead(measures.MEASURE_SECONDS + 0.5)):
+                self.assertEqual(sorted(found.of({1: 0.0, 2: 0.0})), [1, 2])
+
+    def test_a_process_with_the_number_of_one_that_was_measured(self) -> None:
+        """What the one before has taken is not told of it."""
+        found = Measures()
+        with mock.patch.object(measures, "memory_of", side_effect=[5, 7]):
+            self.assertEqual(found.of({1: 100.0})[1].memory, 5)
+            self.assertEqual(found.of({1: 200.0}), {})
+            with mock.patch.object(measures, "time", clock_ahead(measures.MEASURE_SECONDS + 0.5)):
+                self.assertEqual(found.of({1: 200.0})[1].memory, 7)
 
     def test_a_measure_that_takes_long_is_seldom(self) -> None:
         found = Measures()
         with mock.patch.object(measures, "memory_of", side_effect=lambda process: time.sleep(0.05) or 1):
-            found.of([1])
+            found.of({1: 0.0})
         self.assertGreaterEqual(found.next - found.moment, 0.05 / measures.SHARE)
 
 

@@ -34,6 +34,13 @@ class ReasonsTest(unittest.TestCase):
             path.unlink()
             self.assertEqual(reasons.take(), {})
 
+    def test_what_would_tell_a_terminal_to_do_something_is_not_passed_on(self) -> None:
+        with tempfile.TemporaryDirectory() as room:
+            path = pathlib.Path(room) / "reasons"
+            reasons = Reasons(path)
+            path.write_text("1.2.0 red: \x1b[31mred\x1b]0;title\x07\n")
+            self.assertEqual(reasons.take(), {"1.2.0": "red: ?[31mred?]0;title?"})
+
     def test_a_worker_that_did_not_start(self) -> None:
         found = explained(block("1 m1 fork 1.2 0 : forked", "2 m1 await-ready 1.2 0 : gone"), {"1.2.0": "no such file"})
         self.assertEqual(found, ["2 m1 await-ready 1.2 0 : gone: no such file"])

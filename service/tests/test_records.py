@@ -2,10 +2,13 @@
 import os
 import pathlib
 import tempfile
+import types
 import unittest
+from typing import Any
 from unittest import mock
 
-from prefork_service.certifying import blocks_of
+from prefork_service.certifying import blocks_of, life_of
+from prefork_service.chronicle import Chronicle
 from prefork_service.records import Records, files_of, is_quiet, masters_in
 
 DONE = "done cause none pid no-file\n"
@@ -76,6 +79,30 @@ class RecordsTest(unittest.TestCase):
         found = {file.name: file.read_text() for file in self.records.folder().glob("*.toml")}
         wanted = {"from.toml": "workers = 1\n", "to.2.toml": "workers = 2\n", "to.5.toml": "workers = 3\n"}
         self.assertEqual(found, wanted)
+
+    def test_a_death_is_marked_behind_the_block_that_was_written_last(self) -> None:
+        self.records.mark_death("tick 0")
+        self.begin()
+        self.take(START, beat(0, 1), tick(1), HUP)
+        self.records.mark_death("USR2 attended")
+        found = {file.name: file.read_text() for file in files_of(self.records.folder()) if file.name.startswith("died.")}
+        self.assertEqual(found, {"died.3": "USR2 attended\n"})
+        first = life_of(self.room / "records" / "1")
+        self.assertEqual((first.died, life_of(self.records.folder()).died), ((0, "tick 0"), (3, "USR2 attended")))
+
+    def test_a_death_is_marked_once_the_next_master_follows(self) -> None:
+        folder: Any = types.SimpleNamespace(path=self.room, blocks=self.room / "blocks", reasons=self.room / "reasons")
+        chronicle = Chronicle(folder, self.room / "of-service")
+        records = self.room / "of-service" / "records"
+        for word in ("HUP", None, ""):
+            chronicle.begin_master(b"workers = 1\n", 1)
+            chronicle.records.add(START)
+            if word is not None:
+                chronicle.end_master(word)
+                self.assertIsNone(life_of(chronicle.records.folder()).died)
+        # A service that is told to stop meanwhile has no next master.
+        chronicle.end()
+        self.assertEqual([life_of(place).died for place in masters_in(records)], [(1, "HUP"), None, None])
 
     def test_parts_are_bounded_and_the_oldest_go_first(self) -> None:
         self.begin(8000)

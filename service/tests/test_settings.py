@@ -8,7 +8,9 @@ import unittest
 
 from kit import BIN, OUT
 from prefork_service.environments import variables_in
-from prefork_service.recipes import LAST, Recipe, Runs, Setup, Told, file_of, setup_of, write_private
+from prefork_service.configuration import LAST, Configuration, file_of
+from prefork_service.folder import write_private
+from prefork_service.recipes import Recipe, Runs, Setup, Told, setup_of
 
 SERVED = 'listeners = ["127.0.0.1:1"]\nworkers = 2\n'
 ACTIVATE, WSGI = str(OUT / "prefork-activate"), str(BIN / "prefork-wsgi")
@@ -88,7 +90,7 @@ class SettingsTest(unittest.TestCase):
         self.assertEqual((first.words, first.nice, first.folder, dict(first.variables)), (third.words, 4, f"{self.room}/x", {"A": "1", "B": "2"}))
         self.assertEqual((second.words, second.nice, second.folder), ((ACTIVATE, "--stop", "INT", "--", "p"), 4, "/y"))
         self.assertEqual(dict(second.variables), {"A": "1", "B": "3", "C": "4"})
-        self.assertEqual([setup.group_of(number) for number in (0, 1, 2, 3, 99)], ["", "", "web", "", ""])
+        self.assertEqual([Configuration(groups=setup.groups()).group_of(number) for number in (0, 1, 2, 3, 99)], ["", "", "web", "", ""])
 
     def test_groups_with_the_same_are_one(self) -> None:
         groups = '[[groups]]\nlisteners = ["/a"]\n[[groups]]\nlisteners = ["/c"]\n'
@@ -131,7 +133,7 @@ class SettingsTest(unittest.TestCase):
 
 class FileTest(unittest.TestCase):
     def test_without_settings_it_is_the_command(self) -> None:
-        self.assertEqual(file_of([Recipe(("a", "b"))], [["a", "b"]], ["X=y"]), b"X=y\0a\0b\0")
+        self.assertEqual(file_of([Recipe(("a", "b")).group()], [["a", "b"]], ["X=y"]), b"X=y\0a\0b\0")
         self.assertEqual(file_of([], []), b"false\0")
 
     def test_sections(self) -> None:
@@ -139,10 +141,10 @@ class FileTest(unittest.TestCase):
             Recipe(("a", ""), last=1, folder="/f", variables=(("A", "b\nc"),), secrets=(("S", "/s"),), nice=3, limits=((7, 1, -1),)),
             Recipe(("shim",), Runs.PRELOADED, variables=(("A", "x"),)),
         ]
-        text = file_of(recipes, [one.words for one in recipes], ["X=y"])
+        text = file_of([one.group() for one in recipes], [one.words for one in recipes], ["X=y"])
         wanted = "X=y|\1workers 1|\1folder /f|\1set A=b\nc|\1read S=/s|\1nice 3|\1limit 7 1 -1|\1command 2|a||\1workers 4294967295|\1command 1|shim|"
         self.assertEqual(text.decode().replace("\0", "|"), wanted)
-        self.assertEqual(recipes[1].loading(), b"\1set A=x\0\1command 1\0shim\0")
+        self.assertEqual(recipes[1].group().loading(), b"\1set A=x\0\1command 1\0shim\0")
 
     def test_nobody_else_reads_it(self) -> None:
         with tempfile.TemporaryDirectory() as room:

@@ -1,13 +1,13 @@
 """The state of the whole, and when it is news."""
 import unittest
 
-from prefork_service.state import CHANGES, MEANINGS, SERVES, SETTLE_SECONDS, SHORT, STOPPED, News, Whole, whole_of, workers_in
+from prefork_service.state import IN_CHANGE, MEANINGS, SERVES, SETTLE_SECONDS, SHORT, STOPPED, News, Whole, whole_of
 
 
 class StateTest(unittest.TestCase):
     def test_each_state(self) -> None:
         for word, is_started, wanted, running, state in (
-            (None, False, 2, 0, CHANGES), ("HUP", True, 2, 2, CHANGES), ("USR2 attended", True, 2, 1, CHANGES),
+            (None, False, 2, 0, IN_CHANGE), ("HUP", True, 2, 2, IN_CHANGE), ("USR2 attended", True, 2, 1, IN_CHANGE),
             ("USR1", True, 2, 2, SERVES), ("USR1", True, 2, 1, SHORT), (None, True, 2, 2, SERVES), (None, True, 2, 1, SHORT),
             (None, True, 2, 0, SHORT), (None, True, 0, 0, STOPPED), ("tick 0", True, 2, 0, SHORT),
         ):
@@ -18,13 +18,6 @@ class StateTest(unittest.TestCase):
 
     def test_a_shortfall_says_why(self) -> None:
         self.assertEqual(whole_of(None, True, 4, 3, "worker 0 has ended").line, "short: wanted 4, runs 3: worker 0 has ended")
-
-    def test_the_workers_of_a_configuration(self) -> None:
-        for text, wanted in (
-            (b"workers = 3\n", 3), (b"", 1), (b"workers = 0\n", 0), (b'groups = [{ listeners = ["/a"] }, { workers = 4 }]\n', 5),
-            (b"workers = \n", 0), (b'groups = "x"\n', 0), (b"\xff", 0),
-        ):
-            self.assertEqual(workers_in(text), wanted, text)
 
 
 class NewsTest(unittest.TestCase):
@@ -37,7 +30,7 @@ class NewsTest(unittest.TestCase):
         return found
 
     def test_a_state_is_told_once(self) -> None:
-        self.assertEqual(self.states_told([(CHANGES, 0), (SERVES, 1), (SERVES, 2), (CHANGES, 3), (SERVES, 4)]), ["none serves"])
+        self.assertEqual(self.states_told([(IN_CHANGE, 0), (SERVES, 1), (SERVES, 2), (IN_CHANGE, 3), (SERVES, 4)]), ["none serves"])
 
     def test_a_worker_that_is_replaced_at_once_is_no_news(self) -> None:
         self.assertEqual(self.states_told([(SERVES, 0), (SHORT, 1), (SERVES, 1.5), (SHORT, 2), (SERVES, 2.5)]), ["none serves"])

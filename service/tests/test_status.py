@@ -9,11 +9,10 @@ import unittest
 from unittest import mock
 
 from kit import PYTHON, until
+from prefork_service.ages import age_of
 from prefork_service.counted import Record, forget, started_workers
 from prefork_service.processes import descends, masters_of
-from prefork_service.status import (
-    age_of, others_of, shown, workers_of,
-)
+from prefork_service.status import others_of, shown, workers_of
 
 BLOCK = "word HUP\n1 m1 census 1.1 : counted 0-2\n2 m1 census 1.2 : counted 0-1,3\ndone cause none pid no-file\n"
 
@@ -57,7 +56,7 @@ class ProcessesTest(unittest.TestCase):
     def test_the_age_of_a_process(self) -> None:
         process = self.started("sleep", "1000")
         time.sleep(2.1)
-        self.assertIn(age_of(process.pid), range(1, 60))
+        self.assertIn(int(age_of(process.pid)), range(1, 60))
 
     def test_the_masters_of_upgrades(self) -> None:
         code = "import subprocess, sys; subprocess.run([sys.executable, 'adopt']) if sys.argv[1:] else None"

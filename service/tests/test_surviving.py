@@ -203,8 +203,10 @@ class SurvivorsTest(unittest.TestCase):
         process, file = self.started()
         self.survivors.close()
         self.assertFalse(file.parent.exists())
-        self.leaving.seconds = 0.2
-        self.assertEqual([one.process for one in self.survivors.await_end()], [process.pid])
+        # It has its time, and the stop waits for it.
+        self.assertIn((process.pid, start_of(process.pid)), self.leaving.due)
+        self.assertIsNone(process.poll())
+        self.leaving.kill_all()
         self.assertEqual(process.wait(10), -9)
         self.assertEqual(self.look(), [])
         self.survivors.open()

@@ -3,7 +3,7 @@ import unittest
 from unittest import mock
 
 from prefork_service import ticks
-from prefork_service.ticks import Ticks, pause_of, timeout_of
+from prefork_service.ticks import Ticks, pause_of
 
 
 class TicksTest(unittest.TestCase):
@@ -12,10 +12,6 @@ class TicksTest(unittest.TestCase):
             (0, 60, 1.0), (100, 60, 1.0), (300, 60, 3.0), (300, 8, 2.0), (300, 1, 1.0), (1024, 60, 5.0), (1024, 86400, 5.0),
         ):
             self.assertEqual(pause_of(workers, timeout), wanted, (workers, timeout))
-
-    def test_the_timeout_of_a_configuration(self) -> None:
-        for text, wanted in ((b"timeout = 7", 7), (b"workers = 1", 60), (b"timeout =", 60), (b'timeout = "7"', 60), (b"\xff", 60)):
-            self.assertEqual(timeout_of(text), wanted, text)
 
     def test_a_tick_that_hurries(self) -> None:
         found = Ticks()

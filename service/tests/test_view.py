@@ -6,7 +6,7 @@ import unittest
 from prefork_service import live, view
 from prefork_service.done import Done
 from prefork_service.sentences import on_its_way, sentence
-from prefork_service.stations import BACK, PLANS, shown_stations
+from prefork_service.stations import GOES_BACK, PLANS, shown_stations
 from prefork_service.words import START
 from test_metrics import STATUS
 from test_page import read
@@ -56,6 +56,13 @@ class StationsTest(unittest.TestCase):
         self.assertEqual(lit("HUP", [*RELOAD, "4 m1 census 1.2 : counted 0"]), "count them")
         self.assertEqual(lit("HUP", [*RELOAD, "4 m1 census 1.2 : counted 0", "5 m1 quit 1.1 0 : ok"]), "let the old ones finish")
 
+    def test_a_reload_in_steps_begins_again_with_each_step(self) -> None:
+        step = ["word HUP", "1 m1 fork 1.2 0 : forked", "2 m1 await-ready 1.2 0 : ready", "3 m1 quit 1.1 1 : ok",
+                "4 m1 await-gone 1.1 1 : gone", "5 m1 fork 1.2 1 : forked", "6 m1 await-ready 1.2 1 : ready"]
+        told = [lit("HUP", step[:length]) for length in range(2, len(step) + 1)]
+        start, hear, finish = "start workers", "hear them ready", "let the old ones finish"
+        self.assertEqual(told, [start, hear, finish, finish, start, hear])
+
     def test_the_old_master_of_an_upgrade_counts_meanwhile(self) -> None:
         self.assertEqual(lit("USR2", UPGRADE[:5]), "start its workers")
         self.assertEqual(lit("USR2", UPGRADE), "hear them ready")
@@ -66,7 +73,7 @@ class StationsTest(unittest.TestCase):
             self.assertEqual(found.index("now"), question - 1)
 
     def test_a_call_that_went_wrong_goes_back(self) -> None:
-        self.assertEqual(lit("HUP", [*RELOAD[:3], "3 m1 await-ready 1.2 0 : gone"]), BACK)
+        self.assertEqual(lit("HUP", [*RELOAD[:3], "3 m1 await-ready 1.2 0 : gone"]), GOES_BACK)
 
     def test_other_words_have_none(self) -> None:
         self.assertEqual([shown_stations(word, [], 0) for word in (None, "tick 1", "USR1")], [[], [], []])
@@ -119,8 +126,13 @@ class ViewTest(unittest.TestCase):
         self.assertNotIn("Load", read(self.shown(queues=[], workers=[], requests=None)).said)
 
     def test_a_question_says_what_to_type(self) -> None:
-        said = read(self.shown(state="changes", line="changes: USR2 attended", doing="USR2 attended", question=1)).said
-        self.assertIn("prefork-ctl go\nprefork-ctl back", said)
+        service = {**STATUS["service"], "folder": "/run/a shop"}
+        for question, then in ((1, "The old workers finish and leave. Then it asks again."), (2, "The old master leaves, and the upgrade is done.")):
+            doing = {"state": "changes", "line": "changes: USR2 attended", "doing": "USR2 attended", "question": question}
+            said = read(self.shown(service=service, **doing)).said
+            self.assertRegex(said, rf"prefork-ctl --folder '/run/a shop' go\s*{then}")
+            self.assertRegex(said, r"prefork-ctl --folder '/run/a shop' back\s*The (new workers|old master)")
+            self.assertIn(f"Question {question} of 2, for", said)
         self.assertNotIn("It asks", read(self.shown()).said)
 
     def test_what_others_have_written_is_no_markup(self) -> None:

@@ -13,7 +13,7 @@ from unittest import mock
 
 from kit import answer_of, built, clock_ahead, free_address, until
 from prefork_service import feed
-from prefork_service.feed import MOST_TRIES, Feed
+from prefork_service.feed import MOST_TELLINGS, Feed
 from prefork_service.state import whole_of
 from test_whole import BACK
 
@@ -124,7 +124,7 @@ class FeedTest(unittest.TestCase):
         self.feed.tell_word(WORD, True)
         with mock.patch.object(feed, "time", clock_ahead(feed.BEHIND_SECONDS + 1)):
             self.assertTrue(self.feed.is_behind())
-        with mock.patch.object(feed, "time", clock_ahead(feed.HANG_SECONDS + 1)):
+        with mock.patch.object(feed, "time", clock_ahead(feed.WATCH_HANG_SECONDS + 1)):
             self.feed.tend()
             self.assertIsNone(self.feed.process)
         self.assertTrue(self.comes(lambda: self.feed.process is not None))
@@ -135,7 +135,7 @@ class FeedTest(unittest.TestCase):
         self.assertTrue(self.comes(self.has_taken))
         self.feed.process and os.kill(self.feed.process.pid, signal.SIGSTOP)
         self.feed.tell_word(WORD, True)
-        for tries in range(1, MOST_TRIES + 1):
+        for tries in range(1, MOST_TELLINGS + 1):
             process = self.feed.process
             assert process
             os.kill(process.pid, signal.SIGSTOP)
@@ -154,7 +154,7 @@ class FeedTest(unittest.TestCase):
         for _ in range(10):
             self.feed.tell("word", big)
         self.assertGreater(self.feed.dropped, 4)
-        self.assertLess(len(self.feed.unsent), feed.MOST_BYTES + 2_000_000)
+        self.assertLess(len(self.feed.unsent), feed.MOST_WAITING_BYTES + 2_000_000)
         process.kill()
 
     def test_the_pause_before_a_start_doubles(self) -> None:

@@ -93,12 +93,12 @@ class WebTest(unittest.TestCase):
         silent.sendall(b"GET / ")
         stuck.sendall(b"GET /big HTTP/1.1\r\n\r\n")
         self.assertTrue(until(lambda: sorted(it.is_answered for it in [*self.site.visits.values()]) == [False, True]))
-        with mock.patch.object(web, "time", clock_ahead(web.SECONDS)):
+        with mock.patch.object(web, "time", clock_ahead(web.VISIT_SECONDS)):
             self.assertEqual(silent.recv(100), b"")
             self.assertTrue(until(lambda: not self.site.visits))
 
     def test_only_so_many_at_a_time(self) -> None:
-        with mock.patch.object(web, "SECONDS", 1000.0):
+        with mock.patch.object(web, "VISIT_SECONDS", 1000.0):
             visitors = [self.visitor() for _ in range(MOST_VISITS + 5)]
             for visitor in visitors:
                 visitor.sendall(b"GET / ")
@@ -108,7 +108,7 @@ class WebTest(unittest.TestCase):
 
     def test_only_so_many_may_say_nothing(self) -> None:
         with mock.patch("prefork_service.door.SILENT_SECONDS", 1000.0):
-            silent = [self.visitor() for _ in range(web.MOST_SILENT + 1)]
+            silent = [self.visitor() for _ in range(web.MOST_SILENT_VISITORS + 1)]
             self.assertEqual(silent[0].recv(100), b"")
             self.assertEqual(self.asked("GET / HTTP/1.1\r\n\r\n")[1], "<p>page</p>")
 
@@ -116,7 +116,7 @@ class WebTest(unittest.TestCase):
         """The turn has events of both: of the newcomer, and of the oldest one, which makes way."""
         self.is_over = True
         self.thread.join()
-        with mock.patch.object(web, "SECONDS", 1000.0):
+        with mock.patch.object(web, "VISIT_SECONDS", 1000.0):
             old = [self.visitor() for _ in range(MOST_VISITS)]
             for visitor in old:
                 visitor.sendall(b"G")

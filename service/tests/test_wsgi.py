@@ -9,6 +9,7 @@ import unittest
 
 from kit import BIN, PROGRAMS, WorkerTest, answer_of, free_address, until
 from prefork_service.conversation import END
+from prefork_service.queues import Queues
 from prefork_service.traffic import Traffic
 
 
@@ -48,6 +49,25 @@ def received(connection: socket.socket) -> bytes:
     return got
 
 
+def waits(address: str) -> bool:
+    """Whether nobody answers at an address."""
+    with kept(address) as connection:
+        connection.settimeout(1)
+        connection.sendall(b"GET / HTTP/1.1\r\nHost: test\r\n\r\n")
+        try:
+            connection.recv(10)
+        except TimeoutError:
+            return True
+        return False
+
+
+def listener_at(address: str) -> int:
+    """The inode of the socket that listens at a port."""
+    ending = f":{int(address.rpartition(':')[2]):04X}"
+    rows = [line.split() for line in pathlib.Path("/proc/net/tcp").read_text().splitlines()]
+    return next(int(row[9]) for row in rows if row[1].endswith(ending) and row[3] == "0A")
+
+
 @unittest.skipUnless(PYTHON, "no Python with waitress")
 class WsgiTest(WorkerTest):
     def begun(self, *options: str, application: str = "wsgi_page:application", address: str = "", **more):
@@ -64,6 +84,16 @@ class WsgiTest(WorkerTest):
         talk.say("ping", "tick 12345", "usr1", "close 127.0.0.1:1", "ping", "quit")
         self.assertEqual([talk.hear() for _ in range(5)], ["pong", "beat 12345 7", "pong", "gone", END])
         self.assertEqual(talk.wait(), 0)
+
+    def test_its_queue_is_as_long_as_the_system_allows(self) -> None:
+        talk, address = self.begun()
+        self.assertEqual(talk.hear(), "ready")
+        most = int(pathlib.Path("/proc/sys/net/core/somaxconn").read_text())
+        found, queues = {address: listener_at(address)}, Queues()
+        self.addCleanup(queues.end)
+        self.assertEqual([queue["most"] for queue in queues.of(found)], [min(most, 65535)])
+        talk.say("quit")
+        self.assertEqual((talk.hear(), talk.hear(), talk.wait()), ("gone", END, 0))
 
     def test_it_counts_and_logs_what_it_answers(self) -> None:
         """Each answer is counted and logged once: also that of an application that fails, and of what is no request."""
@@ -165,6 +195,21 @@ class WsgiTest(WorkerTest):
         self.assertEqual((talk.hear(), talk.wait(), idle.recv(10)), ("gone", 0, b""))
         idle.close()
 
+    def test_a_clock_on_the_wall_that_is_set_closes_nothing_and_holds_nothing_up(self) -> None:
+        talk, address = self.begun("--finish", "3600")
+        talk.hear()
+        idle = kept(address)
+        asked(idle)
+        with kept(address) as other:
+            asked(other, "/clock/200000")
+        # (waitress looks each second)
+        time.sleep(3)
+        self.assertIn(b"version 1 ", asked(idle))
+        asked(idle, "/clock/-200000")
+        talk.say("quit")
+        self.assertEqual((talk.hear(), talk.wait(), idle.recv(10)), ("gone", 0, b""))
+        idle.close()
+
     def test_requests_that_never_end(self) -> None:
         talk, address = self.begun("--threads", "2", "--timeout", "4")
         self.assertEqual(talk.hear(), "ready")
@@ -177,6 +222,65 @@ class WsgiTest(WorkerTest):
         self.assertEqual((talk.hear(), talk.wait()), (END, 1))
         for connection in stuck:
             connection.close()
+
+    def test_a_request_that_takes_too_long_ends_its_worker_after_the_others(self) -> None:
+        held, reasons = self.room / "held", self.room / "reasons"
+        reasons.touch()
+        folder = {"HELD": str(held), "PREFORK_FOLDER": str(self.room), "PREFORK_WORKER": "1.1.0"}
+        talk, address = self.begun("--request-timeout", "20", "--finish", "60", **folder)
+        self.assertEqual(talk.hear(), "ready")
+        late, other = kept(address), kept(address)
+        late.sendall(b"GET /stuck?key=secret HTTP/1.1\r\nHost: test\r\n\r\n")
+        time.sleep(12)
+        other.sendall(b"GET /held HTTP/1.1\r\nHost: test\r\n\r\n")
+        self.assertTrue(until(held.exists))
+        self.assertTrue(until(reasons.read_text))
+        said = "1.1.0 has been at a request for more than 20 seconds, and ends, once 1 other is answered: GET /stuck\n"
+        self.assertEqual(reasons.read_text(), said)
+        # It accepts no more, and answers its master and the other request, which has its own time.
+        self.assertTrue(until(lambda: waits(address)))
+        talk.say("tick 7")
+        self.assertEqual(talk.hear(), "beat 7 7")
+        held.unlink()
+        self.assertIn(b"Connection: close", received(other))
+        self.assertEqual((talk.hear(), talk.wait(), reasons.read_text()), (END, 0, said))
+        with self.assertRaises(OSError):
+            self.assertEqual(late.recv(10), b"")
+            raise ConnectionResetError
+        for connection in (late, other):
+            connection.close()
+
+    def test_a_request_that_takes_too_long_beside_others_that_do_is_not_waited_for(self) -> None:
+        talk, address = self.begun("--request-timeout", "2", "--finish", "600")
+        self.assertEqual(talk.hear(), "ready")
+        late = [kept(address) for _ in range(3)]
+        for connection in late:
+            connection.sendall(b"GET /stuck HTTP/1.1\r\nHost: test\r\n\r\n")
+        self.assertEqual((talk.hear(), talk.wait()), (END, 0))
+        for connection in late:
+            connection.close()
+        # Told to finish, it has the same limit.
+        talk, address = self.begun("--request-timeout", "3", "--finish", "600")
+        self.assertEqual(talk.hear(), "ready")
+        stuck = kept(address)
+        stuck.sendall(b"GET /stuck HTTP/1.1\r\nHost: test\r\n\r\n")
+        time.sleep(0.5)
+        talk.say("quit")
+        self.assertEqual((talk.hear(), talk.wait()), ("gone", 0))
+        stuck.close()
+
+    def test_a_slow_download_takes_no_time(self) -> None:
+        talk, address = self.begun("--request-timeout", "4")
+        self.assertEqual(talk.hear(), "ready")
+        with kept(address) as client:
+            client.sendall(b"GET /big HTTP/1.1\r\nHost: test\r\nConnection: close\r\n\r\n")
+            self.assertIn(b"200 OK", client.recv(100))
+            time.sleep(8)
+            with client.makefile("rb") as got:
+                self.assertGreater(len(got.read()), 39_000_000)
+        self.assertIn("version 1 ", answer_of(address))
+        talk.say("quit")
+        self.assertEqual((talk.hear(), talk.wait()), ("gone", 0))
 
     def test_slow_downloads_are_no_requests_that_never_end(self) -> None:
         # (a starved application may take a while before its answer waits for the client)
@@ -217,6 +321,23 @@ class WsgiTest(WorkerTest):
             connection.close()
         self.assertIn("version 1 ", answer_of(address))
         self.assertNotIn("Too many open files", said.read_text())
+        talk.say("quit")
+        self.assertEqual((talk.hear(), talk.wait()), ("gone", 0))
+
+    def test_clients_that_never_ask_for_anything_whole_make_way_where_connections_run_out(self) -> None:
+        # (64 descriptors are left to the application)
+        command = f'ulimit -n 84; exec {PYTHON} {BIN / "prefork-wsgi"} --chdir {PROGRAMS} wsgi_page:application'
+        address = free_address()
+        talk = self.started("sh", "-c", command, addresses=(address,))
+        self.assertEqual(talk.hear(), "ready")
+        self.assertIn("version 1 ", answer_of(address, "/hurry"))
+        slow = [kept(address) for _ in range(40)]
+        for connection in slow:
+            connection.sendall(b"G")
+        self.assertTrue(until(lambda: not waits(address)))
+        self.assertIn("version 1 ", answer_of(address))
+        for connection in slow:
+            connection.close()
         talk.say("quit")
         self.assertEqual((talk.hear(), talk.wait()), ("gone", 0))
 

@@ -1,5 +1,5 @@
 """What a run keeps beside the headline (quiet_runs/specs/Quiet.antt, further_theorems/specs/Proper.antt,
-Left.antt, Named.antt, Peace.antt and Bound.antt)."""
+Left.antt, Named.antt, Peace.antt and Bound.antt, upgrade_theorems/specs/First.antt and Marks.antt)."""
 from collections.abc import Callable
 from functools import partial
 from typing import NamedTuple
@@ -11,14 +11,16 @@ from reader.master import (
     Attended, Mend, Record, Reload, Reopen, Stop, Target, Upgrade, Workers, addresses_of, addresses_wanted,
     generation_wanted, oldbin, sides_of, upgrade_generation, want,
 )
+from reader.living_at_once import StaysBelow
 from reader.numbers import is_in, numbers_below
 from reader.pieces import quiet
 from reader.plans import only_in
 from reader.run import Moment, Pattern, Ran, report_of
 from reader.table import IsSame, Table, Worker, bears, is_held, is_own, owner_at, same_generation, service
 from reader.vocabulary import (
-    Adopt, Alive, Answer, Ask, AwaitGone, AwaitReady, Call, Census, CloseAt, Degraded, Entry, Fork, Generation, Kill,
-    Leave, MovePid, OpenAt, Outcome, Quit, RemovePid, Report, Side, SpawnMaster, Stance, TermMaster, Usr1, WritePid,
+    Adopt, Alive, Answer, Ask, AwaitGone, AwaitReady, Call, Census, CloseAt, Degraded, End, Entry, Fork, Generation,
+    Kill, Leave, MovePid, OpenAt, Outcome, Quit, RemovePid, Report, Side, SpawnMaster, Stance, TermMaster, Usr1,
+    WritePid,
 )
 
 # That plans work
@@ -303,6 +305,61 @@ def ObeysOperator(r: Record, target: Target, ran: Ran) -> bool:
     return not quits_after and (not any(map(is_back, ran.entries)) or is_old_side(outcome))
 
 
+# What an upgrade does only once something else was done
+
+
+def OnlyAfter(first: Callable[[Entry], bool], second: Callable[[Entry], bool], entries: tuple[Entry, ...]) -> bool:
+    """As long as no entry has passed the first test, none passes the second one."""
+    for e in entries:
+        if second(e):
+            return False
+        if first(e):
+            return True
+    return True
+
+
+def has_adopted(image: int, e: Entry) -> bool:
+    """The master of the image took over what it was told."""
+    return e.by == image and e.call == Adopt() and e.answer == Answer.Adopted
+
+
+def acts(image: int, e: Entry) -> bool:
+    """Any other call of the master of the image."""
+    return e.by == image and e.call != Adopt()
+
+
+def AdoptsFirst(r: Record, target: Target, ran: Ran) -> bool:
+    """The new master of an upgrade makes no call before it has adopted."""
+    if not isinstance(target, Upgrade | Attended):
+        return True
+    heir = upgrade_generation(r.generation).image
+    return OnlyAfter(partial(has_adopted, heir), partial(acts, heir), ran.entries)
+
+
+def is_go(question: int, e: Entry) -> bool:
+    """The operator went on at the question."""
+    return e.call == Ask(question) and e.answer == Answer.Go
+
+
+def IsAsked(target: Target, ran: Ran) -> bool:
+    """In an attended upgrade nobody is told to quit before the operator went on at the first question, and no master
+    leaves before that at the second one."""
+    if not isinstance(target, Attended):
+        return True
+    return (
+        OnlyAfter(partial(is_go, 1), lambda e: isinstance(e.call, Quit), ran.entries)
+        and OnlyAfter(partial(is_go, 2), lambda e: is_leave_call(e.call), ran.entries)
+    )
+
+
+# Where a run ends
+
+
+def IsEnd(ran: Ran) -> bool:
+    """One of the ends that a report names."""
+    return ran.ending in (End.Done, End.RolledBack, End.ShortOld, End.ShortTarget)
+
+
 def KeepsBeside(t: Table, r: Record, target: Target, ran: Ran, run: Callable[[Pattern], Ran]) -> Claims:
     """What a run keeps beside the headline; and how the target's plan is run under another pattern."""
     return {
@@ -312,5 +369,9 @@ def KeepsBeside(t: Table, r: Record, target: Target, ran: Ran, run: Callable[[Pa
         "left": RecordIsLeft(r, target, ran),
         "named": TakeByName(ran),
         "peace": KeepsPeace(r, target, t, ran),
+        "ceiling": StaysBelow(t, r, target, ran),
         "obeyed": ObeysOperator(r, target, ran),
+        "adopts": AdoptsFirst(r, target, ran),
+        "asked": IsAsked(target, ran),
+        "ends": IsEnd(ran),
     }

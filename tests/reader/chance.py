@@ -49,6 +49,7 @@ def any_settings(dice: random.Random, pid: str | None) -> Settings:
         groups=tuple(groups),
         timeout=dice.randint(1, 4),
         retries=dice.choice((0, 0, 1, 1, 2, 3)),
+        surge=dice.choice((0, 0, 1, 1, 2, 3)),
         pid=pid,
     )
 

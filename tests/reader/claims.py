@@ -21,7 +21,7 @@ from reader.names import Name
 from reader.numbers import IsRising, Numbers, RisesFrom, is_in
 from reader.plans import Turns, plan_tree
 from reader.run import Pattern, Progress, Ran, faults_since, report_of, run_with, start_at
-from reader.settings import IsInRange
+from reader.settings import IsInRange, Settings
 from reader.table import (
     Counts, IsFormed, IsSame, Master, Process, Service, Table, Worker, bears, is_live_where, is_own, is_serving,
     is_worker_where, number_of, owner_at, same_stance, service,
@@ -157,9 +157,19 @@ def UpgradeManner(r: Record, end: AnyOutcome, first: Table, ran: Ran) -> bool:
     return stay and KillsOnlyLate(first, ran) and LeavesLast(r, ran)
 
 
+def ReloadManner(r: Record, end: AnyOutcome, first: Table, ran: Ran) -> bool:
+    """A reload that comes back leaves each worker but those that it waited for to be gone."""
+
+    def waited(k: int) -> bool:
+        return any(is_wait(partial(bears, r.generation, k), e.call) for e in ran.entries)
+
+    stay = not is_old_side(end) or Stays(first, lambda k: not waited(k), ran)
+    return stay and KillsOnlyLate(first, ran)
+
+
 def Manner(r: Record, target: Target, end: AnyOutcome, first: Table, ran: Ran) -> bool:
     """A change of the number of workers leaves those alone whose number stays, and all on the old side; a mend leaves
-    all that aren't overdue, and ends the others; a reopening leaves and tells all; a reload that comes back leaves all.
+    all that aren't overdue, and ends the others; a reopening leaves and tells all; a reload is as above.
     Outside a mend and a quick stop a worker is killed only after it was told to quit and was late; before a master
     leaves in peace its workers were told to quit and waited for; at a quick stop none is told to quit."""
     match target:
@@ -172,8 +182,7 @@ def Manner(r: Record, target: Target, end: AnyOutcome, first: Table, ran: Ran) -
             told = all(any(is_usr1_of(r.generation, k, e.call) for e in ran.entries) for k in r.ready)
             return Stays(first, lambda k: True, ran) and told and KillsOnlyLate(first, ran)
         case Reload():
-            stay = not is_old_side(end) or Stays(first, lambda k: True, ran)
-            return stay and KillsOnlyLate(first, ran)
+            return ReloadManner(r, end, first, ran)
         case Upgrade() | Attended():
             return UpgradeManner(r, end, first, ran)
         case Stop(False):
@@ -422,6 +431,11 @@ def distinct(passed: tuple[Progress, ...]) -> list[Progress]:
     return [p for place, p in enumerate(passed) if place == 0 or p is not passed[place - 1]]
 
 
+def owed_in(s: Settings, p: Progress) -> int:
+    """Where a reload has more than one step, each fault so far may have kept an old worker from being started again."""
+    return p.faults if 0 < s.surge < s.workers else 0
+
+
 def HasFloor(t: Table, r: Record, target: Target, ran: Ran) -> bool:
     """Each target but two has a floor at each table of the run: a mend kills first, and a stop leaves no worker. Once
     the operator of an attended upgrade went back at the second question, when the old workers were gone, the faults
@@ -430,6 +444,8 @@ def HasFloor(t: Table, r: Record, target: Target, ran: Ran) -> bool:
     match target:
         case Attended():
             return all(Floor(lambda p: faults_since(2, p.returns, p.faults), least, p) for p in distinct(ran.passed))
+        case Reload(s):
+            return all(Floor(partial(owed_in, s), least, p) for p in distinct(ran.passed))
         case Mend() | Stop():
             return True
         case _:

@@ -26,6 +26,7 @@ from reader.run import Moment, Ran
 from reader.settings import Settings
 from reader.start import first_generation, first_note
 from reader.table import Table, service
+from reader.telling import difference
 from reader.texts import Moments, configuration_text, section_text, table_text
 from reader.trial import Enacted, blocks_text, graver_of
 from reader.vocabulary import Generation, OpenAt
@@ -222,7 +223,15 @@ class Living:
             different = stretch.difference(program, folder)
             self.compared += stretch.can_compare and bool(stretch.words)
             found += [different] if different else []
-        return found
+        return found + self.untold(program, folder)
+
+    def untold(self, program: str, folder: pathlib.Path) -> list[str]:
+        """What `certify --life` says otherwise of a life without a keeper."""
+        if self.has_keeper:
+            return []
+        stretch = self.stretches[0]
+        different = difference(program, folder, stretch.options, self.start.standing, self.start.next, stretch.words, stretch.blocks)
+        return [different] if different else []
 
     def told(self) -> str:
         """The case, so that it can be done by hand."""

@@ -12,6 +12,8 @@ from reader.numbers import Numbers, is_in, numbers_below
 from reader.run import (
     AwaitLacking, Branch, Branches, Does, Ends, ForkLacking, KillLacking, Later, Make, Tree, plain_reply, shown,
 )
+from reader.settings import Settings
+from reader.steps import Rollout, Step, rollout_of
 from reader.vocabulary import (
     Adopt, Alive, Ask, AwaitGone, AwaitReady, Call, Census, CloseAt, End, Fork, Generation, Kill, Leave, MovePid,
     OpenAt, PidNote, Quit, RemovePid, Reply, Side, SpawnMaster, TermMaster, Turn, Usr1, WritePid,
@@ -210,38 +212,107 @@ def reopen_tree(by: int, crew: Crew, ready: Numbers, retries: int) -> Tree:
     return tells(by, usr1s, settle(by, crew, ready, Side.Target, retries))
 
 
-def reload_back(
-    by: int, old: Crew, new: Crew, ready: Numbers, retries: int, opened: Addresses, forked: Numbers
-) -> Tree:
-    """Back from a reload: the new workers quit, what was opened is closed, the last first, and the old side
-    settles."""
-    closed = tells(by, tuple(map(CloseAt, opened)), settle(by, old, ready, Side.Old, retries))
-    return tells(by, tuple(Quit(new.generation, k) for k in forked), closed)
-
-
-def reload_on(by: int, old: Crew, new: Crew, ready: Numbers, retries: int, dropped: Addresses, n: int) -> Tree:
-    """On with a reload: the old workers quit, the dropped addresses are closed in the old order, and the target
-    settles."""
+def reload_on(by: int, old: Crew, new: Crew, left: Numbers, retries: int, dropped: Addresses, n: int) -> Tree:
+    """On with a reload: the old workers that are left quit, the dropped addresses are closed in the old order, and the
+    target settles."""
     closed = tells(by, tuple(map(CloseAt, dropped)), settle(by, new, numbers_below(n), Side.Target, retries))
-    return tells(by, tuple(Quit(old.generation, k) for k in ready[::-1]), closed)
+    return tells(by, tuple(Quit(old.generation, k) for k in left[::-1]), closed)
 
 
-def reload_tree(
-    by: int, old: Crew, new: Crew, ready: Numbers, retries: int, held: Addresses, wanted: Addresses, n: int
+def asks(asked: bool, by: int, question: int, on_go: Tree, on_back: Tree) -> Tree:
+    """Where it is asked the operator says whether to go on or back; else it goes on."""
+    return either(by, Ask(question), (), on_go, on_back) if asked else on_go
+
+
+def quits_new(by: int, new: Crew, waits: bool, numbers: Numbers, back: Tree, forked: Numbers) -> Tree:
+    """A step's new workers quit, and it goes back. Where earlier steps are taken back they are waited for: all of the
+    step's numbers, of which one that was not started is gone."""
+    if waits:
+        back = awaits_gone(by, new.generation, numbers[::-1], back)
+    return tells(by, tuple(Quit(new.generation, k) for k in forked), back)
+
+
+def taken_back(by: int, old: Crew, new: Crew, waits: bool, step: Step, back: Tree) -> Tree:
+    """A step is taken back: the old workers that quit are started again, whatever is answered, and its new ones
+    quit."""
+    quits = Later(lambda: quits_new(by, new, waits, step.starts, back, step.starts[::-1]))
+    return starts_any(by, old, step.quits, quits)
+
+
+Last = Callable[[bool, Tree], Tree]
+
+
+def in_steps(
+    asked: bool, first: bool, by: int, old: Crew, new: Crew, steps: tuple[Step, ...], last: Last, back: Tree
 ) -> Tree:
-    """The added addresses are opened, the new workers started and counted; if all is well, it goes on, and else
-    back."""
+    """The steps but the last, and then the last. Where a start fails, or the operator goes back, the step's new workers
+    quit, and the earlier steps are taken back, the last first. The operator is asked in the first step, when its new
+    workers are ready."""
+    if not steps:
+        return last(first, back)
+    step = steps[0]
+    quit_new = partial(quits_new, by, new, not first, step.starts, back)
+    taken = Later(lambda: taken_back(by, old, new, not first, step, back))
+    more = in_steps(asked, False, by, old, new, steps[1:], last, taken)
+    quits = tuple(Quit(old.generation, k) for k in step.quits[::-1])
+    on = tells(by, quits, awaits_gone(by, old.generation, step.quits[::-1], more))
+    asking = asks(asked and first, by, 1, on, Later(lambda: quit_new(step.starts[::-1])))
+    return starts(by, new, step.starts, asking, quit_new)
+
+
+def last_step(
+    asked: bool,
+    by: int,
+    old: Crew,
+    new: Crew,
+    numbers: Numbers,
+    left: Numbers,
+    retries: int,
+    dropped: Addresses,
+    n: int,
+    first: bool,
+    back: Tree,
+) -> Tree:
+    """The last step: all new workers are counted, and it goes on."""
+    quit_new = partial(quits_new, by, new, not first, numbers, back)
+    all_new = Later(lambda: quit_new(numbers[::-1]))
+    on = asks(asked and first, by, 1, reload_on(by, old, new, left, retries, dropped, n), all_new)
+    return starts(by, new, numbers, either(by, Census(new.generation), numbers_below(n), on, all_new), quit_new)
+
+
+def closes_opened(by: int, old: Crew, ready: Numbers, retries: int, opened: Addresses) -> Tree:
+    return tells(by, tuple(map(CloseAt, opened)), settle(by, old, ready, Side.Old, retries))
+
+
+def stepped_tree(
+    asked: bool,
+    by: int,
+    old: Crew,
+    new: Crew,
+    ready: Numbers,
+    retries: int,
+    held: Addresses,
+    wanted: Addresses,
+    n: int,
+    rollout: Rollout,
+) -> Tree:
+    """The added addresses are opened, and the new workers are started in steps."""
+    last = partial(last_step, asked, by, old, new, rollout.last, rollout.left, retries, only_in(held, wanted), n)
+    closes = partial(closes_opened, by, old, ready, retries)
 
     def start(opened: Addresses) -> Tree:
-        back = partial(reload_back, by, old, new, ready, retries, opened)
-        go_on = reload_on(by, old, new, ready, retries, only_in(held, wanted), n)
-        counted = either(by, Census(new.generation), numbers_below(n), go_on, back(numbers_below(n)[::-1]))
-        return starts(by, new, numbers_below(n), counted, back)
+        return in_steps(asked, True, by, old, new, rollout.steps, last, closes(opened))
 
-    def close(opened: Addresses) -> Tree:
-        return tells(by, tuple(map(CloseAt, opened)), settle(by, old, ready, Side.Old, retries))
+    return opens(by, only_in(wanted, held), (), start, closes)
 
-    return opens(by, only_in(wanted, held), (), start, close)
+
+def reload_plan(asked: bool, surge: int, r: Record, s: Settings) -> Tree:
+    """The reload of a record to settings: whether the operator is asked, and how many new workers a step starts."""
+    by, new = r.generation.image, crew_wanted(r, Reload(s))
+    rollout = rollout_of(r, s, surge)
+    return stepped_tree(
+        asked, by, crew_of(r), new, r.ready, r.retries, addresses_of(r), s.listeners, s.workers, rollout
+    )
 
 
 # Stop
@@ -420,11 +491,6 @@ def back_serving(by: int, heir: int, crew: Crew, ready: Numbers, retries: int, p
     return starts_any(by, crew, ready, back_from(by, heir, crew, ready, retries, path))
 
 
-def asks(attended: bool, by: int, question: int, on_go: Tree, on_back: Tree) -> Tree:
-    """An attended upgrade asks the operator whether to go on or back; any other goes on."""
-    return either(by, Ask(question), (), on_go, on_back) if attended else on_go
-
-
 def hand_over(by: int, new: Crew, retries: int, path: FilePath | None, n: int) -> Tree:
     """The old master leaves; the new one removes the old file and settles."""
     heir = new.generation.image
@@ -499,8 +565,7 @@ def plan_tree(r: Record, target: Target, turns: Turns) -> Tree:
         case Reopen():
             return reopen_tree(by, crew, r.ready, r.retries)
         case Reload(s):
-            new = crew_wanted(r, target)
-            return reload_tree(by, crew, new, r.ready, r.retries, addresses_of(r), s.listeners, s.workers)
+            return reload_plan(False, s.surge, r, s)
         case Upgrade(s):
             return upgrade_tree(False, r, crew_wanted(r, target), s.listeners, s.workers, turns)
         case Attended(s):

@@ -12,6 +12,7 @@ class Settings(NamedTuple):
     groups: Groups
     timeout: int
     retries: int
+    surge: int
     pid: FilePath | None
 
 
@@ -28,11 +29,12 @@ def IsInRange(s: Settings) -> bool:
         and workers_in(s.groups) == s.workers
         and 1 <= s.timeout <= 86400
         and s.retries <= 8
+        and s.surge <= 1024
         and HasSuffixRoom(s.pid)
     )
 
 
-plain_settings = Settings(("0.0.0.0:8080",), 1, (Group(1, 1),), 60, 3, None)
+plain_settings = Settings(("0.0.0.0:8080",), 1, (Group(1, 1),), 60, 3, 0, None)
 
 
 def listeners_from(fd: int, addresses: tuple[Address, ...]) -> tuple[Listener, ...]:

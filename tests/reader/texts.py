@@ -45,7 +45,7 @@ def group_table(addresses: tuple[str, ...], workers: int) -> str:
 
 def configuration_text(s: Settings) -> str:
     """The file of these settings; one group alone is no table."""
-    text = f"retries = {s.retries}\ntimeout = {s.timeout}\n" + (f'pid = "{s.pid}"\n' if s.pid else "")
+    text = f"retries = {s.retries}\nsurge = {s.surge}\ntimeout = {s.timeout}\n" + (f'pid = "{s.pid}"\n' if s.pid else "")
     if len(s.groups) == 1:
         return text + group_table(s.listeners, s.workers)
     left = s.listeners

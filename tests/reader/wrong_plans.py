@@ -2,10 +2,11 @@
 import random
 from collections.abc import Callable, Iterator
 from contextlib import contextmanager
+from functools import partial
 from types import ModuleType
 from typing import Any, NamedTuple
 
-from reader import after, beside, claims, plans
+from reader import after, beside, claims, plans, steps, wrong_steps
 from reader.addresses import Addresses, FilePath
 from reader.beside import KeepsBeside
 from reader.claims import IsAccepted, KeepsPromise
@@ -79,8 +80,9 @@ class WrongPlan(NamedTuple):
             ran = again(run.pattern)
             if not IsAccepted(t, r, target, run.pattern, ran):
                 return None
-            keeps = all(KeepsPromise(t, r, target, ran).values())
-            return not KeepsBeside(t, r, target, ran, again)[self.claim], keeps
+            kept = KeepsPromise(t, r, target, ran)
+            is_kept = kept[self.claim] if self.claim in kept else KeepsBeside(t, r, target, ran, again)[self.claim]
+            return not is_kept, all(kept.values())
 
 
 def tells_any(by: int, calls: tuple[Call, ...], rest: Tree) -> Tree:
@@ -145,6 +147,24 @@ def asks_in_vain_at_last(attended: bool, by: int, question: int, on_go: Tree, on
     return RIGHT_QUESTION(attended, by, question, on_go, on_go if question == 2 else on_back)
 
 
+def asks_nobody(attended: bool, by: int, question: int, on_go: Tree, on_back: Tree) -> Tree:
+    """The operator of an attended upgrade is not asked."""
+    return on_go
+
+
+def calls_without_a_handover(crew: Crew, held: Addresses, wanted: Addresses, n: int) -> tuple[Call, ...]:
+    """The new master looks at nothing that it was told."""
+    return RIGHT_CALLS(crew, held, wanted, n)[1:]
+
+
+def ends_at_a_mark(r: Record, target: Target, turns: Turns) -> Tree | None:
+    """A reopening ends where the two parts of an upgrade join, for which a report says that it is done."""
+    if not isinstance(target, Reopen):
+        return None
+    told = tuple(Usr1(r.generation, k) for k in r.ready)
+    return tells_any(r.generation.image, told, Ends(End.JoinReady))
+
+
 def a_stop_that_ends_itself(r: Record, target: Target, turns: Turns) -> Tree | None:
     """A graceful stop by term-master of itself: nobody is told to quit."""
     if not isinstance(target, Stop) or target.quick:
@@ -197,6 +217,15 @@ def planted(name: str, other: Callable[..., Any]) -> tuple[Piece, ...]:
     return (Piece(plans, name, other),)
 
 
+def in_steps_with(calls: type[Quit] | type[Kill], waits: bool, undoes: bool, early: bool) -> tuple[Piece, ...]:
+    """The steps of a reload are others."""
+    return planted("in_steps", partial(wrong_steps.steps_with, calls, waits, undoes, early))
+
+
+def stepped(claim: str, pieces: tuple[Piece, ...]) -> "WrongPlan":
+    return WrongPlan(claim, wrong_steps.a_reload_in_steps, pieces)
+
+
 # Records that are left
 
 
@@ -226,12 +255,31 @@ WRONG_PLANS: dict[str, WrongPlan] = {
     "an_upgrade_whose_heir_quits": WrongPlan("peace", a_plain_upgrade, planted("relieve", relieved_by_the_heir)),
     "an_upgrade_that_goes_on": WrongPlan("obeyed", an_attended_upgrade, planted("asks", asks_in_vain)),
     "an_upgrade_that_goes_on_at_last": WrongPlan("obeyed", an_attended_upgrade, planted("asks", asks_in_vain_at_last)),
+    "an_upgrade_that_never_asks": WrongPlan("asked", an_attended_upgrade, planted("asks", asks_nobody)),
+    "an_upgrade_that_never_adopts": WrongPlan("adopts", an_upgrade, planted("new_calls", calls_without_a_handover)),
+    "a_reopening_that_ends_at_a_mark": WrongPlan("ends", ends_at_a_mark),
     "a_stop_that_ends_itself": WrongPlan("peace", a_stop_that_ends_itself),
     "a_stop_by_a_stranger": WrongPlan("peace", a_stop_by_a_stranger),
     "a_reopening_by_a_stranger": WrongPlan("proper", a_reopening_by_a_stranger),
     "another_file_first": WrongPlan("files", another_file_first),
     "another_address_first": WrongPlan("proper", another_address_first),
     "older_workers_first": WrongPlan("proper", older_workers_first),
+    "steps_that_quit_first": stepped("floor", in_steps_with(Quit, True, True, True)),
+    "steps_that_kill": stepped("manner", in_steps_with(Kill, False, True, False)),
+    "steps_that_wait_for_nobody": stepped("ceiling", in_steps_with(Quit, False, True, False)),
+    "steps_that_are_not_taken_back": stepped("says", in_steps_with(Quit, True, False, False)),
+    "a_step_that_lets_all_go": stepped("floor", (Piece(steps, "staying", wrong_steps.nobody_stays),)),
+    "a_step_that_lets_one_go": stepped("floor", (Piece(steps, "staying", wrong_steps.one_quits),)),
+    "steps_that_count_all_groups": stepped("floor", (Piece(steps, "is_enough", wrong_steps.enough_over_all),)),
+    "a_step_back_by_the_new_first": stepped("floor", planted("taken_back", wrong_steps.taken_back_by_the_new_first)),
+    "a_step_back_without_the_old": stepped("paid", planted("taken_back", wrong_steps.taken_back_without_the_old)),
+    "a_step_back_beside_the_new": stepped("says", planted("taken_back", wrong_steps.taken_back_beside_the_new)),
+    "a_step_back_by_another_crew": stepped("says", planted("taken_back", wrong_steps.taken_back_by_another_crew)),
+    "a_last_step_that_leaves_the_old": stepped("says", planted("last_step", wrong_steps.last_that_leaves_the_old)),
+    "a_step_back_that_quits_nobody": stepped("says", planted("quits_new", wrong_steps.quits_nobody)),
+    "a_step_back_that_quits_all_but_one": stepped("says", planted("quits_new", wrong_steps.quits_all_but_one)),
+    "a_step_back_that_waits_for_nobody": stepped("ceiling", planted("quits_new", wrong_steps.quits_and_goes_on)),
+    "a_step_back_that_closes_nothing": stepped("says", planted("closes_opened", wrong_steps.closes_nothing)),
     "a_record_that_wants_all": WrongPlan("left", plan_tree, left_otherwise(lambda r, left: left._replace(wanted=1024))),
     "a_record_that_wants_as_before": WrongPlan("left", plan_tree, left_otherwise(keeps_the_wanted_number)),
     "a_record_without_retries": WrongPlan("left", plan_tree, left_otherwise(lambda r, left: left._replace(retries=0))),

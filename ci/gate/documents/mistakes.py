@@ -3,8 +3,8 @@ import dataclasses
 from collections.abc import Callable, Iterator
 
 from gate.documents import (
-    claims, codes, commands, edits, explained, glossary, house, links, names, options, pairs, places, service_options,
-    shape, versions, words,
+    claims, codes, commands, edits, explained, glossary, house, links, names, options, pairs, places, reading,
+    service_options, shape, versions, words,
 )
 from gate.documents.pages import Tree
 
@@ -21,6 +21,7 @@ CHECKS: dict[str, Check] = {
     "glossary": glossary.faults,
     "places": places.faults,
     "claims": claims.faults,
+    "reading": reading.faults,
     "tables": shape.table_faults,
     "length": shape.length_faults,
     "screens": shape.screen_faults,
@@ -82,21 +83,24 @@ MISTAKES = (
     Mistake("claims", "crates/certifier/README.md", "## Tested only", "## Tested", "Tested only"),
     Mistake("claims", "docs/PROVED.md", "(`Says`)", "(`SaysAll`)", "SaysAll"),
     Mistake("claims", "docs/proved/crates.md", "[explorer](../../crates/explorer/README.md)", "explorer", "no line for explorer"),
+    Mistake("reading", "docs/DEFINITIONS.md", "its service | 183 |", "its service | 182 |", "Table.antt has 183 lines"),
+    Mistake("reading", "crates/definitions/specs/Table.antt", "is its text,", "is its text," + 120 * " ", "more than 120"),
+    Mistake("reading", "docs/DEFINITIONS.md", "That is 646 lines", "That is 500 lines", "have 646 lines"),
     Mistake("tables", "docs/PROVED.md", "| no: it kills first |", f"| {'no ' * 80} |", "a cell of"),
     Mistake("length", "CONTRIBUTING.md", "## Names", "word " * 2_000, "split it"),
     Mistake("length", "README.md", "## The promise", "\n" * 120 + "## The promise", "more than 120"),
-    Mistake("screens", "tests/cases/help_of_plan/stdout", "Options:\n", "Options:\n" + 40 * "\n", "more than 40"),
-    Mistake("screens", "tests/cases/help_of_enact/stdout", "Control words,", 80 * "word ", "more than 80"),
+    Mistake("screens", "tests/cases/help/help_of_plan/stdout", "Options:\n", "Options:\n" + 40 * "\n", "more than 40"),
+    Mistake("screens", "tests/cases/help/help_of_enact/stdout", "Control words,", 80 * "word ", "more than 80"),
     Mistake("versions", "docs/prefork-plan.1", "prefork 0.", "prefork 9.", "docs/prefork-plan.1: the version is 9."),
     Mistake("versions", "service/man/prefork-wsgi.1", "prefork 0.", "prefork 9.", "prefork-wsgi.1: the version is 9."),
     Mistake("versions", "docs/PROVED.md", " logic d", " logic 9d", "the toolchain has logic 9d"),
     Mistake("versions", "CHANGELOG.md", "## 0.2.0 (", "## 9.9.9 (", "not 9.9.9"),
     Mistake("words", "README.md", "Status 0: the new service runs.", "Status 0: what it came to.", "came to"),
     Mistake("words", "service/man/prefork-ctl.1", "prints who runs", "prints whoever runs", "whoever"),
-    Mistake("words", "tests/cases/help_of_child/stdout", "It shows", "It came to", "came to"),
+    Mistake("words", "tests/cases/help/help_of_child/stdout", "It shows", "It came to", "came to"),
     Mistake("words", "service/prefork_service/load.py", "a number of seconds", "so many seconds", "so many"),
     Mistake("words", "service/units/README.md", "systemd", "whoever", "whoever"),
-    Mistake("names", "service/PROMISES.md", "`run/journal`", "`run/diary`", "run/diary"),
+    Mistake("names", "service/FILES.md", "`run/journal`", "`run/diary`", "run/diary"),
     Mistake("names", "service/guides/wsgi.md", "`--chdir FOLDER`", "`--cddir FOLDER`", "cddir"),
     Mistake("links", "service/guides/README.md", "(wsgi.md)", "(wsgy.md)", "wsgy.md"),
     Mistake("words", "docs/prefork-explore.1", "Standard input is not read.", "Lines are passed over.", "passed over"),

@@ -14,8 +14,8 @@ SOURCES = ("crates.txt", "try", "prefork", "install", "package", "Makefile", ".g
            "crates/*/proofs/**/*", "ci/*", "ci/gate/*.py", "ci/web/*", "ci/shipping/*", "bench/*", "examples/*",
            "completions/*", "service/bin/*", "service/native/*", "service/prefork_service/*.py",
            "service/double/*", "service/examples/*", "service/units/*", "fleet/**/*", "service/tests/**/*.py",
-           "service/build", "service/install", "service/man/*", "service/containers/*", "tests/cases/*/args",
-           "tests/cases/*/stdin", "tests/cases/*/stdout", "tests/cases/*/stderr", "tests/faults/*",
+           "service/build", "service/install", "service/man/*", "service/containers/*", "tests/cases/**/args",
+           "tests/cases/**/stdin", "tests/cases/**/stdout", "tests/cases/**/stderr", "tests/faults/*",
            "tests/children/**/*")
 WORD = re.compile(r"[A-Za-z_][A-Za-z0-9_]*(?:-[A-Za-z0-9_]+)*")
 SPAN = re.compile(r"`([^`\n]+)`")

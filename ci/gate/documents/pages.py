@@ -13,7 +13,7 @@ SERVICE = ("service/**/*.md", "fleet/*.md")
 SERVICE_MAN = ("service/man/*.1",)
 CONVENTION = ("service/man/prefork-child.1",)
 # What --help prints, as ci/cases compares it with the program, and the sentences of `prefork explain`.
-HELP = "tests/cases/help_of_*/stdout"
+HELP = "tests/cases/help/help_of_*/stdout"
 SAID = (HELP, "crates/code_explanations/src/*.rt")
 # Programs and scripts: their first lines and their messages are for operators, and their comments for their readers.
 SCRIPTS = ("try", "prefork", "install", "package", ".githooks/*", "ci/[a-z]*", "ci/*/*.py", "ci/gate/documents/*.py", "bench/*",

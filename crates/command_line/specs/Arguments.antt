@@ -14,6 +14,7 @@ use Rattle.clap.specs.declared.error.kind.ErrorKind.TheVariants.{DisplayHelp, Di
 use Rattle.command_line.specs.Number.{Spells}
 use Rattle.command_line.specs.declared.options.AdoptOptions.{AdoptOptions}
 use Rattle.command_line.specs.declared.options.CertifyOptions.{CertifyOptions}
+use Rattle.command_line.specs.declared.options.CheckOptions.{CheckOptions}
 use Rattle.command_line.specs.declared.options.EnactOptions.{EnactOptions}
 use Rattle.command_line.specs.declared.options.PlanOptions.{PlanOptions}
 use Rattle.command_line.specs.declared.options.ExploreOptions.{ExploreOptions}
@@ -123,10 +124,12 @@ abbrev pub explore_app : App
 explore_app = with_rule (with_demands (with_runs (with_list (new_app (codes "explore"))))) word_rule
 
 abbrev pub certify_app : App
-certify_app = with_rule (with_rule (with_running (with_goals (new_app (codes "certify")))) (flag_rule (codes "json"))) (option_rule (codes "held"))
+certify_app =
+    with_rule (with_rule (with_rule (with_running (with_goals (new_app (codes "certify")))) (flag_rule (codes "json"))) (flag_rule (codes "life")))
+    (option_rule (codes "held"))
 
 abbrev pub check_app : App
-check_app = with_rule (new_app (codes "check")) (several_rule (codes "files"))
+check_app = with_rule (with_rule (new_app (codes "check")) (flag_rule (codes "json"))) (several_rule (codes "files"))
 
 -- `--program PROGRAM`, which must be there
 abbrev pub program_rule : Rule
@@ -217,6 +220,12 @@ pub record Certification : Type 0 where
   pub start : Start
   pub held : Option Text
   pub goals : List Text
+  pub life : Bool
+
+-- what `check` is given
+pub record Checking : Type 0 where
+  pub files : List Text
+  pub json : Bool
 
 -- how long a child may keep its master waiting, in seconds
 pub record Limiting : Type 0 where
@@ -283,6 +292,13 @@ certification_of options = record {
   start = start_of options.start;
   held = option_map (λ text. text.now) options.held;
   goals = texts options.goals.items;
+  life = options.life;
+}
+
+abbrev pub checking_of : CheckOptions → Checking
+checking_of options = record {
+  files = texts options.files.items;
+  json = options.json;
 }
 
 abbrev pub limiting_of : LimitOptions → Limiting
@@ -357,9 +373,11 @@ pub record FindsCertification (rows : List Row) (values : Certification) : Type 
   pub start : FindsStart rows values.start
   pub held : values.held ≡ first_of (codes "held") rows
   pub goals : values.goals ≡ unwrap_or (all_of (codes "to") rows) []
+  pub life : values.life ≡ is_given (first_of (codes "life") rows)
 
-abbrev pub FindsFiles : List Row → List Text → Type 0
-FindsFiles rows files = all_of (codes "files") rows ≡ Some files
+pub record FindsChecking (rows : List Row) (values : Checking) : Type 0 where
+  pub files : all_of (codes "files") rows ≡ Some values.files
+  pub json : values.json ≡ is_given (first_of (codes "json") rows)
 
 pub record FindsLimiting (rows : List Row) (limits : Limiting) : Type 0 where
   pub answer_within : IsNumber (first_of (codes "answer-within") rows) limits.answer_within
@@ -399,8 +417,8 @@ abbrev pub AsksCertify : List Text → Certification → Type 0
 AsksCertify arguments values = AsksFor (codes "certify") (λ rows. FindsCertification rows values) arguments
 
 -- the files that are to be looked at
-abbrev pub AsksCheck : List Text → List Text → Type 0
-AsksCheck arguments files = AsksFor (codes "check") (λ rows. FindsFiles rows files) arguments
+abbrev pub AsksCheck : List Text → Checking → Type 0
+AsksCheck arguments values = AsksFor (codes "check") (λ rows. FindsChecking rows values) arguments
 
 abbrev pub AsksSupervise : List Text → Supervision → Type 0
 AsksSupervise arguments values = AsksFor (codes "supervise") (λ rows. FindsSupervision rows values) arguments
@@ -429,7 +447,7 @@ Asks arguments (Enact options) = AsksEnact arguments (enactment_of options)
 Asks arguments (Plan options) = AsksPlan arguments (planning_of options)
 Asks arguments (Explore options) = AsksExplore arguments (exploration_of options)
 Asks arguments (Certify options) = AsksCertify arguments (certification_of options)
-Asks arguments (Check options) = AsksCheck arguments (texts options.files.items)
+Asks arguments (Check options) = AsksCheck arguments (checking_of options)
 Asks arguments (Supervise options) = AsksSupervise arguments (supervision_of options)
 Asks arguments (Adopt options) = AsksAdopt arguments (adoption_of options)
 Asks arguments Child = AsksChild arguments
@@ -448,7 +466,7 @@ pub record IsUsageFault (arguments : List Text) : Type 0 where
   pub no_plan : (values : Planning) → ¬ AsksPlan arguments values
   pub no_explore : (values : Exploration) → ¬ AsksExplore arguments values
   pub no_certify : (values : Certification) → ¬ AsksCertify arguments values
-  pub no_check : (files : List Text) → ¬ AsksCheck arguments files
+  pub no_check : (values : Checking) → ¬ AsksCheck arguments values
   pub no_child : AsksForNoChild arguments
   pub no_explain : (code : Option Text) → ¬ AsksExplain arguments code
   pub no_help : fault_of prefork_app arguments ≢ DisplayHelp ∷ []

@@ -7,10 +7,10 @@ ghost use Rattle.command_line.specs.Arguments.{adopt_app, bare_app, certify_app,
 use crate::help::{
     ADOPT_HELP, ADOPT_NOTES, ANSWER_HELP, BARE_HELP, CERTIFY_NOTES, CHECK_NOTES, CHILD_NOTES,
     CODE_HELP, DEATHS_HELP, DOT_HELP, ENACT_NOTES, EVENTS_HELP, EXPLAIN_NOTES, EXPLORE_NOTES,
-    FILES_HELP, FORBID_HELP, FROM_HELP, GOALS_HELP, HELD_HELP, JSON_HELP, LEAST_HELP, LIMIT_HELP,
-    LIST_HELP, PLAN_NOTES, PROGRAM_HELP, PROGRAM_NOTES, PROGRESS_HELP, READY_HELP, REQUIRE_HELP,
-    STATE_HELP, SUPERVISE_NOTES, TO_HELP, TURNS_HELP, VERBOSE_HELP, WHY_HELP, WORD_HELP,
-    WORDS_HELP, WORKERS_HELP,
+    FILES_HELP, FORBID_HELP, FROM_HELP, GOALS_HELP, HELD_HELP, JSON_HELP, LEAST_HELP, LIFE_HELP,
+    LIMIT_HELP, LIST_HELP, PLAN_NOTES, PROGRAM_HELP, PROGRAM_NOTES, PROGRESS_HELP, READY_HELP,
+    REQUIRE_HELP, STATE_HELP, SUPERVISE_NOTES, TO_HELP, TURNS_HELP, VERBOSE_HELP, WHY_HELP,
+    WORD_HELP, WORDS_HELP, WORKERS_HELP,
 };
 use clap::{Arg, ArgAction, Command};
 use std::alloc::{AllocError, Global};
@@ -221,6 +221,7 @@ fn certify<'a>(alloc: Global) -> Result<Command<'a>, AllocError>
     let command = with_goals(alloc, command)?;
     let command = with_running(alloc, command)?;
     let command = with_flag(alloc, command, "json", JSON_HELP)?;
+    let command = with_flag(alloc, command, "life", LIFE_HELP)?;
     with_option(alloc, command, "held", "ADDRESS", HELD_HELP)
 }
 
@@ -234,6 +235,7 @@ fn check<'a>(alloc: Global) -> Result<Command<'a>, AllocError>
         "Say whether configurations would be read, and why not",
         CHECK_NOTES,
     );
+    let command = with_flag(alloc, command, "json", JSON_HELP)?;
     with_argument(command, several(alloc, "files", "FILE", FILES_HELP))
 }
 

@@ -41,6 +41,8 @@ pub(crate) const BARE_HELP: &str = "Start without workers, however many are want
 
 pub(crate) const HELD_HELP: &str = "Pretend that another process listens on ADDRESS";
 
+pub(crate) const LIFE_HELP: &str = "Print last what holds of all blocks together";
+
 pub(crate) const STATE_HELP: &str = "Print processes, files and service after the last block";
 
 pub(crate) const EVENTS_HELP: &str = "At most K events in a run, 1 or 2 [default: 1]";
@@ -104,10 +106,10 @@ Example: what enact prints is accepted:
 pub(crate) const CHECK_NOTES: &str = "\
 Nothing is started. All files are read, and each has a line:
   b.toml: ok
-  b.toml:3: C4 workers: a number is out of range: workers = 2000
+  b.toml:3: C4 workers: a number is out of range (allowed: ..): workers = 2000
 that is the file, the line if one is at fault, the code of the rule that the
-file breaks, what it means, and what was found. A file that cannot be read has
-the code 'file'. `prefork explain C4` says what to do.
+file breaks, what it means, what is allowed, and what was found. A file that
+cannot be read has the code 'file'. `prefork explain C4` says what to do.
 
 Exit status: 0 each file would be read, 1 one would not, 2 usage.
 

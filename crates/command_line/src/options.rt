@@ -2,7 +2,7 @@
 ghost use Rattle.std.specs.Prelude.{◌≡◌, ◌≢◌, IfErr, IfOk, IsErrOf, List, Option, None, Some, ℕ, [], codes, option_map, unwrap_or};
 ghost use Rattle.clap.specs.Walk.{Text, all_of, texts};
 ghost use Rattle.clap.specs.Words.{first_of, found_of, rows_of};
-ghost use Rattle.command_line.specs.Arguments.{Adoption, Certification, Enactment, Exploration, FindsAdoption, FindsCertification, FindsEnactment, FindsExploration, FindsFiles, FindsLimiting, FindsPlanning, FindsStart, FindsSupervision, IsNumber, Limiting, Planning, Start, Supervision, adoption_of, certification_of, enactment_of, exploration_of, is_given, limiting_of, planning_of, start_of, supervision_of};
+ghost use Rattle.command_line.specs.Arguments.{Adoption, Certification, Checking, Enactment, Exploration, FindsAdoption, FindsCertification, FindsChecking, FindsEnactment, FindsExploration, FindsLimiting, FindsPlanning, FindsStart, FindsSupervision, IsNumber, Limiting, Planning, Start, Supervision, adoption_of, certification_of, checking_of, enactment_of, exploration_of, is_given, limiting_of, planning_of, start_of, supervision_of};
 
 use crate::Refusal;
 use crate::refusal::UsageFault;
@@ -91,6 +91,8 @@ pub struct CertifyOptions<'a> {
     pub held: Option<&'a str>,
     /// `--to`: all files, in their order.
     pub goals: Vec<&'a str>,
+    /// `--life`: what holds of the whole life is written last.
+    pub life: bool,
 }
 
 /// What `check` is asked.
@@ -98,6 +100,8 @@ pub struct CertifyOptions<'a> {
 pub struct CheckOptions<'a> {
     /// The files in their order, at least one.
     pub files: Vec<&'a str>,
+    /// `--json`: the answer is JSON.
+    pub json: bool,
 }
 
 /// How long a child may keep its master waiting, in seconds; 0 is without a limit.
@@ -232,7 +236,12 @@ pub(crate) fn certify_options<'a>(
     let start = start_options(found)?;
     let goals = any_texts_of(alloc, found, "to")?;
     let held = text_of(found, "held");
-    Ok(CertifyOptions { start, held, goals })
+    Ok(CertifyOptions {
+        start,
+        held,
+        goals,
+        life: has_flag(found, "life"),
+    })
 }
 
 /// What `check` is asked.
@@ -241,12 +250,13 @@ pub(crate) fn check_options<'a>(
     found: &ArgMatches<'a>,
 ) -> Result<CheckOptions<'a>, Refusal>
     ensures found { IfOk result (λ options.
-        FindsFiles (rows_of (found_of found.now)) (texts options.files.items)) }
-    ensures usage { IsErrOf result Refusal.Usage → (files : List Text)
-        → ¬ FindsFiles (rows_of (found_of found.now)) files }
+        FindsChecking (rows_of (found_of found.now)) (checking_of options)) }
+    ensures usage { IsErrOf result Refusal.Usage → (values : Checking)
+        → ¬ FindsChecking (rows_of (found_of found.now)) values }
 {
     let files = texts_of(alloc, found, "files")?;
-    Ok(CheckOptions { files })
+    let json = has_flag(found, "json");
+    Ok(CheckOptions { files, json })
 }
 
 /// The options of `supervise`; a fault only where no program is given, or a limit has no number.

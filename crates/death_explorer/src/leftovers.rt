@@ -68,7 +68,7 @@ fn count_ready(holders: &Holders, addresses: &[Address], address: &Address) -> u
 }
 
 /// How many Ready workers hold an address, up to 2^32 - 1.
-fn ready_at(kernel: &Kernel, address: &Address) -> u32
+pub fn ready_at(kernel: &Kernel, address: &Address) -> u32
     ensures { result ≡ ready_at kernel.now.table address.now }
 {
     let store = kernel.store();

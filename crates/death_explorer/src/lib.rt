@@ -8,3 +8,4 @@ mod leftovers;
 
 pub use counts::{Death, DeathCounts, Deaths, LeastLeft};
 pub use exploring::{DeathSearch, explore_deaths};
+pub use leftovers::ready_at;

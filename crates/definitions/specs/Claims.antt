@@ -7,7 +7,7 @@ use Rattle.definitions.specs as above
 use Rattle.std.specs.Prelude.{◌≡◌, ◌≤◌, ◌+◌, ◌&&◌, ◌||◌, ◌==◌, ◌∷◌, ◌++◌, ◌⊎◌, if◌then◌else◌}
 use vocabulary.Words.{refl, map, ℕ, min, sum, nat_lt, Bool, true, false, not, List, [], length, Option, Some, None, ⊤}
 use vocabulary.Words.{is_some, option_map, IfSome, count_by, bytes_eq, list_any, AllByRecursion, IsRising, RisesFrom}
-use vocabulary.Words.{is_in, has, IsInRange}
+use vocabulary.Words.{is_in, has, numbers_below, Settings, IsInRange}
 use vocabulary.declared.names.Name.TheVariants as name
 use vocabulary.declared.calls.Answer.TheVariants as answer
 use vocabulary.declared.reports.Outcome.TheVariants as outcome
@@ -123,8 +123,14 @@ UpgradeManner r end first ran =
     let waited = list_any (λ e. is_wait (λ g k. true) e.call) ran.entries in
     (is_old_side end ≡ true → waited ≡ false → Stays first (λ k. true) ran) × KillsOnlyLate first ran × LeavesLast r ran
 
+-- A reload that comes back leaves each worker but those that it waited for to be gone.
+abbrev pub ReloadManner : Record → Outcome → Table → Ran → Type 0
+ReloadManner r end first ran =
+    let waited = λ (k : ℕ). list_any (λ e. is_wait (bears r.generation k) e.call) ran.entries in
+    (is_old_side end ≡ true → Stays first (λ k. not (waited k)) ran) × KillsOnlyLate first ran
+
 -- A change of the number of workers leaves those alone whose number stays, and all on the old side; a mend leaves all
--- that aren't overdue, and ends the others; a reopening leaves and tells all; a reload that comes back leaves all.
+-- that aren't overdue, and ends the others; a reopening leaves and tells all; a reload is as above.
 -- Outside a mend and a quick stop one that was Ready at first is killed only after it was told to quit and was late;
 -- before a master leaves in peace its workers were told to quit and waited for; at a quick stop none is told to quit.
 abbrev pub Manner : Record → Target → Outcome → Table → Ran → Type 0
@@ -134,7 +140,7 @@ Manner r Reopen end first ran =
     Stays first (λ k. true) ran
     × AllByRecursion (λ k. list_any (λ e. is_usr1_of r.generation k e.call) ran.entries ≡ true) r.ready
     × KillsOnlyLate first ran
-Manner r (Reload s) end first ran = (is_old_side end ≡ true → Stays first (λ k. true) ran) × KillsOnlyLate first ran
+Manner r (Reload s) end first ran = ReloadManner r end first ran
 Manner r (Upgrade s) end first ran = UpgradeManner r end first ran
 Manner r (Attended s) end first ran = UpgradeManner r end first ran
 Manner r (Stop false) end first ran = KillsOnlyLate first ran × LeavesLast r ran
@@ -316,12 +322,17 @@ pub record IsAccepted (t : Table) (r : Record) (target : Target) (turns : List T
   pub accepts : Accepts t r target
   pub spared : refusal_of r target turns pattern t ≡ None
 
+-- Where a reload has more than one step, each fault so far may have kept an old worker from being started again.
+abbrev pub owed_in : Settings → Progress → ℕ
+owed_in s p = if nat_lt 0 s.surge && nat_lt s.surge (length (numbers_below s.workers)) then p.faults else 0
+
 -- Each target but two has a floor at each table of the run: a mend kills first, and a stop leaves no worker. Once the
 -- operator of an attended upgrade went back at the second question, when the old workers were gone, the faults since
 -- then are excused: each may have kept an old worker from being started again.
 abbrev pub HasFloor : Table → Record → Target → Ran → Type 0
 HasFloor t r (Attended s) ran =
     AllByRecursion (Floor (λ p. faults_since 2 p.returns p.faults) t r (Attended s)) ran.passed
+HasFloor t r (Reload s) ran = AllByRecursion (Floor (owed_in s) t r (Reload s)) ran.passed
 HasFloor t r (Mend overdue) ran = ⊤
 HasFloor t r (Stop quick) ran = ⊤
 HasFloor t r target ran = AllByRecursion (Floor (λ p. 0) t r target) ran.passed

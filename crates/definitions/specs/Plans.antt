@@ -6,16 +6,16 @@
 
 use Rattle.vocabulary.specs as vocabulary
 use Rattle.definitions.specs as above
-use Rattle.std.specs.Prelude.{◌≡◌, ◌||◌, ◌∷◌, ◌++◌}
+use Rattle.std.specs.Prelude.{◌≡◌, ◌||◌, ◌&&◌, ◌==◌, ◌+◌, ◌∷◌, ◌++◌, if◌then◌else◌}
 use vocabulary.Words.{refl, ℕ, zero, suc, not, nat_lt, Bool, true, false, List, [], Option, Some, None, filter, map}
-use vocabulary.Words.{reverse, numbers_below, is_in, has}
+use vocabulary.Words.{reverse, numbers_below, is_in, has, lacks, take, drop, nat_le, min, length, Settings}
 use vocabulary.declared.plans.Side.TheVariants as side
 use vocabulary.declared.calls.Reply.TheVariants as reply
 use above.Table.{Address, FilePath, Generation}
 use above.Calls.{Call, Fork, OpenAt, CloseAt, AwaitReady, Quit, Kill, Census, AwaitGone, SpawnMaster, Adopt, WritePid}
 use above.Calls.{MovePid, RemovePid, Alive, Leave, Usr1, TermMaster, Ask}
 use above.Master.{Crew, fork_of, Record, PidNote, InPlace, AtOldbin, OldbinLeft, Left, NoFile, oldbin, addresses_of}
-use above.Master.{crew_of, Target, Workers, Mend, Reopen, Reload, Upgrade, Attended, Stop}
+use above.Master.{layout_of, layout_in, served, crew_of, Target, Workers, Mend, Reopen, Reload, Upgrade, Attended, Stop}
 use above.Run.{Reply, plain_reply, Side, End, Done, RolledBack, ShortOld, ShortTarget, JoinReady, JoinBack, Join, Make}
 use above.Run.{ForkLacking, AwaitLacking, KillLacking, Tree, Branches, Ends, Does, Nothing, Branch}
 use above.After.{crew_wanted}
@@ -170,26 +170,131 @@ abbrev pub reopen_tree : ℕ → Crew → List ℕ → ℕ → Tree
 reopen_tree by crew ready retries =
     tells by (map (Usr1 crew.generation) ready) (settle by crew ready side.Target retries)
 
--- Back from a reload: the new workers quit, what was opened is closed, the last first, and the old side settles.
-abbrev pub reload_back : ℕ → Crew → Crew → List ℕ → ℕ → List Address → List ℕ → Tree
-reload_back by old new ready retries opened forked =
-    tells by (map (Quit new.generation) forked) (tells by (map CloseAt opened) (settle by old ready side.Old retries))
-
 -- On with a reload: the old workers quit, the dropped addresses are closed in the old order, and the target settles.
 abbrev pub reload_on : ℕ → Crew → Crew → List ℕ → ℕ → List Address → ℕ → Tree
 reload_on by old new ready retries dropped n =
     tells by (map (Quit old.generation) (reverse ready))
     (tells by (map CloseAt dropped) (settle by new (numbers_below n) side.Target retries))
 
--- The added addresses are opened, the new workers started and counted; if all is well, it goes on, and else back.
-abbrev pub reload_tree : ℕ → Crew → Crew → List ℕ → ℕ → List Address → List Address → ℕ → Tree
-reload_tree by old new ready retries held wanted n =
+-- Where it is asked the operator says whether to go on or back; else it goes on.
+abbrev pub asks : Bool → ℕ → ℕ → Tree → Tree → Tree
+asks true by question on_go on_back = either by (Ask question) [] on_go on_back
+asks false by question on_go on_back = on_go
+
+---- Steps
+
+-- A step of a reload but the last: the new workers that it starts, and the old ones that quit then; both upwards.
+pub record Step : Type 0 where
+  pub starts : List ℕ
+  pub quits : List ℕ
+
+-- The steps of a reload but the last; and of the last one the new workers that it starts, and the old ones that are
+-- left.
+pub record Rollout : Type 0 where
+  pub steps : List Step
+  pub last : List ℕ
+  pub left : List ℕ
+
+abbrev pub without : ℕ → List ℕ → List ℕ
+without k ks = filter (λ j. not (j == k)) ks
+
+-- Of these old workers some quit, one after another in the order of the second list, as long as the others are enough.
+-- These stay.
+abbrev pub staying : (List ℕ → Bool) → List ℕ → List ℕ → List ℕ
+staying enough left [] = left
+staying enough left (k ∷ ks) =
+    if enough (without k left) then staying enough (without k left) ks else staying enough left ks
+
+-- As long as more new workers are to be started than one step starts, a step starts that many, and then as many of the
+-- old ones that are left quit as may. The first number is how many steps are tried: as many as there are workers are
+-- enough.
+abbrev pub rolled : (List ℕ → List ℕ → Bool) → ℕ → ℕ → List ℕ → List ℕ → List ℕ → Rollout
+rolled enough zero surge started todo left = record { steps = []; last = todo; left = left }
+rolled enough (suc tries) surge started todo left =
+    if nat_lt 0 surge && nat_lt surge (length todo)
+    then
+    (let now = reverse (take surge todo) ++ started in
+    let stay = staying (enough now) left (reverse left) in
+    let more = rolled enough tries surge now (drop surge todo) stay in
+    record {
+      steps = record { starts = take surge todo; quits = lacks left stay } ∷ more.steps;
+      last = more.last;
+      left = more.left;
+    })
+    else record { steps = []; last = todo; left = left }
+
+-- a test on each of a list
+abbrev pub every : (Address → Bool) → List Address → Bool
+every test [] = true
+every test (a ∷ rest) = test a && every test rest
+
+-- At each address these new and old workers are as many as were ready there or are wanted there, whichever is fewer.
+abbrev pub is_enough : Record → Settings → List ℕ → List ℕ → Bool
+is_enough r s started left =
+    every
+    (λ a. nat_le
+    (min (served (layout_of r) r.ready a) (served (layout_in s.groups s.listeners) (numbers_below s.workers) a))
+    (served (layout_of r) left a + served (layout_in s.groups s.listeners) started a))
+    (addresses_of r)
+
+-- the steps, where each but the last starts so many
+abbrev pub rollout_of : Record → Settings → ℕ → Rollout
+rollout_of r s surge = rolled (is_enough r s) s.workers surge [] (numbers_below s.workers) r.ready
+
+---- A reload in steps
+
+-- A step's new workers quit, and it goes back. Where earlier steps are taken back they are waited for: all of the
+-- step's numbers, of which one that was not started is gone.
+abbrev pub quits_new : ℕ → Crew → Bool → List ℕ → Tree → List ℕ → Tree
+quits_new by new waits numbers back forked =
+    tells by (map (Quit new.generation) forked)
+    (if waits then awaits_gone by new.generation (reverse numbers) back else back)
+
+-- A step is taken back: the old workers that quit are started again, whatever is answered, and its new ones quit.
+abbrev pub taken_back : ℕ → Crew → Crew → Bool → Step → Tree → Tree
+taken_back by old new waits step back =
+    starts_any by old step.quits (quits_new by new waits step.starts back (reverse step.starts))
+
+-- The steps but the last, and then the last. Where a start fails, or the operator goes back, the step's new workers
+-- quit, and the earlier steps are taken back, the last first. The operator is asked in the first step, when its new
+-- workers are ready.
+abbrev pub in_steps : Bool → Bool → ℕ → Crew → Crew → List Step → (Bool → Tree → Tree) → Tree → Tree
+in_steps asked first by old new [] last back = last first back
+in_steps asked first by old new (step ∷ steps) last back =
+    starts by new step.starts
+    (asks (asked && first) by 1
+    (tells by (map (Quit old.generation) (reverse step.quits)) (awaits_gone by old.generation (reverse step.quits)
+    (in_steps asked false by old new steps last (taken_back by old new (not first) step back))))
+    (quits_new by new (not first) step.starts back (reverse step.starts)))
+    (quits_new by new (not first) step.starts back)
+
+-- The last step: all new workers are counted, and it goes on.
+abbrev pub last_step : Bool → ℕ → Crew → Crew → List ℕ → List ℕ → ℕ → List Address → ℕ → Bool → Tree → Tree
+last_step asked by old new numbers left retries dropped n first back =
+    starts by new numbers
+    (either by (Census new.generation) (numbers_below n)
+    (asks (asked && first) by 1 (reload_on by old new left retries dropped n)
+    (quits_new by new (not first) numbers back (reverse numbers)))
+    (quits_new by new (not first) numbers back (reverse numbers)))
+    (quits_new by new (not first) numbers back)
+
+abbrev pub closes_opened : ℕ → Crew → List ℕ → ℕ → List Address → Tree
+closes_opened by old ready retries opened = tells by (map CloseAt opened) (settle by old ready side.Old retries)
+
+-- The added addresses are opened, and the new workers are started in steps.
+abbrev pub stepped_tree : Bool → ℕ → Crew → Crew → List ℕ → ℕ → List Address → List Address → ℕ → Rollout → Tree
+stepped_tree asked by old new ready retries held wanted n rollout =
     opens by (only_in wanted held) []
-    (λ opened. starts by new (numbers_below n)
-    (either by (Census new.generation) (numbers_below n) (reload_on by old new ready retries (only_in held wanted) n)
-    (reload_back by old new ready retries opened (reverse (numbers_below n))))
-    (reload_back by old new ready retries opened))
-    (λ opened. tells by (map CloseAt opened) (settle by old ready side.Old retries))
+    (λ opened. in_steps asked true by old new rollout.steps
+    (last_step asked by old new rollout.last rollout.left retries (only_in held wanted) n)
+    (closes_opened by old ready retries opened))
+    (closes_opened by old ready retries)
+
+-- The reload of a record to settings: whether the operator is asked, and how many new workers a step starts.
+abbrev pub reload_plan : Bool → ℕ → Record → Settings → Tree
+reload_plan asked surge r s =
+    stepped_tree asked r.generation.image (crew_of r) (crew_wanted r (Reload s)) r.ready r.retries (addresses_of r)
+    s.listeners s.workers (rollout_of r s surge)
 
 ---- Stop
 
@@ -224,12 +329,12 @@ stop_tree by g ready path note false =
 -- The ends of a part are marks: each gives way to what follows it.
 abbrev mutual
   pub graft : (End → Tree) → Tree → Tree
-  graft then (Ends end) = then end
-  graft then (Does by order set branches) = Does by order set (graft_all then branches)
+  graft next (Ends end) = next end
+  graft next (Does by order set branches) = Does by order set (graft_all next branches)
 
   pub graft_all : (End → Tree) → Branches → Branches
-  graft_all then Nothing = Nothing
-  graft_all then (Branch replies said rest more) = Branch replies said (graft then rest) (graft_all then more)
+  graft_all next Nothing = Nothing
+  graft_all next (Branch replies said rest more) = Branch replies said (graft next rest) (graft_all next more)
 
 -- The old part beside a step of the new one, of which `goes` says what follows where it is the new part's turn. Where
 -- the old part has ended no turn is used.
@@ -334,11 +439,6 @@ back_late by heir crew ready retries path =
 abbrev pub back_serving : ℕ → ℕ → Crew → List ℕ → ℕ → Option FilePath → Tree
 back_serving by heir crew ready retries path = starts_any by crew ready (back_from by heir crew ready retries path)
 
--- An attended upgrade asks the operator whether to go on or back; any other goes on.
-abbrev pub asks : Bool → ℕ → ℕ → Tree → Tree → Tree
-asks true by question on_go on_back = either by (Ask question) [] on_go on_back
-asks false by question on_go on_back = on_go
-
 -- The old master leaves; the new one removes the old file and settles.
 abbrev pub hand_over : ℕ → Crew → ℕ → Option FilePath → ℕ → Tree
 hand_over by new retries path n =
@@ -388,9 +488,7 @@ abbrev pub plan_tree : Record → Target → List Turn → Tree
 plan_tree r (Workers n) turns = workers_tree r.generation.image (crew_of r) r.ready r.retries n
 plan_tree r (Mend overdue) turns = mend_tree r.generation.image (crew_of r) r.ready r.retries overdue r.wanted
 plan_tree r Reopen turns = reopen_tree r.generation.image (crew_of r) r.ready r.retries
-plan_tree r (Reload s) turns =
-    reload_tree r.generation.image (crew_of r) (crew_wanted r (Reload s)) r.ready r.retries (addresses_of r) s.listeners
-    s.workers
+plan_tree r (Reload s) turns = reload_plan false s.surge r s
 plan_tree r (Upgrade s) turns =
     upgrade_tree false r.generation.image (crew_of r) (crew_wanted r (Upgrade s)) r.ready r.retries r.pid_path r.note
     (addresses_of r) s.listeners s.workers turns

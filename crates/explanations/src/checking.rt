@@ -6,6 +6,7 @@ ghost use Rattle.faults.specs.declared.fault.Fault.TheVariants.{Memory};
 use crate::lines::{FoundLine, line_of_byte, line_of_refusal};
 use crate::meaning_of;
 use crate::places::{group_of, put_key, put_shown, unknown_in};
+use code_explanations::allowed_for;
 use faults::Fault;
 use master_config::ConfigRefusal;
 use std::alloc::{AllocError, Global};
@@ -117,7 +118,7 @@ fn put_broken(alloc: Global, path: &str, text: &[u8], out: &mut Vec<u8>) -> Resu
     in_memory(writeln!(out, ": {}", error.message()))
 }
 
-/// Where a refusal was found, its code, and what that means.
+/// Where a refusal was found, its code, what that means, and what is allowed there.
 fn put_head(
     alloc: Global,
     path: &str,
@@ -136,7 +137,10 @@ fn put_head(
             in_memory(write!(out, ": {}", explanation.meaning))?;
         }
     }
-    Ok(())
+    match allowed_for(codes.as_str()) {
+        Some(allowed) => in_memory(write!(out, " (allowed: {allowed})")),
+        None => Ok(()),
+    }
 }
 
 /// What was found there, to the end of the line.

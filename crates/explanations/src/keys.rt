@@ -4,7 +4,7 @@ use std::alloc::{AllocError, Global};
 use strsim::generic_levenshtein;
 
 /// The keys of a configuration.
-const KEYS: [&str; 9] = [
+const KEYS: [&str; 10] = [
     "command",
     "groups",
     "listeners",
@@ -12,6 +12,7 @@ const KEYS: [&str; 9] = [
     "retries",
     "service",
     "sockets",
+    "surge",
     "timeout",
     "workers",
 ];

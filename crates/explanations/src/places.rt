@@ -335,7 +335,13 @@ const SHOWN: usize = 400;
 /// A line for people, cut where it is long, with a question mark for each byte that a terminal could take for a command.
 pub fn put_shown<W: Write>(line: &[u8], out: &mut W) -> io::Result<()> {
     let is_text = str::from_utf8(line).is_ok();
-    let shown = &line[..line.len().min(SHOWN)];
+    let most = line.len().min(SHOWN);
+    // (a text is not cut inside a letter)
+    let end = match str::from_utf8(&line[..most]) {
+        Err(error) if is_text => error.valid_up_to().min(most),
+        _ => most,
+    };
+    let shown = &line[..end];
     let mut is_first = true;
     for piece in shown.split(|byte| is_odd(*byte, is_text)) {
         if !is_first {

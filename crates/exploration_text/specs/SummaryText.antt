@@ -9,6 +9,7 @@ use Rattle.explorer.specs.declared.findings.Least.{Least}
 use Rattle.order_explorer.specs.declared.totals.OrderedRun.{OrderedRun}
 use Rattle.order_explorer.specs.declared.totals.Ends.{Ends}
 use Rattle.order_explorer.specs.declared.totals.OrderedLeast.{OrderedLeast}
+use Rattle.order_explorer.specs.declared.totals.OrderedMost.{OrderedMost}
 use Rattle.order_explorer.specs.declared.totals.Totals.{Totals}
 use Rattle.exploration_text.specs.RunText.{event_text}
 
@@ -86,6 +87,28 @@ least_line orders None = codes "least ready none\n"
 least_line orders (Some found) =
     ready_text found.least.ready ++ place_text found.least ++ under_text orders (run_of_least found) ++ codes "\n"
 
+-- the run in which most workers lived at once
+abbrev pub run_of_most : OrderedMost → OrderedRun
+run_of_most found = record { order = found.order; tried = found.most.tried }
+
+-- how many these are
+unfoldable pub living_text : ℕ → List ℕ
+living_text workers = count_text (codes "most workers") workers
+
+-- after which call
+unfoldable pub call_text : ℕ → List ℕ
+call_text made = count_text (codes " after call") made
+
+-- all of that, and in which run
+unfoldable pub most_line : List (List Turn) → Option OrderedMost → List ℕ
+most_line orders None = codes "most workers none\n"
+most_line orders (Some found) =
+    living_text found.most.workers ++ call_text found.most.made ++ under_text orders (run_of_most found) ++ codes "\n"
+
+-- the fewest ready workers, and the most that lived
+unfoldable pub extremes_text : List (List Turn) → Totals → List ℕ
+extremes_text orders totals = least_line orders totals.least ++ most_line orders totals.most
+
 unfoldable pub tables_line : ℕ → List ℕ
 tables_line tables = count_text (codes "tables") tables ++ codes "\n"
 
@@ -94,4 +117,4 @@ abbrev pub cut_text : Bool → List ℕ
 cut_text is_cut = if is_cut then codes "cut: there are more runs than the limit\n" else []
 
 abbrev pub summary_text : List (List Turn) → Totals → Bool → List ℕ
-summary_text orders totals is_cut = ends_text orders totals ++ least_line orders totals.least ++ tables_line totals.tables ++ cut_text is_cut
+summary_text orders totals is_cut = ends_text orders totals ++ extremes_text orders totals ++ tables_line totals.tables ++ cut_text is_cut

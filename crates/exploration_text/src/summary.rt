@@ -1,10 +1,10 @@
 //! What runs ended in, counted.
 ghost use Rattle.std.specs.Prelude.{◌≡◌, ◌≢◌, ◌++◌, [], codes, IfOk};
-ghost use Rattle.exploration_text.specs.SummaryText.{tried_text, order_text, section_text, run_section, under_text, run_of_least, shortest_text, count_text, end_line, shortfall_line, full_text, degraded_text, ends_text, place_text, ready_text, least_line, tables_line, cut_text, summary_text};
+ghost use Rattle.exploration_text.specs.SummaryText.{tried_text, order_text, section_text, run_section, under_text, run_of_least, shortest_text, count_text, end_line, shortfall_line, full_text, degraded_text, ends_text, place_text, ready_text, least_line, run_of_most, living_text, call_text, most_line, extremes_text, tables_line, cut_text, summary_text};
 
 use crate::events::write_event;
 use explorer::{Least, Tried};
-use order_explorer::{Ends, OrderedLeast, OrderedRun, Totals};
+use order_explorer::{Ends, OrderedLeast, OrderedMost, OrderedRun, Totals};
 use pattern_text::write_turns;
 use plain_text::write_number;
 use plan_turns::Turns;
@@ -200,6 +200,58 @@ pub(crate) fn write_least(
     out.extend_from_slice(b"\n")
 }
 
+/// The run in which most workers lived at once.
+fn run_of_most(found: &OrderedMost) -> OrderedRun
+    ensures { result ≡ run_of_most found.now }
+{
+    OrderedRun {
+        order: found.order,
+        tried: found.most.tried,
+    }
+}
+
+#[tactic(auto, unfolding(crate::specs::SummaryText::living_text))]
+fn write_living(out: &mut Vec<u8>, workers: u32) -> Result<(), AllocError>
+    ensures { IfOk result (λ _. out.new.items ≡ out.old.items ++ living_text workers) }
+{
+    write_count(out, b"most workers", u64::from(workers))
+}
+
+#[tactic(auto, unfolding(crate::specs::SummaryText::call_text))]
+fn write_call(out: &mut Vec<u8>, made: u32) -> Result<(), AllocError>
+    ensures { IfOk result (λ _. out.new.items ≡ out.old.items ++ call_text made) }
+{
+    write_count(out, b" after call", u64::from(made))
+}
+
+/// The most workers that lived at once, after which call of which run.
+#[tactic(auto, unfolding(crate::specs::SummaryText::most_line))]
+fn write_most(
+    out: &mut Vec<u8>,
+    orders: &[Turns],
+    found: Option<OrderedMost>,
+) -> Result<(), AllocError>
+    ensures { IfOk result (λ _. out.new.items ≡ out.old.items ++ most_line orders.now found) }
+{
+    let Some(most) = found else {
+        return out.extend_from_slice(b"most workers none\n");
+    };
+    let at = run_of_most(&most);
+    write_living(out, most.most.workers)?;
+    write_call(out, most.most.made)?;
+    write_under(out, orders, &at)?;
+    out.extend_from_slice(b"\n")
+}
+
+/// The fewest Ready workers and the most that lived.
+#[tactic(auto, unfolding(crate::specs::SummaryText::extremes_text))]
+fn write_extremes(out: &mut Vec<u8>, orders: &[Turns], totals: &Totals) -> Result<(), AllocError>
+    ensures { IfOk result (λ _. out.new.items ≡ out.old.items ++ extremes_text orders.now totals.now) }
+{
+    write_least(out, orders, totals.least)?;
+    write_most(out, orders, totals.most)
+}
+
 #[tactic(auto, unfolding(crate::specs::SummaryText::tables_line))]
 fn write_tables(out: &mut Vec<u8>, tables: u64) -> Result<(), AllocError>
     ensures { IfOk result (λ _. out.new.items ≡ out.old.items ++ tables_line tables) }
@@ -218,8 +270,8 @@ fn write_cut(out: &mut Vec<u8>, is_cut: bool) -> Result<(), AllocError>
 }
 
 /// Appends what the runs of these orders ended in: a line for each kind of end, one for the largest shortfall, one for the fewest
-/// workers that an address had, one for the number of tables, and one more where runs were left out. It fails only where memory
-/// is refused.
+/// workers that an address had, one for the most that lived at once, one for the number of tables, and one more where runs were
+/// left out. It fails only where memory is refused.
 pub fn write_summary(
     out: &mut Vec<u8>,
     orders: &[Turns],
@@ -229,7 +281,7 @@ pub fn write_summary(
     ensures { IfOk result (λ _. out.new.items ≡ out.old.items ++ summary_text orders.now totals.now is_cut) }
 {
     write_ends(out, orders, totals)?;
-    write_least(out, orders, totals.least)?;
+    write_extremes(out, orders, totals)?;
     write_tables(out, totals.tables)?;
     write_cut(out, is_cut)
 }

@@ -2,6 +2,7 @@
 use Rattle.std.proofs.Common.{◌≡◌, ◌<◌, ◌+◌, ℕ, List, [], ◌∷◌, ◌++◌, map, Option, Some, None, refl, sym, ◌∙◌, ap, subst, arith}
 use Rattle.std.specs.Prelude.{Bool, ◌==◌, if◌then◌else◌}
 use Rattle.std.proofs.lemmas.Bool.{lt-ltb}
+use Rattle.std.proofs.lemmas.List.{append_assoc}
 use Rattle.vocabulary.specs.declared.plans.PidNote.{PidNote}
 use Rattle.vocabulary.specs.declared.plans.Order.{Order}
 use Rattle.vocabulary.specs.declared.reports.Entry.{Entry}
@@ -138,6 +139,12 @@ come-step r target turns t pattern n heirs by order set branches p m come is =
           (rest_run handed (rest_after (found handed by order set branches p m)) q
           (further handed by order set branches p m)).entries)
           (sym (further-table handed by order set branches p m));
+      passes = λ q same.
+          let w = come.passes q (weaker n pattern q same) in
+          let passed = (rest_run handed (rest_after (found handed by order set branches p m)) q (further handed by order set branches p m)).passed in (
+            w.0 ++ p ∷ after_moment m.exits p ∷ [],
+            w.1 ∙ ap (λ (ran : Ran). w.0 ++ ran.passed) (goes q same) ∙ sym (append_assoc w.0 (p ∷ after_moment m.exits p ∷ []) passed),
+          );
     }
 
 ---- Any rest of a plan
@@ -150,6 +157,11 @@ pub record GoesOn (r : Record) (target : Target) (rest : Option Tree) (p : Progr
   pub come : (turns : List Turn) (t : Table) (pattern : Pattern) (n : ℕ) (heirs : List ℕ) →
       HasCome r target turns t pattern n rest heirs p → pattern (n + 1) ≡ m →
       HasCome r target turns t pattern (n + 1) (rest_after (follow rest e.answer)) (waiting e.call heirs) (moved (handover_for r target) rest m p)
+  pub passed : (q : Pattern) → q (p.calls + 1) ≡ m →
+      (rest_run (handover_for r target) rest q p).passed ≡ p
+      ∷ after_moment m.exits p
+      ∷ (rest_run (handover_for r target) (rest_after (follow rest e.answer)) q
+      (moved (handover_for r target) rest m p)).passed
   pub entries : (q : Pattern) → q (p.calls + 1) ≡ m →
       (rest_run (handover_for r target) rest q p).entries ≡ e
       ∷ (rest_run (handover_for r target) (rest_after (follow rest e.answer)) q
@@ -171,5 +183,6 @@ goes r target (Some (Does by order set branches)) p m e asks answer =
       onto = refl;
       table = further-table handed by order set branches p m;
       come = λ turns t pattern n heirs come is. come-step r target turns t pattern n heirs by order set branches p m come is;
+      passed = λ q is. ap (λ (ran : Ran). ran.passed) (runs-on handed by order set branches p q m is);
       entries = λ q is. ap (λ (ran : Ran). ran.entries) (runs-on handed by order set branches p q m is);
     })

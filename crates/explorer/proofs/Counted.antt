@@ -27,7 +27,7 @@ module _ (r : Record) (to : Target) (turns : List Turn) (t : Table) where
   with_runs-map f [] ys tally = refl
   with_runs-map f (x ∷ xs) ys tally = with_runs-map f xs ys (counted (f x) (report_under r to turns t (f x)).outcome tally)
 
-  each-append : (pairs : Bool) (xs ys : List Event) →
+  pub each-append : (pairs : Bool) (xs ys : List Event) →
       each_with_pairs r to turns t pairs (xs ++ ys)
       ≡ each_with_pairs r to turns t pairs xs ++ each_with_pairs r to turns t pairs ys
   each-append pairs [] ys = refl

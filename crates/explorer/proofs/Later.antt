@@ -1,10 +1,10 @@
 -- A run, one call later.
-use Rattle.std.proofs.Common.{◌≡◌, ◌≤◌, ◌+◌, ◌++◌, ℕ, List, Option, sym, ◌∙◌, ap, subst, arith, refl}
+use Rattle.std.proofs.Common.{◌≡◌, ◌≤◌, ◌+◌, ◌++◌, ◌∷◌, ℕ, List, Option, sym, ◌∙◌, ap, subst, arith, refl}
 use Rattle.vocabulary.specs.declared.calls.Answer.{Answer}
 use Rattle.vocabulary.specs.declared.reports.Entry.{Entry}
 use Rattle.definitions.specs.Table.{Table}
 use Rattle.definitions.specs.Calls.{Stepped, step_with, after_exits}
-use Rattle.definitions.specs.Run.{Tree, Moment, Pattern, Progress}
+use Rattle.definitions.specs.Run.{Tree, Moment, Pattern, Progress, after_moment}
 use Rattle.definitions.specs.Plans.{Turn}
 use Rattle.plan_walk.specs.Path.{Trail, advance, Asks}
 use Rattle.definitions.specs.Master.{handover_for}
@@ -76,6 +76,11 @@ later before due m course kernel waits answer fit asks moment is =
                 (subst (λ (heirs : List ℕ). HasCome before.state.now before.target.now (turns_of before.course) before.first.now.table (pattern_of before.tried) (before.made + 1) (advance (trail_at T.rest p) e).rest heirs (moved handed T.rest m p)) (sym is.heir)
                 (g.come (turns_of before.course) before.first.now.table (pattern_of before.tried) before.made (listed before.heir) at.come moment)));
           };
+      table = ap (λ (s : Stepped). s.table) is.step;
+      passes = λ p q at is'.
+          let w = trails p at in
+          (on p at).passed q (ap (λ k. q (k + 1)) at.come.calls ∙ is')
+          ∙ (λ i. p ∷ after_moment m.exits p ∷ (rest_run handed ((sym (ap (λ (t : Trail). t.rest) w)) i) q (moved handed T.rest m p)).passed);
       left = λ p last at.
           let g = on p at in
           let w = trails p at in
@@ -98,5 +103,5 @@ elsewhere run p other same at =
       table = at.table;
       handed = at.handed;
       sides = at.sides;
-      come = record { calls = at.come.calls; ends = λ q is. at.come.ends q (onto q is); meets = λ q e is before. at.come.meets q e (onto q is) before };
+      come = record { calls = at.come.calls; ends = λ q is. at.come.ends q (onto q is); meets = λ q e is before. at.come.meets q e (onto q is) before; passes = λ q is. at.come.passes q (onto q is) };
     }

@@ -11,5 +11,10 @@ mod Passing
 mod Refusing
 mod Turning
 mod Totals
-mod Staying
+mod Keeping
+mod Common
+mod Living
+mod Seeing
+mod Searching
 mod Fewest
+mod Whole

@@ -30,10 +30,16 @@ use Rattle.plan_executor.specs.Naming.{listed}
 use Rattle.explorer.specs.Events.{pattern_of, event_at}
 use Rattle.explorer.specs.Explored.{report_under}
 use Rattle.explorer.specs.Known.{passes_by}
-use Rattle.explorer.specs.Positions.{rest_run, HasCome, EndsAlike, IsAt, IsLater, onward, rest_moved}
+use Rattle.explorer.specs.Positions.{rest_run, HasCome, EndsAlike, IsAt, IsLater, IsSameUpTo, onward, moved, rest_moved, after_due}
+use Rattle.explorer.specs.Looking.{IsSeenIn}
+use Rattle.explorer.specs.Searched.{Subject, subject_of, passed_under, IsSeenAt, AreSeen, IsWider, HasSeen}
+use Rattle.explorer.specs.declared.findings.Findings.{Findings}
+use Rattle.definitions.specs.Claims.{run_of}
+use Rattle.std.specs.List.{AllByRecursion}
 use Rattle.explorer.proofs.Coming.{runs-on, found, further, further-calls, stepped}
 use Rattle.explorer.proofs.Meeting.{other, same-before, at-event}
 use Rattle.explorer.proofs.Passing.{passed, exited_step, same-losses}
+use Rattle.explorer.proofs.Searching.{every-behind, same-subject}
 
 ---- The same pattern from a call on
 
@@ -228,3 +234,94 @@ known-later run due after p by call (name.Worker g k) q at asks tried is next pa
     (One (event_at (sym is.made i + 1) (Exit (name.Worker g k) q))))
 known-later run due after p by call (name.Draining g k) q at asks tried is next passes = absurd (cc passes)
 known-later run due after p by call (name.Master i) q at asks tried is next passes = absurd (cc passes)
+
+---- The tables of these runs
+
+-- All tables of the run in which the worker has exited are those of the one in which it exits next, but for the first.
+joined-seen : (handed : Handed) (g : Generation) (k : ℕ) (P : Progress → Type 0) (rest : Option Tree) (ls : List Lack) (e : Entry)
+    (x : Progress) (a b : Pattern) → Asks rest ls e → a (x.calls + 1) ≡ quiet → b (x.calls + 1) ≡ leaving handed g k →
+    ((m : ℕ) → x.calls + 1 < m → a m ≡ b m) → P x →
+    AllByRecursion P (rest_run handed rest a (after_moment (name.Worker g k ∷ []) x)).passed →
+    AllByRecursion P (rest_run handed rest b x).passed
+joined-seen handed g k P None ls e x a b asks here there behind first all = absurd asks
+joined-seen handed g k P (Some (Ends end)) ls e x a b asks here there behind first all = absurd asks
+joined-seen handed g k P (Some (Does by order set branches)) ls e x a b asks here there behind first all =
+    let y = after_moment (name.Worker g k ∷ []) x in
+    let rest = rest_after (found handed by order set branches x (leaving handed g k)) in
+    let on = further handed by order set branches x (leaving handed g k) in
+    let same : further handed by order set branches y quiet ≡ on =
+    ap (λ (z : Progress). onward (found handed by order set branches x (leaving handed g k))
+    (after_call by order set (stepped handed by order set branches x (leaving handed g k)) z)) (no-exit y) in
+    let calls = further-calls handed by order set branches x (leaving handed g k) in
+    let between : rest_run handed rest a (further handed by order set branches y quiet) ≡ rest_run handed rest b on =
+    ap (rest_run handed rest a) same ∙ same-rest handed rest a b on (λ m lt. behind m (omega (arith, lt, calls))) in
+    let one = subst (λ (ran : Ran). AllByRecursion P ran.passed) (runs-on handed by order set branches y a quiet here) all in
+    let more = subst (λ (ran : Ran). AllByRecursion P ran.passed) between one.1.1 in
+    subst (λ (ran : Ran). AllByRecursion P ran.passed) (sym (runs-on handed by order set branches x b (leaving handed g k) there)) (first, (one.0, more))
+
+-- What is seen of all tables that the one run passes is seen of those of the other.
+later-exit-seen : (r : Record) (to : Target) (turns : List Turn) (t : Table) (n : ℕ) (heirs : List ℕ) (rest : Option Tree)
+    (p : Progress) (e : Entry) (ls : List Lack) (next : Entry) (g : Generation) (k q : ℕ) (P : Progress → Type 0) →
+    HasCome r to turns t (pattern_of NothingTried) n rest heirs p → Asks rest p.lacked e →
+    passes_by e.call (name.Worker g k) ≡ true → Asks (rest_moved (handover_for r to) rest quiet p) ls next →
+    P p → P (after_moment [] p) → P (moved (handover_for r to) rest quiet p) →
+    ((q : Pattern) → IsSameUpTo n (pattern_of NothingTried) q → AllByRecursion P (rest_run (handover_for r to) rest q p).passed →
+    AllByRecursion P (run_of r to turns q t).passed) →
+    AllByRecursion P (run_of r to turns (pattern_of (One (event_at (n + 1) (Exit (name.Worker g k) q)))) t).passed →
+    AllByRecursion P (run_of r to turns (pattern_of (One (event_at (n + 1 + 1) (Exit (name.Worker g k) q)))) t).passed
+later-exit-seen r to turns t n heirs None p e ls next g k q P come asks passes more here still there seen all = absurd asks
+later-exit-seen r to turns t n heirs (Some (Ends end)) p e ls next g k q P come asks passes more here still there seen all = absurd asks
+later-exit-seen r to turns t n heirs (Some (Does by order set branches)) p e ls next g k q P come asks passes more here still there seen all =
+    let handed = handover_for r to in
+    let tree = Does by order set branches in
+    let first = event_at (n + 1) (Exit (name.Worker g k) q) in
+    let second = event_at (n + 1 + 1) (Exit (name.Worker g k) q) in
+    let a = pattern_of (One first) in
+    let b = pattern_of (One second) in
+    let x = further handed by order set branches p quiet in
+    let rest = rest_after (found handed by order set branches p quiet) in
+    let passes' : passes_by (call_of order (lacked_by by p.lacked)) (name.Worker g k)
+    ≡ true = ap (λ (c : Call). passes_by c (name.Worker g k)) (sym asks.1) ∙ passes in
+    let calls = further-calls handed by order set branches p quiet in
+    let at-first : a (p.calls + 1) ≡ leaving handed g k = at-event first (λ _. quiet) (p.calls + 1) (omega (arith, come.calls)) in
+    let before : b (p.calls + 1) ≡ quiet = quiet-but second (p.calls + 1) (omega (arith, come.calls)) in
+    let onto : rest_run handed (rest_after (found handed by order set branches p (leaving handed g k))) a
+    (further handed by order set branches p (leaving handed g k))
+    ≡ rest_run handed rest a (after_moment (name.Worker g k ∷ []) x) =
+    λ i. rest_run handed (rest_after (found-same handed g k by order set branches p passes' i)) a (further-same handed g k by order set branches p passes' i) in
+    let w = come.passes a (same-before first (λ _. quiet) n (omega arith)) in
+    let tail = every-behind P w.0 _ (subst (AllByRecursion P) w.1 all) in
+    let one = subst (λ (ran : Ran). AllByRecursion P ran.passed) (runs-on handed by order set branches p a (leaving handed g k) at-first) tail in
+    let behind = subst (λ (ran : Ran). AllByRecursion P ran.passed) onto one.1.1 in
+    let join = joined-seen handed g k P rest ls next x a b more
+    (quiet-but first (x.calls + 1) (omega (arith, calls, come.calls)))
+    (at-event second (λ _. quiet) (x.calls + 1) (omega (arith, calls, come.calls)))
+    (λ m lt. quiet-but first m (omega (arith, lt, calls, come.calls)) ∙ sym (quiet-but second m (omega (arith, lt, calls, come.calls)))) there behind in
+    seen b (same-before second (λ _. quiet) n (omega arith))
+    (subst (λ (ran : Ran). AllByRecursion P ran.passed) (sym (runs-on handed by order set branches p b quiet before)) (here, (still, join)))
+
+-- What is known to be seen of an exit before the call that is due is so of the exit before the next one.
+pub seen-known-later : (run : Position) (due : Due) (after : Position) (p : Progress) (by : ℕ) (call : Call) (name : Name)
+    (q : ℕ) (found : Findings) → IsAt run p → AsksFor (trail_on run.course) due.by due.call → run.tried ≡ NothingTried →
+    IsLater run due quiet after → AsksFor (trail_on after.course) by call → passes_by due.call name ≡ true →
+    HasSeen run p found → IsSeenAt found p → IsSeenIn found after.kernel.table → IsWider found found →
+    AreSeen (subject_of run) found (One (event_at (run.made + 1) (Exit name q)) ∷ []) →
+    AreSeen (subject_of after) found (One (event_at (after.made + 1) (Exit name q)) ∷ [])
+seen-known-later run due after p by call (name.Worker g k) q found at asks tried is next passes seen here there wide all =
+    let r = run.state.now in
+    let to = run.target.now in
+    let T = trail_on run.course in
+    let e : Entry = record { by = due.by; call = due.call; answer = answer.Fine } in
+    let ask : Asks T.rest p.lacked e = subst (λ ks. Asks T.rest ks e) (sym (ap (λ (t : Trail). t.lacked) at.trail)) (asks answer.Fine) in
+    let then : Asks (rest_moved (handover_for r to) T.rest quiet p) (trail_on after.course).lacked (record { by = by; call = call; answer = answer.Fine }) =
+    subst (λ rest. Asks rest (trail_on after.course).lacked (record { by = by; call = call; answer = answer.Fine })) (is.rest p at) (next answer.Fine) in
+    let come = subst (λ (x : Tried). HasCome r to (turns_of run.course) run.first.now.table (pattern_of x) run.made T.rest (listed run.heir) p) tried at.come in
+    let onto : IsSeenIn found (after_due run quiet p).table = subst (IsSeenIn found) (sym (is.at p at).table) there in
+    let whole = later-exit-seen r to (turns_of run.course) run.first.now.table run.made (listed run.heir) T.rest p e _ _ g k q (IsSeenAt found) come ask passes then here here onto
+    (λ z same rest. seen found wide z (λ m le. same m le ∙ ap (λ (x : Tried). pattern_of x m) (sym tried)) rest) all.0 in (
+      subst (λ (s : Subject). AllByRecursion (IsSeenAt found) (passed_under s (One (event_at (after.made + 1) (Exit (name.Worker g k) q))))) (sym (same-subject run due quiet after is))
+          (subst (λ n. AllByRecursion (IsSeenAt found) (passed_under (subject_of run) (One (event_at (n + 1) (Exit (name.Worker g k) q))))) (sym is.made) whole),
+      tt,
+    )
+seen-known-later run due after p by call (name.Draining g k) q found at asks tried is next passes seen here there wide all = absurd (cc passes)
+seen-known-later run due after p by call (name.Master i) q found at asks tried is next passes seen here there wide all = absurd (cc passes)

@@ -1,6 +1,6 @@
 -- Process numbers rise in each table that a run comes to.
 use Rattle.std.proofs.Common.{◌≡◌, ◌≤◌, ◌+◌, ℕ, Bool, true, false, cond, List, [], ◌∷◌, Option, Some, None, refl, sym, subst, arith}
-use Rattle.std.specs.Prelude.{◌==◌, not, nat_lt, length, IfSome}
+use Rattle.std.specs.Prelude.{◌==◌, nat_lt, length, IfSome}
 use Rattle.std.specs.List.{filter_map, list_any}
 use Rattle.vocabulary.specs.declared.names.Name.{Name}
 use Rattle.vocabulary.specs.declared.names.Name.TheVariants as name

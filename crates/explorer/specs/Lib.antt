@@ -7,3 +7,6 @@ pub mod Branching
 pub mod Refusals
 pub mod Readiness
 pub mod Least
+pub mod Most
+pub mod Looking
+pub mod Searched

@@ -1,12 +1,12 @@
 -- Runs on their way.
-use Rattle.std.specs.Prelude.{ℕ, ◌≡◌, ◌≤◌, ◌<◌, ◌+◌, ◌^◌, ◌++◌, List, map, Option, Some, None}
+use Rattle.std.specs.Prelude.{ℕ, ◌≡◌, ◌≤◌, ◌<◌, ◌+◌, ◌^◌, ◌++◌, ◌∷◌, List, map, Option, Some, None}
 use Rattle.vocabulary.specs.declared.names.Name.{Name}
 use Rattle.vocabulary.specs.declared.plans.PidNote.{PidNote}
 use Rattle.vocabulary.specs.declared.targets.Target.{Target}
 use Rattle.handover_text.specs.Reading.{handed_by}
 use Rattle.definitions.specs.Table.{Table}
 use Rattle.definitions.specs.Master.{Record, sides_of, handover_for}
-use Rattle.definitions.specs.Calls.{after_exits, Handed}
+use Rattle.definitions.specs.Calls.{after_exits, step_with, Handed}
 use Rattle.plan_walk.specs.Path.{rest_after}
 use Rattle.call_laws.specs.Pieces.{branch, quiet, ends_at, answered, noted}
 use Rattle.definitions.specs.Run.{Tree, Ends, Does, reply_of, Moment, Pattern, Progress, start_at, Ran, Lost, run_with}
@@ -51,6 +51,8 @@ pub record HasCome (r : Record) (target : Target) (turns : List Turn) (t : Table
   pub meets : (q : Pattern) (e : Event) → IsSameUpTo n pattern q → n < e.number →
       met (handover_for r target) (Some e) q (heirs_of r target) 0 t (run_of r target turns q t).entries
       ≡ met (handover_for r target) (Some e) q heirs n p.table (rest_run (handover_for r target) rest q p).entries
+  pub passes : (q : Pattern) → IsSameUpTo n pattern q →
+      (before : List Progress) × ((run_of r target turns q t).passed ≡ before ++ (rest_run (handover_for r target) rest q p).passed)
 
 -- There is room for all calls that can be left.
 pub record IsFit (run : Position) : Type 0 where
@@ -121,6 +123,12 @@ pub record IsLater (before : Position) (due : Due) (moment : Moment) (after : Po
   pub at : (p : Progress) → IsAt before p → IsAt after (after_due before moment p)
   pub left : (p : Progress) (last : Option Event) → IsAt before p →
       left before p last ≡ open_now before due moment last ++ left after (after_due before moment p) last
+  pub table : after.kernel.table
+      ≡ (step_with (handed_by before.text.now) due.by due.call moment.fate (after_exits moment.exits before.kernel.table)).table
+  pub passes : (p : Progress) (q : Pattern) → IsAt before p → q (before.made + 1) ≡ moment →
+      (rest_run (handover_for before.state.now before.target.now) (trail_on before.course).rest q p).passed
+      ≡ p ∷ after_moment moment.exits p
+      ∷ (rest_run (handover_for before.state.now before.target.now) (trail_on after.course).rest q (after_due before moment p)).passed
 
 ---- Beginnings
 
@@ -137,6 +145,8 @@ pub record IsStartOf (t : Table) (r : Record) (target : Target) (turns : List Tu
   pub of : IsOf t r target turns run
   pub tried : run.tried ≡ Nothing
   pub meets : left run (start_at t r.note) None ≡ events_after r target turns t Nothing
+  pub whole : (q : Pattern) →
+      (run_of r target turns q t).passed ≡ (rest_run (handover_for r target) (trail_on run.course).rest q (start_at t r.note)).passed
 
 -- The process that exits at a call already, where there is one.
 abbrev pub moment_of : Option Name → Moment

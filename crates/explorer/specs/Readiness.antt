@@ -1,11 +1,14 @@
 -- How few workers serve on the way.
-use Rattle.std.specs.Prelude.{ℕ, ◌≤◌, ◌-◌, ◌^◌, min, nat_lt, Bool, false, ◌&&◌, List, [], ◌∷◌, Option, Some, None, unwrap_or, count_by, if◌then◌else◌}
+use Rattle.std.specs.Prelude.{ℕ, ◌≡◌, ◌≤◌, ◌-◌, ◌^◌, min, nat_lt, Bool, false, ◌&&◌, List, [], ◌∷◌, Option, Some, None, unwrap_or, is_some}
+use Rattle.std.specs.Prelude.{count_by, if◌then◌else◌}
 use Rattle.std.specs.List.{list_any, sum_by, AllByRecursion}
 use Rattle.std.specs.FinMap.{find}
-use Rattle.definitions.specs.Table.{Address, Process, Master, Worker, Foreign, Table, is_active, has_address, Generation}
-use Rattle.call_laws.specs.Pieces.{is_named, is_ready, is_live_with}
-use Rattle.definitions.specs.Calls.{Name}
-use Rattle.vocabulary.specs.declared.names.Name.TheVariants as name
+use Rattle.listener_set.specs.AddressList.{has}
+use Rattle.vocabulary.specs.declared.targets.Target.{Target}
+use Rattle.definitions.specs.Table.{Address, Process, Master, Worker, Foreign, Table, has_address, service}
+use Rattle.definitions.specs.Master.{Record, want}
+use Rattle.call_laws.specs.Pieces.{is_ready, is_live_with}
+use Rattle.definitions.specs.Calls.{Call, Fork, AwaitReady, Census, AwaitGone}
 use Rattle.kernel_service.specs.Services.{Services, address_cmp}
 
 -- a Ready worker that holds the address
@@ -36,16 +39,24 @@ fewest_from s least (a ∷ addresses) = fewest_from s (Some (fewer least a (list
 abbrev pub HaveAtLeast : List Address → Table → ℕ → Type 0
 HaveAtLeast addresses t low = AllByRecursion (λ a. low ≤ ready_at t a) addresses
 
--- No two Starting or Ready workers bear one name.
-abbrev pub AreNamedOnce : Table → Type 0
-AreNamedOnce t = (g : Generation) (k : ℕ) → count_by (is_named is_active g k) t.rows ≤ 1
+-- As many as that each address has at least after a call in which nothing goes wrong, if it had so many before.
+abbrev pub low_after : Call → ℕ → ℕ
+low_after (Fork g k fds) low = low
+low_after (AwaitReady g k) low = low
+low_after (Census g) low = low
+low_after (AwaitGone g k) low = low
+low_after _ low = 0
 
--- As many as that each address has at least after an exit, if it had so many before.
-abbrev pub low_without : Name → ℕ → ℕ
-low_without (name.Worker g k) low = low - 1
-low_without (name.Draining g k) low = low
-low_without (name.Master i) low = 0
+---- Which addresses are looked at
 
-abbrev pub low_after_exits : List Name → ℕ → ℕ
-low_after_exits [] low = low
-low_after_exits (e ∷ es) low = low_after_exits es (low_without e low)
+-- These are the addresses that both lists have.
+abbrev pub AreShared : Services → Services → List Address → Type 0
+AreShared s wanted addresses = (a : Address) → has addresses a ≡ (is_some (find address_cmp a s) && is_some (find address_cmp a wanted))
+
+-- an address of both services: the table's, and the one that the target wants
+abbrev pub is_common : Table → Record → Target → Address → Bool
+is_common t r target a = is_some (service t a) && is_some (want r target a)
+
+-- These are the addresses of both services, and no other.
+abbrev pub AreCommon : Table → Record → Target → List Address → Type 0
+AreCommon t r target addresses = (a : Address) → has addresses a ≡ is_common t r target a

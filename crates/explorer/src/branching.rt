@@ -20,8 +20,6 @@ pub(crate) struct BranchPoint<'a, 'b> {
     pub(crate) due: &'a Due,
     /// What is known of the runs that branch off here.
     pub(crate) known: &'a [Known],
-    /// Each address that both services name has at least so many Ready workers before the call.
-    pub(crate) low: u32,
 }
 
 impl<'b> BranchPoint<'_, 'b> {

@@ -6,13 +6,13 @@ ghost use Rattle.explorer.specs.Events.{pattern_of};
 ghost use Rattle.explorer.specs.Tallies.{counted};
 ghost use Rattle.explorer.specs.Positions.{IsFit, IsAt, IsQuietFrom};
 ghost use Rattle.explorer.specs.Branching.{AreCounted};
-ghost use Rattle.explorer.specs.Readiness.{low_after_exits};
-ghost use Rattle.explorer.specs.Least.{exits_between, HasLow, IsSeenBetween, IsLeastBetween};
+ghost use Rattle.explorer.specs.Looking.{exits_between, IsLookedBetween, IsSeenBetween, IsSameSo};
+ghost use Rattle.explorer.specs.Searched.{AreSearched};
 
 use crate::branching::BranchPoint;
 use crate::effects;
 use crate::events::{Mishap, Tried};
-use crate::findings::{Findings, low_after, low_without};
+use crate::findings::Findings;
 use crate::position::Position;
 use kernel_model::Kernel;
 use std::alloc::AllocError;
@@ -53,7 +53,8 @@ pub(crate) fn count_report<A: Audience>(
     found: &mut Findings,
     audience: &mut A,
 ) -> Result<(), ExploreRefusal>
-    ensures { OnOk result (found.new.tally ≡ counted tried.now report.now.outcome found.old.tally) }
+    ensures counted { OnOk result (found.new.tally ≡ counted tried.now report.now.outcome found.old.tally) }
+    ensures same { IsSameSo found.old found.new }
 {
     found.tally.count(tried, &report.outcome)?;
     if audience.hear(tried, report) {
@@ -63,35 +64,23 @@ pub(crate) fn count_report<A: Audience>(
     }
 }
 
-/// Carries out the rest of a run, in which nothing more goes wrong, and counts the run. Each address that both services name
-/// has at least `low` Ready workers before it.
+/// Carries out the rest of a run, in which nothing more goes wrong, and counts the run.
 pub(crate) fn count_run<A: Audience>(
     run: Position<'_>,
-    low: u32,
     found: &mut Findings,
     audience: &mut A,
 ) -> Result<(), ExploreRefusal>
     requires fit { IsFit run }
     requires quiet { IsQuietFrom run.made (pattern_of run.tried) }
-    ensures { (p : Progress) → IsAt run.entry p → OnOk result (AreCounted run.entry (run.entry.tried ∷ []) found.old.tally found.new.tally) }
+    ensures counted { (p : Progress) → IsAt run.entry p → OnOk result (AreCounted run.entry (run.entry.tried ∷ []) found.old.tally found.new.tally) }
+    ensures searched { (p : Progress) → IsAt run.entry p → OnOk result (AreSearched run.entry p (run.entry.tried ∷ []) found.old found.new) }
 {
     if !audience.wants_more() {
         return Err(ExploreRefusal::Enough);
     }
     let tried = run.tried;
-    let report = run.finish(low, found)?;
+    let report = run.finish(found)?;
     count_report(&tried, &report, found, audience)
-}
-
-/// How many Ready workers each address has at least after this exit, if it had so many before and `gone`, where it is given,
-/// exits first.
-fn low_between(gone: Option<Name>, name: Name, low: u32) -> u32
-    ensures { result ≡ low_after_exits (exits_between gone name) low }
-{
-    match gone {
-        Some(gone) => low_without(name, low_without(gone, low)),
-        None => low_without(name, low),
-    }
 }
 
 /// The kernel after these exits.
@@ -110,34 +99,23 @@ fn kernel_between(
 }
 
 /// Looks at the table between the exits of a moment and its call: this mishap happens at the call that is due and, if `gone` is
-/// given, that process exits first. Gives how many Ready workers each address has at least after the call.
-///
-/// Whoever exits first, none of the addresses has fewer workers in between than the fewest that are found, and what is found
-/// there is told of this run and of the number of calls before.
+/// given, that process exits first. What is found there is told of this run and of the number of calls before. A call that
+/// fails has no such table of its own.
 pub(crate) fn look_between(
     point: &BranchPoint<'_, '_>,
     gone: Option<Name>,
     mishap: Mishap,
     tried: &Tried,
     found: &mut Findings,
-) -> Result<u32, AllocError>
+) -> Result<(), AllocError>
     ensures tally { found.new.tally ≡ found.old.tally }
-    ensures least { IsLeastBetween point.now gone mishap tried.now found.old found.new }
-    ensures seen { HasLow point.now found.old → OnOk result (IsSeenBetween point.now gone mishap found.new) }
+    ensures looked { IsLookedBetween point.now gone mishap tried.now found.old found.new }
+    ensures seen { OnOk result (IsSeenBetween point.now gone mishap found.new) }
 {
     let (run, due) = (point.run, point.due);
-    let Mishap::Exit(name, _) = mishap else {
-        let low = match gone {
-            Some(gone) => low_without(gone, point.low),
-            None => point.low,
-        };
-        return Ok(low_after(&due.call, low));
-    };
-    let low = low_between(gone, name, point.low);
-    if !found.may_have_fewer(low) {
-        return Ok(low_after(&due.call, low));
+    if let Mishap::Exit(name, _) = mishap {
+        let kernel = kernel_between(&run.kernel, due.by, gone, name)?;
+        let _ready = found.look(&kernel, 0, tried, run.made)?;
     }
-    let kernel = kernel_between(&run.kernel, due.by, gone, name)?;
-    let low = found.look(&kernel, low, tried, run.made)?;
-    Ok(low_after(&due.call, low))
+    Ok(())
 }

@@ -9,8 +9,9 @@ ghost use Rattle.explorer.specs.Events.{pattern_of};
 ghost use Rattle.explorer.specs.Explored.{all_tried, most_events, AreOnce, explored_from};
 ghost use Rattle.explorer.specs.Known.{IsPassed};
 ghost use Rattle.explorer.specs.Positions.{IsFit, IsAt, IsSameUpTo, left, moment_of};
-ghost use Rattle.explorer.specs.Branching.{IsDue, AreKnown, report_of_run, report_with, runs_with, runs_with_each, pairs_here, pairs_beside, AreCounted, AreCountedHere, AreAllCounted};
+ghost use Rattle.explorer.specs.Branching.{IsDue, AreKnown, report_of_run, report_with, runs_with, runs_with_each, runs_with_all, pairs_here, pairs_beside, AreCounted, AreCountedHere, AreAllCounted};
 ghost use Rattle.explorer.specs.Refusals.{IsRefusedAlways};
+ghost use Rattle.explorer.specs.Searched.{AreFewest, AreMost, AreSearched, AreSearchedBehind, AreSearchedBeside, AreSearchedHere, ArePassedSeen, subject_in};
 
 use crate::branching::BranchPoint;
 use crate::counting::{Audience, ExploreRefusal, count_report, count_run, look_between};
@@ -94,13 +95,14 @@ fn count_pair<A: Audience>(
     requires tried { IsSameUpTo point.now.run.now.made (pattern_of point.now.run.now.tried) (pattern_of (Tried.One first)) }
     requires first { first.number ≤ point.now.run.now.made + 1 }
     requires moment { pattern_of (Tried.One first) (point.now.run.now.made + 1) ≡ moment_of gone }
-    ensures { (p : Progress) → IsAt point.now.run.now p → OnOk result (AreCountedHere point.now (pairs_here point.now first (mishap ∷ [])) found.old.tally found.new.tally) }
+    ensures counted { (p : Progress) → IsAt point.now.run.now p → OnOk result (AreCountedHere point.now (pairs_here point.now first (mishap ∷ [])) found.old.tally found.new.tally) }
+    ensures searched { (p : Progress) → IsAt point.now.run.now p → OnOk result (AreSearchedBehind point.now.run.now p gone (pairs_here point.now first (mishap ∷ [])) found.old found.new) }
 {
     let number = point.run.made + 1;
     let tried = Tried::Two(first, Event { number, mishap });
-    let after = look_between(point, gone, mishap, &tried, found)?;
+    look_between(point, gone, mishap, &tried, found)?;
     let branch = point.branch(tried, gone, mishap)?;
-    count_run(branch, after, found, audience)
+    count_run(branch, found, audience)
 }
 
 /// Counts the runs with one of these mishaps, too, at the call that is due.
@@ -117,7 +119,8 @@ fn count_pairs<A: Audience>(
     requires tried { IsSameUpTo point.now.run.now.made (pattern_of point.now.run.now.tried) (pattern_of (Tried.One first)) }
     requires first { first.number ≤ point.now.run.now.made + 1 }
     requires moment { pattern_of (Tried.One first) (point.now.run.now.made + 1) ≡ moment_of gone }
-    ensures { (p : Progress) → IsAt point.now.run.now p → OnOk result (AreCountedHere point.now (pairs_here point.now first mishaps.now) found.old.tally found.new.tally) }
+    ensures counted { (p : Progress) → IsAt point.now.run.now p → OnOk result (AreCountedHere point.now (pairs_here point.now first mishaps.now) found.old.tally found.new.tally) }
+    ensures searched { (p : Progress) → IsAt point.now.run.now p → OnOk result (AreSearchedBehind point.now.run.now p gone (pairs_here point.now first mishaps.now) found.old found.new) }
 {
     for mishap in mishaps {
         count_pair(point, first, gone, *mishap, found, audience)?;
@@ -137,7 +140,8 @@ fn count_beside<A: Audience>(
     requires due { IsDue point.now }
     requires tried { point.now.run.now.tried ≡ Tried.Nothing }
     requires first { first.number ≡ point.now.run.now.made + 1 }
-    ensures { (p : Progress) → IsAt point.now.run.now p → OnOk result (AreCountedHere point.now (pairs_beside point.now first) found.old.tally found.new.tally) }
+    ensures counted { (p : Progress) → IsAt point.now.run.now p → OnOk result (AreCountedHere point.now (pairs_beside point.now first) found.old.tally found.new.tally) }
+    ensures searched { (p : Progress) → IsAt point.now.run.now p → OnOk result (AreSearchedBeside point.now.run.now p (Tried.One first) (pairs_beside point.now first) found.old found.new) }
 {
     let (run, due) = (point.run, point.due);
     match first.mishap {
@@ -162,16 +166,16 @@ fn count_later<A: Audience>(
     requires fit { IsFit run }
     requires tried { run.tried ≡ Tried.One first }
     requires first { first.number ≤ run.made }
-    ensures { (p : Progress) → IsAt run.entry p → OnOk result (AreCounted run.entry (map (Tried.Two first) (left run.entry p (Some first))) found.old.tally found.new.tally) }
+    ensures counted { (p : Progress) → IsAt run.entry p → OnOk result (AreCounted run.entry (map (Tried.Two first) (left run.entry p (Some first))) found.old.tally found.new.tally) }
+    ensures searched { (p : Progress) → IsAt run.entry p → OnOk result (AreSearched run.entry p (map (Tried.Two first) (left run.entry p (Some first))) found.old found.new) }
 {
     while let Some(due) = run.due() {
-        let low = found.look(&run.kernel, 0, &run.tried, run.made)?;
+        let _ready = found.look(&run.kernel, 0, &run.tried, run.made)?;
         let mishaps = run.mishaps(alloc, &due, 0)?;
         let point = BranchPoint {
             run: &run,
             due: &due,
             known: &[],
-            low,
         };
         count_pairs(&point, first, None, &mishaps, found, audience)?;
         run.make(&due, &[], None);
@@ -192,17 +196,18 @@ fn rest_of_run(
     requires number { event.number ≡ point.now.run.now.made + 1 }
     ensures report { (p : Progress) → IsAt point.now.run.now p → AreKnown point.now → IfOk result (λ rest. rest.report ≡ report_of_run point.now.run.now (Tried.One event)) }
     ensures found { found.new.tally ≡ found.old.tally }
+    ensures searched { (p : Progress) → IsAt point.now.run.now p → OnOk result (AreSearchedHere point.now p (Tried.One event ∷ []) found.old found.new) }
 {
-    let tried = Tried::One(event);
-    let after = look_between(point, None, event.mishap, &tried, found)?;
     if let Some(rest) = known::find(point.known, event.mishap) {
+        found.pass(rest.tables);
         let tables = rest.tables.saturating_sub(1);
-        found.pass(tables);
         return Ok(RestOfRun { tables, ..rest });
     }
+    let tried = Tried::One(event);
+    look_between(point, None, event.mishap, &tried, found)?;
     let whole = point.branch(tried, None, event.mishap)?;
     let before = found.tables;
-    let report = whole.finish(after, found)?;
+    let report = whole.finish(found)?;
     let tables = found.tables.saturating_sub(before);
     Ok(RestOfRun { report, tables })
 }
@@ -222,6 +227,7 @@ fn count_with_pairs<A: Audience>(
     requires tried { point.now.run.now.tried ≡ Tried.Nothing }
     ensures report { (p : Progress) → IsAt point.now.run.now p → AreKnown point.now → IfOk result (λ rest. rest.report ≡ report_with point.now mishap) }
     ensures counted { (p : Progress) → IsAt point.now.run.now p → AreKnown point.now → OnOk result (AreCountedHere point.now (runs_with point.now pairs mishap) found.old.tally found.new.tally) }
+    ensures searched { (p : Progress) → IsAt point.now.run.now p → OnOk result (AreSearchedHere point.now p (runs_with point.now pairs mishap) found.old found.new) }
 {
     if !audience.wants_more() {
         return Err(ExploreRefusal::Enough);
@@ -254,6 +260,8 @@ fn count_all_with_pairs<A: Audience>(
     requires tried { point.now.run.now.tried ≡ Tried.Nothing }
     ensures known { (p : Progress) → IsAt point.now.run.now p → AreKnown point.now → IfOk result (λ next. AllByRecursion (IsPassed point.now.run.now point.now.due.now.call) next.items) }
     ensures counted { (p : Progress) → IsAt point.now.run.now p → AreKnown point.now → OnOk result (AreAllCounted point.now pairs mishaps.now found.old.tally found.new.tally) }
+    ensures searched { (p : Progress) → IsAt point.now.run.now p → OnOk result (AreSearchedHere point.now p (runs_with_all point.now pairs mishaps.now) found.old found.new) }
+    ensures passed { (p : Progress) → IsAt point.now.run.now p → IfOk result (λ next. ArePassedSeen point.now p found.old found.new next.items) }
 {
     let mut next = Vec::new(alloc);
     for mishap in mishaps {
@@ -276,17 +284,17 @@ fn count_events<A: Audience>(
 ) -> Result<(), ExploreRefusal>
     requires fit { IsFit run }
     requires tried { run.tried ≡ Tried.Nothing }
-    ensures { (p : Progress) → IsAt run.entry p → OnOk result (AreCounted run.entry (runs_with_each run.entry pairs (left run.entry p None)) found.old.tally found.new.tally) }
+    ensures counted { (p : Progress) → IsAt run.entry p → OnOk result (AreCounted run.entry (runs_with_each run.entry pairs (left run.entry p None)) found.old.tally found.new.tally) }
+    ensures searched { (p : Progress) → IsAt run.entry p → OnOk result (AreSearched run.entry p (runs_with_each run.entry pairs (left run.entry p None)) found.old found.new) }
 {
     let mut known = Vec::new(alloc);
     while let Some(due) = run.due() {
-        let low = found.look(&run.kernel, 0, &run.tried, run.made)?;
+        let _ready = found.look(&run.kernel, 0, &run.tried, run.made)?;
         let mishaps = run.mishaps(alloc, &due, 0)?;
         let point = BranchPoint {
             run: &run,
             due: &due,
             known: &known,
-            low,
         };
         known = count_all_with_pairs(alloc, &point, &mishaps, pairs, found, audience)?;
         run.make(&due, &[], None);
@@ -297,7 +305,8 @@ fn count_events<A: Audience>(
 /// Counts the run of a target under no event, and a run for each event that this run meets: each exit that matters
 /// before one of its calls, and each failure of the call that takes effect; where pairs are asked for, also a run for each
 /// pair of these of which the run with the first one meets the second. All runs are by the same turns. Each report is that of
-/// `enact` in the section of these turns and the pattern.
+/// `enact` in the section of these turns and the pattern. In all tables of all runs it finds the fewest Ready workers of an address
+/// that both services name, and the most workers that live at once.
 ///
 /// The audience hears of each run, and may end them. What was counted until then, or until memory was refused, stays
 /// counted. A target is refused exactly where `enact` refuses it in whatever section, and so: E2, E3, E5. Want of memory
@@ -310,6 +319,8 @@ pub fn explore<A: Audience>(
 ) -> Result<(), Unexplored>
     requires { IsTarget search.now.target.now }
     ensures counted { OnOk result (found.new.tally ≡ explored_from search.now.state.now search.now.target.now search.now.turns.now search.now.kernel.now.table search.now.pairs found.old.tally) }
+    ensures least { OnOk result (AreFewest (subject_in search.now) search.now.pairs found.old found.new) }
+    ensures most { OnOk result (AreMost (subject_in search.now) search.now.pairs found.old found.new) }
     ensures once { OnOk result (AreOnce (most_events search.now.pairs) (all_tried search.now.state.now search.now.target.now search.now.turns.now search.now.kernel.now.table search.now.pairs)) }
     ensures exact { (why : Refusal)
         → IsErrOf result (Unexplored.Enact EnactRefusal.Memory) ⊎ (IsErrOf result (Unexplored.Enact why) ↔ IsRefusedAlways search.now why) }
@@ -330,7 +341,7 @@ pub fn explore<A: Audience>(
     let whole = Position::start(kernel, state, target, turns, &plan)?;
     let run = Position::start(kernel, state, target, turns, &plan)?;
     found.begin(common);
-    count_run(whole, 0, found, audience)?;
+    count_run(whole, found, audience)?;
     count_events(alloc, run, pairs, found, audience)?;
     Ok(())
 }

@@ -15,5 +15,5 @@ mod tally;
 pub use counting::Audience;
 pub use events::{Event, Mishap, Tried};
 pub use exploring::{Search, Unexplored, explore};
-pub use findings::{Findings, Least};
+pub use findings::{Findings, Least, Most};
 pub use tally::{Ended, Tally};

@@ -1,5 +1,5 @@
 //! Runs on their way.
-ghost use Rattle.std.specs.Prelude.{◌≡◌, ◌≤◌, ◌<◌, ◌+◌, ◌⊎◌, IsTrue, IfOk, IfErr, IfSome, IfNone};
+ghost use Rattle.std.specs.Prelude.{◌≡◌, ◌≤◌, ◌<◌, ◌+◌, ◌⊎◌, ◌∷◌, [], IsTrue, IfOk, IfErr, IfSome, IfNone};
 ghost use Rattle.definitions.specs.Calls.{after_exits};
 ghost use Rattle.definitions.specs.Calls.{step_with};
 ghost use Rattle.call_replies.specs.Replies.{is_listed};
@@ -16,6 +16,7 @@ ghost use Rattle.plan_executor.specs.Prepared.{IsPlanFor};
 ghost use Rattle.explorer.specs.Events.{pattern_of, mishaps_at, waiting};
 ghost use Rattle.explorer.specs.Positions.{IsFit, IsAt, IsQuietFrom, IsStartOf, IsLater};
 ghost use Rattle.explorer.specs.Branching.{report_of_run};
+ghost use Rattle.explorer.specs.Searched.{AreSearched};
 
 use crate::effects;
 use crate::events::{Mishap, Tried};
@@ -137,14 +138,15 @@ impl<'a> Position<'a> {
     }
 
     /// Makes all calls that are left, in whose moments nothing goes wrong, and gives the report of the run. What is found
-    /// on the way is noted; each address has at least so many Ready workers before them.
-    pub(crate) fn finish(mut self, low: u32, found: &mut Findings) -> Result<Report, AllocError>
+    /// on the way is noted.
+    pub(crate) fn finish(mut self, found: &mut Findings) -> Result<Report, AllocError>
         requires fit { IsFit self }
         requires quiet { IsQuietFrom self.made (pattern_of self.tried) }
         ensures report { (p : Progress) → IsAt self.entry p → IfOk result (λ report. report ≡ report_of_run self.entry self.entry.tried) }
         ensures found { found.new.tally ≡ found.old.tally }
+        ensures searched { (p : Progress) → IsAt self.entry p → IfOk result (λ _. AreSearched self.entry p (self.entry.tried ∷ []) found.old found.new) }
     {
-        let mut low = found.look(&self.kernel, low, &self.tried, self.made)?;
+        let mut low = found.look(&self.kernel, 0, &self.tried, self.made)?;
         while let Some(due) = self.due() {
             self.make(&due, &[], None);
             let after = low_after(&due.call, low);

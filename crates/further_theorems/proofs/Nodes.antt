@@ -1,20 +1,21 @@
 -- What holds of each step of a plan and of each end, piece by piece.
-use Rattle.std.proofs.Common.{◌≡◌, ℕ, zero, suc, List, [], ◌∷◌, refl, map}
-use Rattle.std.specs.Prelude.{⊤}
+use Rattle.std.proofs.Common.{◌≡◌, ℕ, zero, suc, Bool, true, false, not, List, [], ◌∷◌, refl, map, reverse}
+use Rattle.std.specs.Prelude.{⊤, ◌&&◌, if◌then◌else◌}
 use Rattle.std.specs.List.{AllByRecursion}
 use Rattle.listener_set.specs.declared.generation.Generation.{Generation}
 use Rattle.vocabulary.specs.declared.plans.Side.{Side}
 use Rattle.vocabulary.specs.declared.plans.Turn.{Turn}
 use Rattle.vocabulary.specs.declared.plans.Turn.TheVariants.{New, Old}
 use Rattle.definitions.specs.Table.{Address}
-use Rattle.definitions.specs.Calls.{Call, OpenAt, AwaitReady, Kill, Census, AwaitGone}
+use Rattle.definitions.specs.Calls.{Call, OpenAt, AwaitReady, Quit, Kill, Census, AwaitGone, Ask}
 use Rattle.definitions.specs.Master.{Crew, fork_of}
 use Rattle.definitions.specs.Run.{Tree, Branches, Ends, Does, Nothing, Branch, Order, Make, ForkLacking, AwaitLacking}
 use Rattle.definitions.specs.Run.{KillLacking, End}
 use Rattle.definitions.specs.Plans.{tells, round, settle, full_end, short_end, forks, awaits, starts, forks_any}
 use Rattle.definitions.specs.Plans.{awaits_any, starts_any}
 use Rattle.definitions.specs.Plans.{awaits_gone, opens, graft, graft_all, beside, beside_all, weave, weave_all}
-use Rattle.definitions.specs.Plans.{tries_all}
+use Rattle.definitions.specs.Plans.{tries_all, asks, Step, Rollout, quits_new, taken_back, in_steps, last_step}
+use Rattle.definitions.specs.Plans.{reload_on, closes_opened, only_in, stepped_tree}
 
 -- each step passes, with its edges, and so does each end
 abbrev mutual
@@ -157,6 +158,81 @@ module _ (P : ℕ → Order → Branches → Type 0) (E : End → Type 0) where
       Nodes P E rest → Nodes P E back → Nodes P E (tries_all by calls rest back)
   n-tries-all by [] rest back all h b = h
   n-tries-all by (c ∷ cs) rest back all h b = (all.0 _, (n-tries-all by cs rest back all.1 h b, (b, tt)))
+
+  ---- A reload in steps
+
+  -- all that the steps of a reload ask for, beside the starts and waits by number
+  pub record Renews (by : ℕ) (old new : Generation) : Type 0 where
+    pub quits_old : (k : ℕ) → Always by (Make (Quit old k))
+    pub quits_new : (k : ℕ) → Always by (Make (Quit new k))
+    pub counts : Always by (Make (Census new))
+    pub asks : Always by (Make (Ask 1))
+
+  module _ (by : ℕ) (old new : Crew) (before : Numbers by old.generation) (after : Numbers by new.generation)
+      (renews : Renews by old.generation new.generation) where
+    n-quits-new : (waits : Bool) (numbers : List ℕ) (back : Tree) (forked : List ℕ) → Nodes P E back →
+        Nodes P E (quits_new by new waits numbers back forked)
+    n-quits-new waits numbers back forked h =
+        n-tells by (map (Quit new.generation) forked) _ (n-map by (Quit new.generation) forked renews.quits_new)
+        (waited waits)
+      where
+        waited : (b : Bool) →
+            Nodes P E (if b then awaits_gone by new.generation (reverse numbers) back else back)
+        waited true = n-gone by new.generation (reverse numbers) back after h
+        waited false = h
+
+    n-asks : (asked : Bool) (on_go on_back : Tree) → Nodes P E on_go → Nodes P E on_back → Nodes P E
+        (asks asked by 1 on_go on_back)
+    n-asks true on_go on_back h k = (renews.asks _, (h, (k, tt)))
+    n-asks false on_go on_back h k = h
+
+    n-in-steps :
+        (asked first : Bool) (steps : List Step) (last : Bool → Tree → Tree) (back : Tree) →
+        ((first : Bool) (back : Tree) → Nodes P E back → Nodes P E (last first back)) → Nodes P E back →
+        Nodes P E (in_steps asked first by old new steps last back)
+    n-in-steps asked first [] last back ending h = ending first back h
+    n-in-steps asked first (step ∷ steps) last back ending h =
+        n-starts by new step.starts _ (quits_new by new (not first) step.starts back) after
+        (n-asks (asked && first) _ _
+        (n-tells by (map (Quit old.generation) (reverse step.quits)) _
+        (n-map by (Quit old.generation) (reverse step.quits) renews.quits_old)
+        (n-gone by old.generation (reverse step.quits) _ before
+        (n-in-steps asked false steps last (taken_back by old new (not first) step back) ending
+        (n-starts-any by old step.quits _ before
+        (n-quits-new (not first) step.starts back (reverse step.starts) h)))))
+        (n-quits-new (not first) step.starts back (reverse step.starts) h))
+        (λ forked. n-quits-new (not first) step.starts back forked h)
+
+    n-last-step :
+        (asked : Bool) (numbers left : List ℕ) (retries : ℕ) (dropped : List Address) (n : ℕ) (first : Bool)
+        (back : Tree) → Nodes P E (reload_on by old new left retries dropped n) → Nodes P E back →
+        Nodes P E (last_step asked by old new numbers left retries dropped n first back)
+    n-last-step asked numbers left retries dropped n first back on h =
+        let undone : (forked : List ℕ) → Nodes P E (quits_new by new (not first) numbers back forked) =
+        λ forked. n-quits-new (not first) numbers back forked h in
+        n-starts by new numbers _ (quits_new by new (not first) numbers back) after
+        (renews.counts _, (n-asks (asked && first) _ _ on (undone (reverse numbers)), (undone (reverse numbers), tt)))
+        undone
+
+    pub n-stepped :
+        (asked : Bool) (ready : List ℕ) (retries : ℕ) (held wanted : List Address) (n : ℕ) (rollout : Rollout) →
+        AllByRecursion (λ a. Always by (Make (OpenAt a))) (only_in wanted held) → (Q : Address → Type 0) →
+        AllByRecursion Q (only_in wanted held) →
+        Nodes P E (reload_on by old new rollout.left retries (only_in held wanted) n) →
+        ((opened : List Address) → AllByRecursion Q opened → Nodes P E (closes_opened by old ready retries opened)) →
+        Nodes P E (stepped_tree asked by old new ready retries held wanted n rollout)
+    n-stepped asked ready retries held wanted n rollout all Q q on back =
+        n-opens by (only_in wanted held) []
+        (λ opened. in_steps asked true by old new rollout.steps
+        (last_step asked by old new rollout.last rollout.left retries (only_in held wanted) n)
+        (closes_opened by old ready retries opened))
+        (closes_opened by old ready retries) all Q q tt
+        (λ opened o. n-in-steps asked true rollout.steps
+        (last_step asked by old new rollout.last rollout.left retries (only_in held wanted) n)
+        (closes_opened by old ready retries opened)
+        (λ first back h. n-last-step asked rollout.last rollout.left retries (only_in held wanted) n first back on h)
+        (back opened o))
+        back
 
   ---- Two parts side by side, of which each step passes whatever its edges are
 

@@ -22,7 +22,7 @@ use Rattle.definitions.specs.Master.{Crew, crew_of, addresses_of, generation_wan
 use Rattle.definitions.specs.After.{crew_wanted}
 use Rattle.definitions.specs.Run.{Tree, Branches, Ends, Does, Nothing, Branch, Order, Make, End, Reply, Pattern, Progress}
 use Rattle.definitions.specs.Run.{Ran, run_with, goes_with, call_of, lacked_by, after_moment, after_call, reply_of, start_at}
-use Rattle.definitions.specs.Plans.{tells, either, settle, starts, plan_tree, reload_on, reload_back, only_in}
+use Rattle.definitions.specs.Plans.{tells, settle, plan_tree, rollout_of, only_in}
 use Rattle.definitions.specs.Claims.{has_ready, one_then, is_quit, is_wait, is_late, is_leave_call, was_late, IsKillDue}
 use Rattle.definitions.specs.Claims.{KillsAreDue, LeavesLast, before_leave, IsStart, KeepsPromise, run_of}
 use Rattle.call_laws.specs.Pieces.{among, noted, answered, was_waited_for}
@@ -40,7 +40,7 @@ use Rattle.further_theorems.specs.Proper.{IsProperFor}
 use Rattle.further_theorems.specs.Named.{is_at, takes_ready, takes_draining}
 use Rattle.further_theorems.specs.Peace.{is_by, is_kill, Seen, seen_after, ends_gently, IsGentle, EndsInPeace, AllEndInPeace}
 use Rattle.further_theorems.specs.Peace.{KeepsPeace, WorkersEndInPeace}
-use Rattle.further_theorems.proofs.Nodes.{Nodes, NodesAll, Settles, Numbers, n-tells, n-map, n-settle, n-starts, n-opens, Always}
+use Rattle.further_theorems.proofs.Nodes.{Nodes, NodesAll, Settles, Numbers, n-tells, n-map, n-settle, n-starts, n-opens, n-stepped, Always}
 use Rattle.further_theorems.proofs.Proper.{Right, Any, All, plan-proper}
 use Rattle.further_theorems.proofs.Named.{at, by-name, head-behind}
 use Rattle.further_theorems.proofs.OneProcess.{Serves, Drains, HasEnded, Ours, Images, is_it, Knows, Fits}
@@ -160,23 +160,21 @@ module _ (r : Record) where
   reload-stays : (s : Settings) (turns : List Turn) → NobodyLeaves (plan_tree r (Reload s) turns)
   reload-stays s turns =
       let fresh = crew_wanted r (Reload s) in
-      let S = numbers_below s.workers in
-      let old_settle = settle old (crew_of r) r.ready side.Old r.retries in
+      let rollout = rollout_of r s s.surge in
       let dropped = only_in (addresses_of r) s.listeners in
-      let ending = settle old fresh S side.Target r.retries in
-      let back : List Address → List ℕ → Tree = λ opened forked. reload_back old (crew_of r) fresh r.ready r.retries opened forked in
-      let back_stays : (opened : List Address) (forked : List ℕ) → NobodyLeaves (back opened forked) =
-      λ opened forked. quitted old fresh.generation forked (tells old (map CloseAt opened) old_settle) (closing old opened old_settle (settled old (crew_of r) r.ready side.Old r.retries)) in
-      let counted : List Address → Tree = λ opened.
-      either old (Census fresh.generation) S (reload_on old (crew_of r) fresh r.ready r.retries dropped s.workers) (back opened (reverse S)) in
-      let onward : NobodyLeaves (reload_on old (crew_of r) fresh r.ready r.retries dropped s.workers) =
-      quitted old r.generation (reverse r.ready) (tells old (map CloseAt dropped) ending) (closing old dropped ending (settled old fresh S side.Target r.retries)) in
-      n-opens Stays Whatever old (only_in s.listeners (addresses_of r)) []
-      (λ opened. starts old fresh S (counted opened) (back opened)) (λ opened. tells old (map CloseAt opened) old_settle)
-      (every-any-open (only_in s.listeners (addresses_of r))) (λ a. ⊤) (every-any (only_in s.listeners (addresses_of r))) tt
-      (λ opened all. n-starts Stays Whatever old fresh S (counted opened) (back opened) (starting old fresh.generation)
-      ((λ lacking. refl), (onward, (back_stays opened (reverse S), tt))) (back_stays opened))
-      (λ opened all. closing old opened old_settle (settled old (crew_of r) r.ready side.Old r.retries))
+      let ending = settle old fresh (numbers_below s.workers) side.Target r.retries in
+      let added = only_in s.listeners (addresses_of r) in
+      n-stepped Stays Whatever old (crew_of r) fresh (starting old r.generation) (starting old fresh.generation)
+      (record {
+        quits_old = λ k bs lacking. refl;
+        quits_new = λ k bs lacking. refl;
+        counts = λ bs lacking. refl;
+        asks = λ bs lacking. refl;
+      })
+      false r.ready r.retries (addresses_of r) s.listeners s.workers rollout (every-any-open added) (λ a. ⊤) (every-any added)
+      (quitted old r.generation (reverse rollout.left) (tells old (map CloseAt dropped) ending)
+      (closing old dropped ending (settled old fresh (numbers_below s.workers) side.Target r.retries)))
+      (λ opened all. closing old opened (settle old (crew_of r) r.ready side.Old r.retries) (settled old (crew_of r) r.ready side.Old r.retries))
     where
       every-any-open : (l : List Address) → AllByRecursion (λ a. Always Stays Whatever old (Make (OpenAt a))) l
       every-any-open [] = tt

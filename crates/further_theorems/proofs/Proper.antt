@@ -24,7 +24,7 @@ use Rattle.definitions.specs.Run.{Tree, Branches, Ends, Does, Nothing, Branch, O
 use Rattle.definitions.specs.Run.{Ran, run_with, goes_with}
 use Rattle.definitions.specs.Run.{JoinReady, call_of, lacked_by, after_moment, after_call, reply_of, start_at}
 use Rattle.definitions.specs.Plans.{tells, settle, only_in, removes, remove_oldbin_too, has_oldbin, stopped, plan_tree}
-use Rattle.definitions.specs.Plans.{reload_back, starts}
+use Rattle.definitions.specs.Plans.{rollout_of}
 use Rattle.definitions.specs.Plans.{move_aside, move_back, remove_oldbin, back_alone, back_from, back_late}
 use Rattle.definitions.specs.Plans.{back_serving, asks, hand_over, retire}
 use Rattle.definitions.specs.Plans.{reload_on, starts_any, awaits_gone, relieve, taken_over, joined, new_calls}
@@ -34,7 +34,7 @@ use Rattle.table_laws.proofs.Rows.{every-more, or-left, or-right}
 use Rattle.table_laws.proofs.Addresses.{address-refl}
 use Rattle.further_theorems.specs.Proper.{own_files, IsOfOwn, IsProperFor}
 use Rattle.further_theorems.proofs.Nodes.{Nodes, Always, Settles, Numbers, PartNodes, n-tells, n-map, n-settle}
-use Rattle.further_theorems.proofs.Nodes.{n-starts}
+use Rattle.further_theorems.proofs.Nodes.{n-starts, n-stepped}
 use Rattle.further_theorems.proofs.Nodes.{n-starts-any, n-gone, n-opens, n-tries-all, n-weave}
 
 ---- Addresses of which one list has what another lacks
@@ -243,36 +243,28 @@ module _ (r : Record) where
     abbrev old-settle : Tree
     old-settle = settle old (crew_of r) r.ready side.Old r.retries
 
-    back : (opened : List Address) (forked : List ℕ) → AllByRecursion (Added r h A) opened → All r h A (reload_back old
-        (crew_of r) fresh r.ready r.retries opened forked)
-    back opened forked all =
-        quits r h A old h forked (tells old (map CloseAt opened) old-settle) of-new
-        (closes r h A opened old-settle (undone r h A opened all) (settled r h A old
-        (crew_of r) r.ready side.Old r.retries (of-old h)))
-
-    onward : All r h A (reload_on old (crew_of r) fresh r.ready r.retries (only_in (addresses_of r) A) s.workers)
-    onward =
+    onward : (left : List ℕ) → All r h A (reload_on old (crew_of r) fresh left r.retries (only_in (addresses_of r) A)
+        s.workers)
+    onward left =
         let settling = settle old fresh (numbers_below s.workers) side.Target r.retries in
         let l = only_in (addresses_of r) A in
-        quits r h A old g (reverse r.ready) (tells old (map CloseAt l) settling) (of-old h)
+        quits r h A old g (reverse left) (tells old (map CloseAt l) settling) (of-old h)
         (closes r h A l settling (dropped r h A) (settled r h A old fresh
         (numbers_below s.workers) side.Target r.retries of-new))
 
     pub reload-proper : (turns : List Turn) → All r h A (plan_tree r (Reload s) turns)
     reload-proper turns =
-        let S = numbers_below s.workers in
-        let counted : List Address → Tree = λ opened.
-        either old (Census h) S (reload_on old (crew_of r) fresh r.ready r.retries (only_in
-        (addresses_of r) A) s.workers)
-        (reload_back old (crew_of r) fresh r.ready r.retries opened (reverse S)) in
-        n-opens (Right r h A) (Any r h A) old (only_in A (addresses_of r)) []
-        (λ opened. starts old fresh S (counted opened) (reload_back old (crew_of r) fresh r.ready r.retries opened))
-        (λ opened. tells old (map CloseAt opened) old-settle) (open-calls r h A (only_in A (addresses_of r))
-        (added r h A)) (Added r h A) (added r h A) tt
-        (λ opened all. n-starts (Right r h A) (Any r h A) old fresh S (counted opened) (reload_back old
-        (crew_of r) fresh r.ready r.retries opened)
-        (numbers r h A old h of-new) ((λ lacking. of-new), (onward, (back opened (reverse S) all, tt)))
-        (λ l. back opened l all))
+        let rollout = rollout_of r s s.surge in
+        n-stepped (Right r h A) (Any r h A) old (crew_of r) fresh (numbers r h A old g (of-old h))
+        (numbers r h A old h of-new)
+        (record {
+          quits_old = λ k bs lacking. of-old h;
+          quits_new = λ k bs lacking. of-new;
+          counts = λ bs lacking. of-new;
+          asks = λ bs lacking. refl;
+        })
+        false r.ready r.retries (addresses_of r) A s.workers rollout
+        (open-calls r h A (only_in A (addresses_of r)) (added r h A)) (Added r h A) (added r h A) (onward rollout.left)
         (λ opened all. closes r h A opened old-settle (undone r h A opened all) (settled r h A old
         (crew_of r) r.ready side.Old r.retries (of-old h)))
 

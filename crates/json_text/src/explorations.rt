@@ -13,6 +13,7 @@ struct ExplorationValue<'a> {
     degraded_target: EndValue<'a>,
     largest_shortfall: u64,
     least_ready: Option<LeastValue<'a>>,
+    most_workers: Option<MostValue<'a>>,
     tables: u64,
     cut: bool,
 }
@@ -28,6 +29,13 @@ pub(crate) struct EndValue<'a> {
 pub(crate) struct LeastValue<'a> {
     workers: u64,
     address: &'a str,
+    after_call: u64,
+    under: Vec<&'a str>,
+}
+
+#[derive(Drop, Serialize)]
+struct MostValue<'a> {
+    workers: u64,
     after_call: u64,
     under: Vec<&'a str>,
 }
@@ -55,6 +63,7 @@ pub fn exploration_json(alloc: Global, answer: &[u8]) -> Result<Vec<u8>, AllocEr
         },
         largest_shortfall: 0,
         least_ready: None,
+        most_workers: None,
         tables: 0,
         cut: false,
     };
@@ -93,6 +102,8 @@ fn add_number<'a>(
         value.largest_shortfall = number_in(rest);
     } else if let Some(rest) = line.strip_prefix("least ready ") {
         value.least_ready = least_of(alloc, rest)?;
+    } else if let Some(rest) = line.strip_prefix("most workers ") {
+        value.most_workers = most_of(alloc, rest)?;
     } else if let Some(rest) = line.strip_prefix("tables ") {
         value.tables = number_in(rest);
     } else if line.starts_with("cut:") {
@@ -132,6 +143,20 @@ pub(crate) fn least_of<'a>(
     Ok(Some(LeastValue {
         workers: number_in(workers),
         address,
+        after_call: number_in(made),
+        under: events_of(alloc, events)?,
+    }))
+}
+
+/// `WORKERS after call N under EVENTS`, or `none`
+fn most_of<'a>(alloc: Global, rest: &'a str) -> Result<Option<MostValue<'a>>, AllocError> {
+    if rest == "none" {
+        return Ok(None);
+    }
+    let (workers, rest) = parted(rest, " after call ");
+    let (made, events) = parted(rest, " under ");
+    Ok(Some(MostValue {
+        workers: number_in(workers),
         after_call: number_in(made),
         under: events_of(alloc, events)?,
     }))

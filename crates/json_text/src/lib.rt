@@ -3,14 +3,17 @@
 #![tactic(auto)]
 
 mod blocks;
+mod checks;
 mod deaths;
 mod explorations;
 mod faults;
+mod lives;
 mod patterns;
 mod plans;
 mod values;
 
 pub use blocks::blocks_json;
+pub use checks::checks_json;
 pub use deaths::deaths_json;
 pub use explorations::exploration_json;
 pub use faults::fault_json;

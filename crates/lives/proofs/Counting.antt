@@ -1,7 +1,7 @@
 -- Every end of a plan but a stop's stands right behind a count of its side's set; and what that says of the workers that
 -- are lacking then.
 use Rattle.std.proofs.Common.{◌≡◌, ℕ, zero, suc, ◌+◌, Bool, true, false, not, List, [], ◌∷◌, ◌++◌, Option, Some, None, refl, sym, ap, ◌∙◌, subst}
-use Rattle.std.specs.Prelude.{⊤, filter, map, reverse, nat_lt, ◌||◌}
+use Rattle.std.specs.Prelude.{⊤, filter, map, reverse, nat_lt, ◌||◌, ◌&&◌, if◌then◌else◌}
 use Rattle.listener_set.specs.Numbers.{numbers_below, is_in, lacks}
 use Rattle.listener_set.specs.declared.generation.Generation.{Generation}
 use Rattle.vocabulary.specs.declared.plans.PidNote.{PidNote}
@@ -23,7 +23,8 @@ use Rattle.definitions.specs.Run.{Tree, Branches, Ends, Does, Nothing, Branch, O
 use Rattle.definitions.specs.Run.{Side, plain_reply, reply_of, Pattern, Progress, Ending, At, Lost, Ran, run_with, goes_with, after_moment, after_call}
 use Rattle.definitions.specs.After.{crew_wanted}
 use Rattle.definitions.specs.Plans.{plan_tree, full_end, short_end, round, settle, forks, awaits, starts, forks_any, awaits_any, starts_any}
-use Rattle.definitions.specs.Plans.{awaits_gone, opens, either, tells, tries, tries_all, asks, reload_on, reload_back, reload_tree}
+use Rattle.definitions.specs.Plans.{awaits_gone, opens, either, tells, tries, tries_all, asks, reload_on, rollout_of, Step, Rollout}
+use Rattle.definitions.specs.Plans.{quits_new, taken_back, in_steps, last_step, closes_opened, stepped_tree}
 use Rattle.definitions.specs.Plans.{graft, graft_all, beside, beside_all, weave, weave_all, joined, move_aside, move_back, remove_oldbin, back_alone, back_from}
 use Rattle.definitions.specs.Plans.{back_late, back_serving, hand_over, retire, relieve, taken_over, upgrade_tree, new_part, old_part, pid_calls}
 use Rattle.definitions.specs.Plans.{only_in, failed_replies}
@@ -160,14 +161,14 @@ module _ (old target : List ℕ) where
   ---- Two parts
 
   mutual
-    graft-counts : (then : End → Tree) → ((e : End) → Counts (then e)) → (t : Tree) → Counts (graft then t)
-    graft-counts then h (Ends end) = h end
-    graft-counts then h (Does by order set branches) = graft-all-counts then h set branches
+    graft-counts : (next : End → Tree) → ((e : End) → Counts (next e)) → (t : Tree) → Counts (graft next t)
+    graft-counts next h (Ends end) = h end
+    graft-counts next h (Does by order set branches) = graft-all-counts next h set branches
 
-    graft-all-counts : (then : End → Tree) → ((e : End) → Counts (then e)) → (set : List ℕ) (bs : Branches) → AllCount set (graft_all then bs)
-    graft-all-counts then h set Nothing = tt
-    graft-all-counts then h set (Branch replies said rest more) =
-        (edge set replies (graft then rest) (graft-counts then h rest), graft-all-counts then h set more)
+    graft-all-counts : (next : End → Tree) → ((e : End) → Counts (next e)) → (set : List ℕ) (bs : Branches) → AllCount set (graft_all next bs)
+    graft-all-counts next h set Nothing = tt
+    graft-all-counts next h set (Branch replies said rest more) =
+        (edge set replies (graft next rest) (graft-counts next h rest), graft-all-counts next h set more)
 
   mutual
     beside-counts :
@@ -361,27 +362,70 @@ module _ (r : Record) where
       (weave-counts r.ready target (joined ready back) (joined-counts r.ready target ready back over backs) (new_part new held wanted n) turns (old_part by old r.ready r.retries))
       (back-alone-counts target by old path)) bads
 
+  module _ (by : ℕ) (old new : Crew) (target : List ℕ) where
+    quits-new-counts :
+        (waits : Bool) (numbers : List ℕ) (back : Tree) (forked : List ℕ) → Counts r.ready target back →
+        Counts r.ready target (quits_new by new waits numbers back forked)
+    quits-new-counts waits numbers back forked h =
+        tells-counts r.ready target by (map (Quit new.generation) forked) (if waits then awaits_gone by new.generation (reverse numbers) back else back)
+        (waited waits)
+      where
+        waited : (b : Bool) → Counts r.ready target (if b then awaits_gone by new.generation (reverse numbers) back else back)
+        waited true = gone-counts r.ready target by new.generation (reverse numbers) back h
+        waited false = h
+
+    steps-counts :
+        (asked first : Bool) (steps : List Step) (last : Bool → Tree → Tree) (back : Tree) →
+        ((first : Bool) (back : Tree) → Counts r.ready target back → Counts r.ready target (last first back)) →
+        Counts r.ready target back → Counts r.ready target (in_steps asked first by old new steps last back)
+    steps-counts asked first [] last back ending h = ending first back h
+    steps-counts asked first (step ∷ steps) last back ending h =
+        let undone : Tree = quits_new by new (not first) step.starts back (reverse step.starts) in
+        let undoes : Counts r.ready target undone = quits-new-counts (not first) step.starts back (reverse step.starts) h in
+        let taken : Tree = taken_back by old new (not first) step back in
+        let rest : Tree = in_steps asked false by old new steps last taken in
+        let waits : Tree = awaits_gone by old.generation (reverse step.quits) rest in
+        let quitting : Tree = tells by (map (Quit old.generation) (reverse step.quits)) waits in
+        starts-counts r.ready target by new step.starts (asks (asked && first) by 1 quitting undone) (quits_new by new (not first) step.starts back)
+        (asks-counts r.ready target (asked && first) by 1 quitting undone
+        (tells-counts r.ready target by (map (Quit old.generation) (reverse step.quits)) waits
+        (gone-counts r.ready target by old.generation (reverse step.quits) rest
+        (steps-counts asked false steps last taken ending (starts-any-counts r.ready target by old step.quits undone undoes))))
+        undoes)
+        (λ forked. quits-new-counts (not first) step.starts back forked h)
+
+    last-counts :
+        (asked : Bool) (numbers left : List ℕ) (dropped : List Address) (n : ℕ) (first : Bool) (back : Tree) →
+        Counts r.ready target (reload_on by old new left r.retries dropped n) → Counts r.ready target back →
+        Counts r.ready target (last_step asked by old new numbers left r.retries dropped n first back)
+    last-counts asked numbers left dropped n first back on h =
+        let undone : Tree = quits_new by new (not first) numbers back (reverse numbers) in
+        let undoes : Counts r.ready target undone = quits-new-counts (not first) numbers back (reverse numbers) h in
+        let going : Tree = asks (asked && first) by 1 (reload_on by old new left r.retries dropped n) undone in
+        starts-counts r.ready target by new numbers (either by (Census new.generation) (numbers_below n) going undone)
+        (quits_new by new (not first) numbers back)
+        (either-counts r.ready target by (Census new.generation) (numbers_below n) going undone
+        (asks-counts r.ready target (asked && first) by 1 (reload_on by old new left r.retries dropped n) undone on undoes) undoes)
+        (λ forked. quits-new-counts (not first) numbers back forked h)
+
   reload-counts :
-      (by : ℕ) (old new : Crew) (held wanted : List Address) (n : ℕ) →
-      Counts r.ready (numbers_below n) (reload_tree by old new r.ready r.retries held wanted n)
-  reload-counts by old new held wanted n =
+      (asked : Bool) (by : ℕ) (old new : Crew) (held wanted : List Address) (n : ℕ) (rollout : Rollout) →
+      Counts r.ready (numbers_below n) (stepped_tree asked by old new r.ready r.retries held wanted n rollout)
+  reload-counts asked by old new held wanted n rollout =
       let target = numbers_below n in
-      let back : List Address → List ℕ → Tree = reload_back by old new r.ready r.retries in
-      let backs : (opened : List Address) (forked : List ℕ) → Counts r.ready target (back opened forked) =
-      λ opened forked. tells-counts r.ready target by (map (Quit new.generation) forked) (tells by (map CloseAt opened) (settle by old r.ready side.Old r.retries))
-      (tells-counts r.ready target by (map CloseAt opened) (settle by old r.ready side.Old r.retries) (settle-counts r.ready target by old r.ready side.Old r.retries refl)) in
       let dropped = only_in held wanted in
       let closes = tells by (map CloseAt dropped) (settle by new target side.Target r.retries) in
-      let ons : Counts r.ready target (reload_on by old new r.ready r.retries dropped n) =
-      tells-counts r.ready target by (map (Quit old.generation) (reverse r.ready)) closes
+      let on : Counts r.ready target (reload_on by old new rollout.left r.retries dropped n) =
+      tells-counts r.ready target by (map (Quit old.generation) (reverse rollout.left)) closes
       (tells-counts r.ready target by (map CloseAt dropped) (settle by new target side.Target r.retries) (settle-counts r.ready target by new target side.Target r.retries refl)) in
-      let counted : List Address → Tree =
-      λ opened. either by (Census new.generation) target (reload_on by old new r.ready r.retries dropped n) (back opened (reverse target)) in
-      let none_opened : List Address → Tree = λ opened. tells by (map CloseAt opened) (settle by old r.ready side.Old r.retries) in
-      opens-counts r.ready target by (only_in wanted held) [] (λ opened. starts by new target (counted opened) (back opened)) none_opened
-      (λ opened. starts-counts r.ready target by new target (counted opened) (back opened)
-      (either-counts r.ready target by (Census new.generation) target (reload_on by old new r.ready r.retries dropped n) (back opened (reverse target)) ons (backs opened (reverse target))) (backs opened))
-      (λ opened. tells-counts r.ready target by (map CloseAt opened) (settle by old r.ready side.Old r.retries) (settle-counts r.ready target by old r.ready side.Old r.retries refl))
+      let last : Bool → Tree → Tree = last_step asked by old new rollout.last rollout.left r.retries dropped n in
+      let back : List Address → Tree = closes_opened by old r.ready r.retries in
+      let backs : (opened : List Address) → Counts r.ready target (back opened) =
+      λ opened. tells-counts r.ready target by (map CloseAt opened) (settle by old r.ready side.Old r.retries) (settle-counts r.ready target by old r.ready side.Old r.retries refl) in
+      opens-counts r.ready target by (only_in wanted held) [] (λ opened. in_steps asked true by old new rollout.steps last (back opened)) back
+      (λ opened. steps-counts by old new target asked true rollout.steps last (back opened)
+      (λ first b h. last-counts by old new target asked rollout.last rollout.left dropped n first b on h) (backs opened))
+      backs
 
 -- a stop counts nobody
 abbrev pub IsStop : Target → Type 0
@@ -418,7 +462,8 @@ plan-counts r Reopen turns no_stop =
     tells-counts r.ready r.ready by (map (Usr1 crew.generation) r.ready) (settle by crew r.ready side.Target r.retries)
     (settle-counts r.ready r.ready by crew r.ready side.Target r.retries refl)
 plan-counts r (Reload s) turns no_stop =
-    reload-counts r r.generation.image (crew_of r) (crew_wanted r (Reload s)) (addresses_of r) s.listeners s.workers
+    reload-counts r false r.generation.image (crew_of r) (crew_wanted r (Reload s)) (addresses_of r) s.listeners s.workers
+    (rollout_of r s s.surge)
 plan-counts r (Upgrade s) turns no_stop =
     upgrade-counts r false r.generation.image (crew_of r) (crew_wanted r (Upgrade s)) r.pid_path r.note (addresses_of r) s.listeners s.workers turns
 plan-counts r (Attended s) turns no_stop =

@@ -1,7 +1,7 @@
 -- A run that ends on the old side keeps every address of the old master open, in each table that it passes: no step that
 -- leads there closes one.
 use Rattle.std.proofs.Common.{◌≡◌, ℕ, zero, suc, ◌+◌, Bool, true, false, cond, not, List, [], ◌∷◌, ◌++◌, Option, Some, None, refl, sym, ap, ◌∙◌, arith, ◌⊎◌, inl, inr}
-use Rattle.std.specs.Prelude.{⊤, filter, map, reverse, nat_lt, bytes_eq, ◌||◌, ◌==◌, if◌then◌else◌}
+use Rattle.std.specs.Prelude.{⊤, filter, map, reverse, nat_lt, bytes_eq, ◌||◌, ◌&&◌, ◌==◌, if◌then◌else◌}
 use Rattle.std.specs.List.{AllByRecursion}
 use Rattle.std.proofs.lemmas.Option.{none-some}
 use Rattle.listener_set.specs.Numbers.{numbers_below, is_in}
@@ -23,7 +23,8 @@ use Rattle.definitions.specs.Run.{Tree, Branches, Ends, Does, Nothing, Branch, O
 use Rattle.definitions.specs.Run.{Side, reply_of, call_of, lacked_by, Pattern, Progress, Ending, At, Lost, Ran, run_with, goes_with, after_moment, after_call}
 use Rattle.definitions.specs.After.{crew_wanted}
 use Rattle.definitions.specs.Plans.{plan_tree, settle, forks, awaits, starts, forks_any, awaits_any, starts_any}
-use Rattle.definitions.specs.Plans.{awaits_gone, opens, either, tells, tries, tries_all, asks, reload_on, reload_back, reload_tree}
+use Rattle.definitions.specs.Plans.{awaits_gone, opens, either, tells, tries, tries_all, asks, reload_on, rollout_of, Step, Rollout}
+use Rattle.definitions.specs.Plans.{quits_new, taken_back, in_steps, last_step, closes_opened, stepped_tree}
 use Rattle.definitions.specs.Plans.{graft, graft_all, beside, beside_all, weave, weave_all, joined, move_aside, move_back, remove_oldbin, back_alone, back_from}
 use Rattle.definitions.specs.Plans.{back_late, back_serving, hand_over, retire, relieve, taken_over, upgrade_tree, new_part, new_calls, old_part, pid_calls, only_in}
 use Rattle.definitions.specs.Claims.{names_any, refused_among, is_leave_call}
@@ -467,29 +468,73 @@ module _ (r : Record) (a : Address) (held_it : has (addresses_of r) a ≡ true) 
       (old_part by old r.ready r.retries) (old-free i a by old r.ready r.retries))
       (back-alone-holds by old path)) (settle-holds i a by old r.ready side.Old r.retries)
 
+  module _ (by : ℕ) (old new : Crew) where
+    quits-new-hold :
+        (waits : Bool) (numbers : List ℕ) (back : Tree) (forked : List ℕ) → Holds i a back →
+        Holds i a (quits_new by new waits numbers back forked)
+    quits-new-hold waits numbers back forked h =
+        tells-hold i a by (map (Quit new.generation) forked) (if waits then awaits_gone by new.generation (reverse numbers) back else back)
+        (all-of i a by (Quit new.generation) forked (λ x. tt)) (waited waits)
+      where
+        waited : (b : Bool) → Holds i a (if b then awaits_gone by new.generation (reverse numbers) back else back)
+        waited true = gone-hold i a by new.generation (reverse numbers) back h
+        waited false = h
+
+    steps-hold :
+        (asked first : Bool) (steps : List Step) (last : Bool → Tree → Tree) (back : Tree) →
+        ((first : Bool) (back : Tree) → Holds i a back → Holds i a (last first back)) → Holds i a back →
+        Holds i a (in_steps asked first by old new steps last back)
+    steps-hold asked first [] last back ending h = ending first back h
+    steps-hold asked first (step ∷ steps) last back ending h =
+        let undone : Tree = quits_new by new (not first) step.starts back (reverse step.starts) in
+        let undoes : Holds i a undone = quits-new-hold (not first) step.starts back (reverse step.starts) h in
+        let taken : Tree = taken_back by old new (not first) step back in
+        let rest : Tree = in_steps asked false by old new steps last taken in
+        let waits : Tree = awaits_gone by old.generation (reverse step.quits) rest in
+        let quitting : Tree = tells by (map (Quit old.generation) (reverse step.quits)) waits in
+        starts-hold i a by new step.starts (asks (asked && first) by 1 quitting undone) (quits_new by new (not first) step.starts back)
+        (asks-hold i a (asked && first) by 1 quitting undone
+        (tells-hold i a by (map (Quit old.generation) (reverse step.quits)) waits (all-of i a by (Quit old.generation) (reverse step.quits) (λ x. tt))
+        (gone-hold i a by old.generation (reverse step.quits) rest
+        (steps-hold asked false steps last taken ending (starts-any-hold i a by old step.quits undone undoes))))
+        undoes)
+        (λ forked. quits-new-hold (not first) step.starts back forked h)
+
+    last-holds :
+        (asked : Bool) (numbers left : List ℕ) (dropped : List Address) (n : ℕ) (first : Bool) (back : Tree) →
+        Holds i a (reload_on by old new left r.retries dropped n) → Holds i a back →
+        Holds i a (last_step asked by old new numbers left r.retries dropped n first back)
+    last-holds asked numbers left dropped n first back on h =
+        let undone : Tree = quits_new by new (not first) numbers back (reverse numbers) in
+        let undoes : Holds i a undone = quits-new-hold (not first) numbers back (reverse numbers) h in
+        let going : Tree = asks (asked && first) by 1 (reload_on by old new left r.retries dropped n) undone in
+        starts-hold i a by new numbers (either by (Census new.generation) (numbers_below n) going undone)
+        (quits_new by new (not first) numbers back)
+        (either-holds i a by (Census new.generation) (numbers_below n) going undone tt
+        (asks-hold i a (asked && first) by 1 (reload_on by old new left r.retries dropped n) undone on undoes) undoes)
+        (λ forked. quits-new-hold (not first) numbers back forked h)
+
   reload-holds :
-      (by : ℕ) (old new : Crew) (wanted : List Address) (n : ℕ) → Holds i a (reload_tree by old new r.ready r.retries (addresses_of r) wanted n)
-  reload-holds by old new wanted n =
+      (asked : Bool) (by : ℕ) (old new : Crew) (wanted : List Address) (n : ℕ) (rollout : Rollout) →
+      Holds i a (stepped_tree asked by old new r.ready r.retries (addresses_of r) wanted n rollout)
+  reload-holds asked by old new wanted n rollout =
       let held = addresses_of r in
       let target = numbers_below n in
       let ending = settle by old r.ready side.Old r.retries in
-      let back : List Address → List ℕ → Tree = reload_back by old new r.ready r.retries in
-      let backs : (opened : List Address) (forked : List ℕ) → Differ i a opened → Holds i a (back opened forked) =
-      λ opened forked off. tells-hold i a by (map (Quit new.generation) forked) (tells by (map CloseAt opened) ending) (all-of i a by (Quit new.generation) forked (λ x. tt))
-      (tells-hold i a by (map CloseAt opened) ending (closes-all i a by opened off) (settle-holds i a by old r.ready side.Old r.retries)) in
       let dropped = only_in held wanted in
       let closes = tells by (map CloseAt dropped) (settle by new target side.Target r.retries) in
-      let ons : OnlyTarget (reload_on by old new r.ready r.retries dropped n) =
-      tells-only by (map (Quit old.generation) (reverse r.ready)) closes
+      let ons : OnlyTarget (reload_on by old new rollout.left r.retries dropped n) =
+      tells-only by (map (Quit old.generation) (reverse rollout.left)) closes
       (tells-only by (map CloseAt dropped) (settle by new target side.Target r.retries) (settle-only by new target r.retries)) in
-      let counted : List Address → Tree =
-      λ opened. either by (Census new.generation) target (reload_on by old new r.ready r.retries dropped n) (back opened (reverse target)) in
-      let none_opened : List Address → Tree = λ opened. tells by (map CloseAt opened) ending in
-      opens-hold i a by (only_in wanted held) [] (λ opened. starts by new target (counted opened) (back opened)) none_opened (added-differ wanted) tt
-      (λ opened off. starts-hold i a by new target (counted opened) (back opened)
-      (either-holds i a by (Census new.generation) target (reload_on by old new r.ready r.retries dropped n) (back opened (reverse target)) tt
-      (only-holds i a (reload_on by old new r.ready r.retries dropped n) ons) (backs opened (reverse target) off)) (λ forked. backs opened forked off))
-      (λ opened off. tells-hold i a by (map CloseAt opened) ending (closes-all i a by opened off) (settle-holds i a by old r.ready side.Old r.retries))
+      let last : Bool → Tree → Tree = last_step asked by old new rollout.last rollout.left r.retries dropped n in
+      let back : List Address → Tree = closes_opened by old r.ready r.retries in
+      let backs : (opened : List Address) → Differ i a opened → Holds i a (back opened) =
+      λ opened off. tells-hold i a by (map CloseAt opened) ending (closes-all i a by opened off) (settle-holds i a by old r.ready side.Old r.retries) in
+      opens-hold i a by (only_in wanted held) [] (λ opened. in_steps asked true by old new rollout.steps last (back opened)) back (added-differ wanted) tt
+      (λ opened off. steps-hold by old new asked true rollout.steps last (back opened)
+      (λ first b h. last-holds by old new asked rollout.last rollout.left dropped n first b
+      (only-holds i a (reload_on by old new rollout.left r.retries dropped n) ons) h) (backs opened off))
+      backs
 
   heir-other : (upgrade_generation r.generation).image == i ≡ false
   heir-other = eqb-off (r.generation.image + 1) r.generation.image (λ same. absurd (omega (arith, same)))
@@ -519,7 +564,8 @@ module _ (r : Record) (a : Address) (held_it : has (addresses_of r) a ≡ true) 
       let crew = crew_of r in
       tells-hold i a by (map (Usr1 crew.generation) r.ready) (settle by crew r.ready side.Target r.retries) (all-of i a by (Usr1 crew.generation) r.ready (λ x. tt))
       (settle-holds i a by crew r.ready side.Target r.retries)
-  plan-holds (Reload s) turns no_stop = reload-holds r.generation.image (crew_of r) (crew_wanted r (Reload s)) s.listeners s.workers
+  plan-holds (Reload s) turns no_stop =
+      reload-holds false r.generation.image (crew_of r) (crew_wanted r (Reload s)) s.listeners s.workers (rollout_of r s s.surge)
   plan-holds (Upgrade s) turns no_stop =
       upgrade-holds false r.generation.image (crew_of r) (crew_wanted r (Upgrade s)) r.pid_path r.note (addresses_of r) s.listeners s.workers turns heir-other
   plan-holds (Attended s) turns no_stop =

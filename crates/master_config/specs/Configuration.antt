@@ -14,7 +14,7 @@ use Rattle.master_config.specs.Values.{◌>>=◌, value_at, has_only, number_at,
 use Rattle.master_config.specs.Listening.{listeners_at}
 use Rattle.master_config.specs.Groups.{Pools, one_pool, is_table, pools_in}
 use Rattle.master_config.specs.Sockets.{sockets_at}
-use Rattle.master_config.specs.declared.key.Key.TheVariants.{Command, Groups, Listeners, Pid, Retries, Service, Sockets, Timeout, Workers}
+use Rattle.master_config.specs.declared.key.Key.TheVariants.{Command, Groups, Listeners, Pid, Retries, Service, Sockets, Surge, Timeout, Workers}
 use Rattle.master_config.specs.declared.refusal.ConfigRefusal.{ConfigRefusal}
 use Rattle.master_config.specs.declared.refusal.ConfigRefusal.TheVariants.{NotToml, UnknownKey, WrongKind, BadPid, BadCommand, BadService, Memory}
 
@@ -67,17 +67,19 @@ service_check value = if is_service value then Ok tt else Err BadService
 pub record Rest : Type 0 where
   pub pid : Option (List ℕ)
   pub retries : ℕ
+  pub surge : ℕ
   pub timeout : ℕ
 
 abbrev pub rest_of : Members → Result Rest ConfigRefusal
 rest_of members = do
   pid ← pid_at (value_at Pid members)
   retries ← number_at Retries 0 8 3 (value_at Retries members)
+  surge ← number_at Surge 0 1024 0 (value_at Surge members)
   timeout ← number_at Timeout 1 86400 60 (value_at Timeout members)
-  Ok (record { pid = pid; retries = retries; timeout = timeout })
+  Ok (record { pid = pid; retries = retries; surge = surge; timeout = timeout })
 
 abbrev pub settings_with : Pools → Rest → Settings
-settings_with pools rest = record { listeners = pools.listeners; workers = workers_in pools.groups; groups = pools.groups; timeout = rest.timeout; retries = rest.retries; pid = rest.pid }
+settings_with pools rest = record { listeners = pools.listeners; workers = workers_in pools.groups; groups = pools.groups; timeout = rest.timeout; retries = rest.retries; surge = rest.surge; pid = rest.pid }
 
 -- where no groups are named
 abbrev pub settings_of_one : Members → Result Settings ConfigRefusal

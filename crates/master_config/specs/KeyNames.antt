@@ -1,7 +1,7 @@
 -- The keys as they are written: those of a configuration, and those that a socket can have.
 use Rattle.std.specs.Prelude.{ℕ, List, codes}
 use Rattle.master_config.specs.declared.key.Key.{Key}
-use Rattle.master_config.specs.declared.key.Key.TheVariants.{Command, Groups, Listeners, Pid, Retries, Service, Sockets, Timeout, Workers}
+use Rattle.master_config.specs.declared.key.Key.TheVariants.{Command, Groups, Listeners, Pid, Retries, Service, Sockets, Surge, Timeout, Workers}
 use Rattle.master_config.specs.declared.socket_key.SocketKey.{SocketKey}
 use Rattle.master_config.specs.declared.socket_key.SocketKey.TheVariants as socket
 
@@ -13,6 +13,7 @@ key_name Pid = codes "pid"
 key_name Retries = codes "retries"
 key_name Service = codes "service"
 key_name Sockets = codes "sockets"
+key_name Surge = codes "surge"
 key_name Timeout = codes "timeout"
 key_name Workers = codes "workers"
 

@@ -14,6 +14,7 @@ pub enum Key {
     Retries,
     Service,
     Sockets,
+    Surge,
     Timeout,
     Workers,
 }
@@ -33,6 +34,7 @@ impl Key {
             Key::Retries => "retries",
             Key::Service => "service",
             Key::Sockets => "sockets",
+            Key::Surge => "surge",
             Key::Timeout => "timeout",
             Key::Workers => "workers",
         }
@@ -61,6 +63,7 @@ pub(crate) fn is_known(name: &str) -> bool
         || name == "retries"
         || name == "service"
         || name == "sockets"
+        || name == "surge"
         || name == "timeout"
         || name == "workers"
 }

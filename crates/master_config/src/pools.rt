@@ -124,6 +124,7 @@ impl Pools {
             groups,
             timeout: rest.timeout,
             retries: rest.retries,
+            surge: rest.surge,
             pid: rest.pid,
         }
     }

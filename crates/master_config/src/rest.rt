@@ -19,6 +19,8 @@ pub struct Rest {
     pub pid: Option<FilePath>,
     /// How many rounds of starts a plan makes before it gives up.
     pub retries: u32,
+    /// How many new workers a step of a reload starts; 0 is all at once.
+    pub surge: u32,
     /// After how many seconds without a beat a worker is overdue.
     pub timeout: u32,
 }
@@ -30,9 +32,9 @@ impl Model for Rest {
 
     ghost Value = { Read };
 
-    ghost view = { λ r. record { pid = r.pid; retries = r.retries; timeout = r.timeout } };
+    ghost view = { λ r. record { pid = r.pid; retries = r.retries; surge = r.surge; timeout = r.timeout } };
 
-    ghost invariant = { λ r. HasSuffixRoom r.pid × (r.retries ≤ 8) × (1 ≤ r.timeout) × (r.timeout ≤ 86400) };
+    ghost invariant = { λ r. HasSuffixRoom r.pid × (r.retries ≤ 8) × (r.surge ≤ 1024) × (1 ≤ r.timeout) × (r.timeout ≤ 86400) };
 }
 
 fn pid_in(value: &Value) -> Result<Option<FilePath>, ConfigRefusal>
@@ -64,10 +66,12 @@ pub fn rest_of(table: &Table) -> Result<Rest, ConfigRefusal>
 {
     let pid = pid_at(table)?;
     let retries = number_at(table, Key::Retries, 0, 8, 3)?;
+    let surge = number_at(table, Key::Surge, 0, 1024, 0)?;
     let timeout = number_at(table, Key::Timeout, 1, 86400, 60)?;
     Ok(Rest {
         pid,
         retries,
+        surge,
         timeout,
     })
 }

@@ -8,3 +8,4 @@ pub mod Output
 pub mod Rehearsals
 pub mod Starts
 pub mod Summaries
+pub mod Living

@@ -1,7 +1,7 @@
 -- Why an exploration of one order stops, told of all orders.
-use Rattle.std.proofs.Common.{◌≡◌, ◌⊎◌, inl, inr, Result, Err}
+use Rattle.std.proofs.Common.{◌≡◌, ◌⊎◌, inl, inr, Result, Ok, Err}
 use Rattle.std.specs.Prelude.{◌↔◌}
-use Rattle.std.specs.Result.{IsErrOf}
+use Rattle.std.specs.Result.{IsErrOf, OnOk}
 use Rattle.plan_executor.specs.declared.enactment.EnactRefusal.{EnactRefusal}
 use Rattle.plan_executor.specs.declared.enactment.EnactRefusal.TheVariants.{Memory}
 use Rattle.explorer.specs.declared.exploring.Unexplored.{Unexplored}
@@ -19,3 +19,7 @@ module _ (result : Result (Unit {0}) Unexplored) (IsDue : EnactRefusal → Type 
   pub ended : (why : EnactRefusal) → IsToldOne why → IsErrOf result Enough → IsDue why → ⊥
   ended why (inl memory) is due = let first : result ≡ Err (Enact Memory) = memory in let second : result ≡ Err Enough = is in cc
   ended why (inr both) is due = let first : result ≡ Err (Enact why) = both.1 due in let second : result ≡ Err Enough = is in cc
+
+pub both-ok : {T E : Type 0} (P Q : Type 0) (r : Result T E) → OnOk r P → OnOk r Q → OnOk r (P × Q)
+both-ok P Q (Ok x) p q = (p, q)
+both-ok P Q (Err e) p q = tt

@@ -1,5 +1,5 @@
 -- How a target is explored by one order after another.
-use Rattle.std.specs.Prelude.{ℕ, ◌≡◌, ◌+◌, Bool, List, [], ◌∷◌}
+use Rattle.std.specs.Prelude.{ℕ, ◌≡◌, ◌+◌, Bool, List, [], ◌∷◌, None}
 use Rattle.vocabulary.specs.declared.targets.Target.{Target}
 use Rattle.definitions.specs.Table.{Table}
 use Rattle.definitions.specs.Master.{Record}
@@ -10,14 +10,20 @@ use Rattle.plan_executor.specs.declared.enactment.EnactRefusal.{EnactRefusal}
 use Rattle.explorer.specs.declared.findings.Findings.{Findings}
 use Rattle.explorer.specs.Tallies.{nothing_counted}
 use Rattle.explorer.specs.Explored.{explored_from}
+use Rattle.explorer.specs.Searched.{AreFewest, AreMost}
 use Rattle.order_explorer.specs.declared.exploring.OrderSearch.{OrderSearch}
 use Rattle.order_explorer.specs.declared.totals.Totals.{Totals}
 use Rattle.order_explorer.specs.Totals.{totals_with}
 
--- The order at place n is explored as `explore` does it by these turns, and what is found is added.
+-- The order at place n is explored as `explore` does it by these turns, with nothing found before, and what is found is added.
 pub record IsAdded (r : Record) (target : Target) (t : Table) (pairs : Bool) (n : ℕ) (turns : List Turn) (before after : Totals) : Type 0 where
+  pub begun : Findings
+  pub no_least : begun.least ≡ None
+  pub no_most : begun.most ≡ None
   pub found : Findings
   pub tally : found.tally ≡ explored_from r target turns t pairs nothing_counted
+  pub least : AreFewest (record { state = r; target = target; turns = turns; table = t }) pairs begun found
+  pub most : AreMost (record { state = r; target = target; turns = turns; table = t }) pairs begun found
   pub added : after ≡ totals_with n found before
 
 -- Each of these orders is, one after another, of which the first is at place n.

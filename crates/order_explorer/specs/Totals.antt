@@ -3,12 +3,14 @@ use Rattle.std.specs.Prelude.{ℕ, ◌≡◌, ◌+◌, max, nat_lt, Option, Some
 use Rattle.explorer.specs.declared.events.Tried.{Tried}
 use Rattle.explorer.specs.declared.findings.Findings.{Findings}
 use Rattle.explorer.specs.declared.findings.Least.{Least}
+use Rattle.explorer.specs.declared.findings.Most.{Most}
 use Rattle.explorer.specs.declared.tally.Ended.{Ended}
 use Rattle.explorer.specs.declared.tally.Tally.{Tally}
 use Rattle.explorer.specs.Events.{events_in}
 use Rattle.order_explorer.specs.declared.totals.OrderedRun.{OrderedRun}
 use Rattle.order_explorer.specs.declared.totals.Ends.{Ends}
 use Rattle.order_explorer.specs.declared.totals.OrderedLeast.{OrderedLeast}
+use Rattle.order_explorer.specs.declared.totals.OrderedMost.{OrderedMost}
 use Rattle.order_explorer.specs.declared.totals.Totals.{Totals}
 
 -- the run in which fewer things go wrong, and else the first
@@ -27,6 +29,12 @@ least_with first n None = first
 least_with None n (Some least) = Some (record { order = n; least = least })
 least_with (Some first) n (Some least) = if nat_lt least.ready first.least.ready then Some (record { order = n; least = least }) else Some first
 
+-- the more workers, and else the first
+abbrev pub most_with : Option OrderedMost → ℕ → Option Most → Option OrderedMost
+most_with first n None = first
+most_with None n (Some most) = Some (record { order = n; most = most })
+most_with (Some first) n (Some most) = if nat_lt first.most.workers most.workers then Some (record { order = n; most = most }) else Some first
+
 abbrev pub tally_with : ℕ → Tally → Totals → Totals
 tally_with n tally totals = record totals {
   done = ends_with n tally.done totals.done;
@@ -42,7 +50,11 @@ IsTally n tally before after = after ≡ tally_with n tally before
 
 -- What was found of one order more.
 abbrev pub totals_with : ℕ → Findings → Totals → Totals
-totals_with n found totals = record (tally_with n found.tally totals) { least = least_with totals.least n found.least; tables = totals.tables + found.tables }
+totals_with n found totals = record (tally_with n found.tally totals) {
+  least = least_with totals.least n found.least;
+  most = most_with totals.most n found.most;
+  tables = totals.tables + found.tables;
+}
 
 abbrev pub none_explored : Ends
 none_explored = record { count = 0; shortest = None }
@@ -57,5 +69,6 @@ nothing_explored = record {
   lost = none_explored;
   shortfall = 0;
   least = None;
+  most = None;
   tables = 0;
 }

@@ -8,4 +8,4 @@ mod totals;
 
 pub use choosing::{ChosenOrders, choose_orders};
 pub use exploring::{OrderAudience, OrderSearch, explore_orders};
-pub use totals::{Ends, OrderedLeast, OrderedRun, Totals};
+pub use totals::{Ends, OrderedLeast, OrderedMost, OrderedRun, Totals};

@@ -1,8 +1,8 @@
 //! What was found of all orders together.
 ghost use Rattle.std.specs.Prelude.{◌≡◌, OnOk};
-ghost use Rattle.order_explorer.specs.Totals.{shortest_with, ends_with, none_explored, least_with, IsTally, totals_with, nothing_explored};
+ghost use Rattle.order_explorer.specs.Totals.{shortest_with, ends_with, none_explored, least_with, most_with, IsTally, totals_with, nothing_explored};
 
-use explorer::{Ended, Findings, Least, Tally, Tried};
+use explorer::{Ended, Findings, Least, Most, Tally, Tried};
 use std::alloc::AllocError;
 
 /// A run: the place of its order among the orders, from 0, and what goes wrong in it.
@@ -26,6 +26,13 @@ pub struct OrderedLeast {
     pub least: Least,
 }
 
+/// The most workers that lived at once, and by which order.
+#[derive(Clone, Copy, Debug)]
+pub struct OrderedMost {
+    pub order: usize,
+    pub most: Most,
+}
+
 /// What was found of the runs of all orders.
 #[derive(Clone, Copy, Debug)]
 pub struct Totals {
@@ -38,6 +45,8 @@ pub struct Totals {
     pub shortfall: u64,
     /// The fewest workers at an address that both services name, where there is one.
     pub least: Option<OrderedLeast>,
+    /// The most workers that lived at once, where a table was passed.
+    pub most: Option<OrderedMost>,
     /// How many tables the runs passed.
     pub tables: u64,
 }
@@ -104,6 +113,23 @@ fn least_with(
     }
 }
 
+/// The more workers, and else the first.
+fn most_with(first: Option<OrderedMost>, order: usize, found: Option<Most>) -> Option<OrderedMost>
+    ensures { result ≡ most_with first order found }
+{
+    match (first, found) {
+        (first, None) => first,
+        (None, Some(most)) => Some(OrderedMost { order, most }),
+        (Some(first), Some(most)) => {
+            if first.most.workers < most.workers {
+                Some(OrderedMost { order, most })
+            } else {
+                Some(first)
+            }
+        }
+    }
+}
+
 impl Totals {
     /// No run.
     pub fn new() -> Totals
@@ -117,6 +143,7 @@ impl Totals {
             lost: Ends::none(),
             shortfall: 0,
             least: None,
+            most: None,
             tables: 0,
         }
     }
@@ -140,6 +167,7 @@ impl Totals {
     {
         self.add_tally(order, &found.tally)?;
         self.least = least_with(self.least, order, found.least);
+        self.most = most_with(self.most, order, found.most);
         self.tables = self.tables.checked_add(found.tables).ok_or(AllocError)?;
         Ok(())
     }

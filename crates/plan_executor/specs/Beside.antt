@@ -17,6 +17,7 @@ use Rattle.further_theorems.specs.Left.{IsLeft}
 use Rattle.further_theorems.specs.Named.{TakeByName}
 use Rattle.further_theorems.specs.Peace.{KeepsPeace}
 use Rattle.further_theorems.specs.Bound.{is_back}
+use Rattle.stepped_reloads.specs.Steps.{StaysBelow}
 use Rattle.word_runner.specs.declared.enactor.Enacted.{Enacted}
 
 -- Where the section has no event and the target has what it needs, it is done: no call went wrong, and the service is
@@ -59,3 +60,7 @@ EndByName first r target turns pattern =
 -- And each worker that was ready at first ends in peace: it was told to quit and drained, and was waited for.
 abbrev pub EndInPeace : Table → Record → Target → List Turn → Pattern → Type 0
 EndInPeace first r target turns pattern = KeepsPeace r target first (run_of r target turns pattern first)
+
+-- At no table of a reload do more of the master's workers live than its fullest step has.
+abbrev pub LivesBelow : Table → Record → Target → List Turn → Pattern → Type 0
+LivesBelow first r target turns pattern = StaysBelow first r target (run_of r target turns pattern first)

@@ -11,7 +11,7 @@ ghost use Rattle.kernel_model.specs.Pattern.{moment_at};
 ghost use Rattle.kernel_model.specs.Room.{LacksNumbers};
 ghost use Rattle.rollback_plan.specs.Plans.{tree_under, length_of, note_of, sides_told, text_of};
 ghost use Rattle.reload_planner.specs.declared.refusal.PlanRefusal.{PlanRefusal as Unplannable};
-ghost use Rattle.plan_executor.specs.Beside.{AreProper, EndByName, EndInPeace, IsDoneInQuiet, LeavesFilesOfOthers, LeavesRecord, ObeysOperator};
+ghost use Rattle.plan_executor.specs.Beside.{AreProper, EndByName, EndInPeace, IsDoneInQuiet, LeavesFilesOfOthers, LeavesRecord, LivesBelow, ObeysOperator};
 ghost use Rattle.plan_executor.specs.Enacted.{IsEnacted};
 ghost use Rattle.plan_executor.specs.Prepared.{IsReady};
 ghost use Rattle.plan_executor.specs.Survived.{IsSurvived};
@@ -100,6 +100,7 @@ pub fn enact(
     ensures left { IfOk result (LeavesRecord state.now target.now) }
     ensures named { OnOk result (EndByName kernel.old.table state.now target.now section.now.turns (moment_at section.now.pattern)) }
     ensures peace { OnOk result (EndInPeace kernel.old.table state.now target.now section.now.turns (moment_at section.now.pattern)) }
+    ensures ceiling { OnOk result (LivesBelow kernel.old.table state.now target.now section.now.turns (moment_at section.now.pattern)) }
     ensures obeyed { IfOk result (ObeysOperator target.now) }
     ensures err { OnErr result (kernel.new ≡ kernel.old) }
 {

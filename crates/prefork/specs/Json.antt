@@ -1,7 +1,7 @@
 -- What is told as JSON.
 use Rattle.std.specs.Prelude.{Bool, false}
 use Rattle.command_line.specs.declared.Request.{Request}
-use Rattle.command_line.specs.declared.Request.TheVariants.{Enact, Plan, Explore, Certify}
+use Rattle.command_line.specs.declared.Request.TheVariants.{Enact, Plan, Explore, Certify, Check}
 use Rattle.faults.specs.declared.fault.Fault.{Fault}
 use Rattle.faults.specs.declared.fault.Fault.TheVariants.{Usage, Memory}
 
@@ -10,6 +10,7 @@ asks_json (Enact options) = options.start.json
 asks_json (Plan options) = options.start.json
 asks_json (Explore options) = options.start.json
 asks_json (Certify options) = options.start.json
+asks_json (Check options) = options.json
 asks_json request = false
 
 -- An invalid command line has no answer, and without memory none can be made.

@@ -26,8 +26,8 @@ use json_text::{blocks_json, deaths_json, exploration_json, patterns_json, plan_
 use kernel_model::{Section, Turns};
 use master_on_kernel::{
     DeathTrials, DeathsExplored, Demands, Explored, Form, Outlook, Rehearsal, Start, Trials, begin,
-    certify_all, death_summary, line_instead, look_ahead, read_goals, rehearse, show_state,
-    summary,
+    certify_all, certify_with_life, death_summary, line_instead, look_ahead, read_goals, rehearse,
+    show_state, summary,
 };
 use master_programs::{Surroundings, adopt, child, supervise};
 use order_explorer::{ChosenOrders, Totals};
@@ -150,7 +150,7 @@ where
         Request::Certify(options) => certify(rt, around, options, input, output, errors),
         Request::Check(options) => check(rt, options, output),
         Request::Supervise(options) => {
-            if around.explains {
+            if around.explains || options.why {
                 tell_program(rt, options, errors);
             }
             supervise(rt, around, options, &mut *input.reader, output, errors)
@@ -264,7 +264,7 @@ fn write_blocks<O: Write>(
 }
 
 /// `certify`: compares the blocks of standard input with plans and kernel, and writes the patterns
-/// that explain them, a section for each.
+/// that explain them, a section for each; then what holds of their life, where that is asked for.
 #[inline(never)]
 fn certify<R: AllocGlobal + Files, I: Read, O: Write, E: Write>(
     rt: &R,
@@ -279,7 +279,11 @@ fn certify<R: AllocGlobal + Files, I: Read, O: Write, E: Write>(
     let goals = read_goals(rt, rehearsal.next, options.goals.as_slice())?;
     ask_for(around, "blocks, as enact prints them", errors);
     let blocks = read_blocks(alloc, &mut *input.reader, &mut input.given)?;
-    let mut text = certify_all(alloc, &mut rehearsal, goals.as_slice(), blocks.as_slice())?;
+    let mut text = if options.life {
+        certify_with_life(alloc, &mut rehearsal, goals.as_slice(), blocks.as_slice())?
+    } else {
+        certify_all(alloc, &mut rehearsal, goals.as_slice(), blocks.as_slice())?
+    };
     if options.start.json {
         text = patterns_json(alloc, blocks.len(), text.as_slice())?;
     }

@@ -19,6 +19,7 @@ fn asks_json(request: &Request<'_>) -> bool
         Request::Plan(options) => options.start.json,
         Request::Explore(options) => options.start.json,
         Request::Certify(options) => options.start.json,
+        Request::Check(options) => options.json,
         _ => false,
     }
 }

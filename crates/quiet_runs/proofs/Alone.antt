@@ -271,23 +271,3 @@ module _ (t : Table) (r : Record) (start : IsStart t r) (handed : Handed) where
       (from-bare handed (lone r) g [] (piled qs []) [] [] false _ (go-removes handed (lone r) g r.pid_path r.note _
       (go-leave handed (lone r) g))))
       t (plainly 0 res.processes)
-
-  pub go-reload : (s : Settings) (turns : List Turn) → HasResources t r (Reload s) → Goes handed (plan_tree r
-      (Reload s) turns) t
-  go-reload s turns res =
-      let new = crew_wanted r (Reload s) in
-      let h = reload_generation r.generation in
-      let S = numbers_below s.workers in
-      let held = addresses_of r in
-      let x0 : State = record { busy = []; idle = S; room = S; unheld = only_in s.listeners held; fresh = false } in
-      let x1 : State = record { busy = []; idle = S; room = S; unheld = []; fresh = false } in
-      go-opens handed (lone r) h (only_in s.listeners held) [] _ _ x0 x1 (chain-opens handed (lone r) h
-      (only_in s.listeners held) [] S S)
-      (λ opened. go-starts handed (lone r) h new S _ _ refl (below-distinct s.workers)
-      (go-count handed (lone r) h h S _
-      (Rattle.definitions.specs.Plans.reload_back r.generation.image (crew_of r) (crew_wanted r
-      (Reload s)) r.ready r.retries opened (reverse S)) bare
-      (go-quits handed (lone r) h g (reverse r.ready) _ (go-closes handed (lone r) h (only_in held s.listeners) _
-      (go-settle handed (lone r) h new S side.Target r.retries bare)))))
-      t (begins handed t r start h S S (only_in s.listeners held) (λ k e. idle-reload t r start k)
-      (let n = below-length s.workers in omega (arith, n, res.processes)) res.unheld res.apart res.descriptors)

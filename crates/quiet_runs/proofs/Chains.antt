@@ -90,6 +90,27 @@ module _ (handed : Handed) (sp : Spot) (g : Generation) where
     chain-forks crew ks (k ∷ busy) unheld same d.1,
   )
 
+  -- and numbers that are started later
+  pub chain-forks-first :
+      (crew : Crew) (ks more busy : List ℕ) → crew.generation ≡ g → Distinct (ks ++ more) →
+      Chain (record { busy = busy; idle = ks ++ more; room = ks ++ more; unheld = []; fresh = false }) (map (fork_of crew) ks)
+      (record { busy = piled ks busy; idle = more; room = more; unheld = []; fresh = false })
+  chain-forks-first crew [] more busy same d = refl
+  chain-forks-first crew (k ∷ ks) more busy same d = (
+    _,
+    subst
+        (λ h. Step handed sp g (record { busy = busy; idle = k ∷ ks ++ more; room = k ∷ ks ++ more; unheld = []; fresh = false })
+        (Fork h k (fds_of crew.posts k)) (record {
+          busy = k ∷ busy;
+          idle = ks ++ more;
+          room = ks ++ more;
+          unheld = [];
+          fresh = false;
+        })) (sym same)
+        (step-fork handed sp g k (fds_of crew.posts k) k busy (ks ++ more) (ks ++ more) [] false d.0),
+    chain-forks-first crew ks more (k ∷ busy) same d.1,
+  )
+
   pub chain-awaits : (ks : List ℕ) (x : State) → ((k : ℕ) → is_in ks k ≡ true → is_in x.busy k ≡ true) → Chain x (map
       (AwaitReady g) ks) x
   chain-awaits [] x on = refl

@@ -16,7 +16,8 @@ use Rattle.definitions.specs.Claims.{KeepsPromise, IsStart, Says, HasCause, refu
 use Rattle.theorems.proofs.Promise.{headline}
 use Rattle.quiet_runs.specs.Quiet.{QuietIsDone, HasResources, IsDone, no_event}
 use Rattle.quiet_runs.proofs.Ways.{Clean, Goes, run-clean}
-use Rattle.quiet_runs.proofs.Alone.{go-workers, go-mend, go-reopen, go-reload, go-stop}
+use Rattle.quiet_runs.proofs.Alone.{go-workers, go-mend, go-reopen, go-stop}
+use Rattle.quiet_runs.proofs.Reloads.{go-reload}
 use Rattle.quiet_runs.proofs.Upgrades.{go-upgrade}
 
 goes : (t : Table) (r : Record) (target : Target) (turns : List Turn) → IsStart t r → HasResources t r target → Goes

@@ -4,5 +4,6 @@ pub mod Stands
 pub mod Chains
 pub mod Starts
 pub mod Alone
+pub mod Reloads
 pub mod Upgrades
 pub mod Done

@@ -283,6 +283,42 @@ module _ (handed : Handed) (sp : Spot) (g : Generation) where
       T : Process → Bool
       T = is_worker is_any sp.number g k
 
+  -- Calls on workers of any generation, where no number is known to be busy.
+  pub any-quit : (h : Generation) (k : ℕ) (x : State) → Step x (Quit h k) (record x { busy = [] })
+  any-quit h k x t s =
+      by-own t (Quit h k) (record { number = sp.number; holds = s.holds }) (Then (Quit h k) (record x { busy = [] })) s.lives (
+        refl,
+        moved x [] x.idle t.rows _ t.limits s (λ i. rows.live-stance T Draining i t.rows)
+            (let own = rows.own-change T made_draining (rows.own-stance Draining) t.rows in omega (arith, own))
+            (λ a off. rows.off-change T made_draining (rows.holds_it a) (rows.stance-off a Draining) t.rows off)
+            (λ i b. absurd (none-in i b))
+            (λ i b. rows.off-change T made_draining (is_worker is_active sp.number g i)
+            (rows.drained-off sp.number g i) t.rows (s.idle i b)),
+      )
+    where
+      T : Process → Bool
+      T = is_worker is_active sp.number h k
+
+  pub any-gone :
+      (h : Generation) (k : ℕ) (x : State) (t : Table) → list_any (is_worker is_active sp.number h k) t.rows ≡ false → At x t →
+      Then (AwaitGone h k) (record x { busy = [] }) (step_with handed sp.image (AwaitGone h k) None t)
+  any-gone h k x t off s =
+      by-own t (AwaitGone h k) (record { number = sp.number; holds = s.holds }) (Then (AwaitGone h k)
+      (record x { busy = [] })) s.lives
+      (pick (Then (AwaitGone h k) (record x { busy = [] })) (list_any (is_worker is_active sp.number h k) t.rows)
+      (gives answer.Late t)
+      (gives answer.Gone (each_row (drop_where T) t)) (λ on. absurd (cc))
+      (λ e. (
+        refl,
+        moved x [] x.idle t.rows _ t.limits s (λ i. rows.live-drop T (rows.no-master is_any sp.number h k) i t.rows)
+            (rows.own-drop T t.rows) (λ a off. rows.off-drop T (rows.holds_it a) t.rows off) (λ i b. absurd
+            (none-in i b))
+            (λ i b. rows.off-drop T (is_worker is_active sp.number g i) t.rows (s.idle i b)),
+      )))
+    where
+      T : Process → Bool
+      T = is_worker is_any sp.number h k
+
   -- those that exited leave, of any master
   heard : (m : ℕ) (x : State) (t : Table) → At x t → Stands handed sp g x (filter_map (drop_where
       (is_exited_of m)) t.rows) t.limits

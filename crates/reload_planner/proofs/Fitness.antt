@@ -9,10 +9,10 @@ use Rattle.vocabulary.specs.declared.plans.PidNote.TheVariants.{Left, NoFile}
 use Rattle.definitions.specs.Run.{Tree}
 use Rattle.plan_steps.specs.Fit.{is_fit}
 use Rattle.definitions.specs.Plans.{settle, starts, removes, stopped, stop_tree, remove_oldbin_too, has_oldbin}
-use Rattle.call_laws.specs.Pieces.{census, census_edges, usr1s}
-use Rattle.reload_planner.specs.Changes.{change_tree, repair_tree, on_tree, back_tree, renewal_tree}
-use Rattle.plan_pieces.proofs.Fitness.{settle_fit, quits_fit, kills_fit, usr1s_fit, closes_fit, awaits_gone_fit}
-use Rattle.plan_pieces.proofs.Fitness.{remove_fit, awaits_fit, forks_fit, starts_any_fit, opens_fit}
+use Rattle.call_laws.specs.Pieces.{usr1s}
+use Rattle.reload_planner.specs.Changes.{change_tree, repair_tree}
+use Rattle.plan_pieces.proofs.Fitness.{settle_fit, quits_fit, kills_fit, usr1s_fit, awaits_gone_fit}
+use Rattle.plan_pieces.proofs.Fitness.{remove_fit, awaits_fit, forks_fit, starts_any_fit}
 
 starts_fit : (by : ℕ) (crew : Crew) (ks : List ℕ) (ok : Tree) (bad : List ℕ → Tree) (short : Bool) →
     is_fit short ok ≡ true → ((forked : List ℕ) → is_fit short (bad forked) ≡ true) →
@@ -45,27 +45,3 @@ pub stop_fit : (by : ℕ) (g : Generation) (ready : List ℕ) (path : Option Fil
     is_fit false (stop_tree by g ready path note quick) ≡ true
 stop_fit by g ready path note true = kills_fit by g ready _ false (removes_fit by path note (stopped by) refl)
 stop_fit by g ready path note false = quits_fit by g (reverse ready) _ false (awaits_gone_fit by g (reverse ready) _ false (removes_fit by path note (stopped by) refl))
-
----- A reload
-
-census_fit : (by : ℕ) (g : Generation) (set : List ℕ) (full short : Tree) → is_fit false full ≡ true →
-    is_fit true short ≡ true → is_fit false (census by g set (census_edges full short)) ≡ true
-census_fit by g set full short h e = rw (h, e) refl
-
-back_fit : (by : ℕ) (old new : Crew) (ready : List ℕ) (rounds : ℕ) (opened : List Address) (forked : List ℕ)
-    (short : Bool) → is_fit short (back_tree by old new ready rounds opened forked) ≡ true
-back_fit by old new ready rounds opened forked short = quits_fit by new.generation forked _ short (closes_fit by opened _ short (settle_fit by old ready Old rounds short))
-
-on_fit : (by : ℕ) (old new : Crew) (leaving : List ℕ) (rounds : ℕ) (dropped : List Address) (wanted : List ℕ) →
-    is_fit false (on_tree by old new leaving rounds dropped wanted) ≡ true
-on_fit by old new leaving rounds dropped wanted = quits_fit by old.generation (reverse leaving) _ false (closes_fit by dropped _ false (settle_fit by new wanted Target rounds false))
-
-pub renewal_fit : (by : ℕ) (old new : Crew) (ready leaving : List ℕ) (rounds : ℕ) (added dropped : List Address)
-    (wanted fresh : List ℕ) →
-    is_fit false (renewal_tree by old new ready leaving rounds added dropped wanted fresh) ≡ true
-renewal_fit by old new ready leaving rounds added dropped wanted fresh =
-    opens_fit by added [] _ _ false
-    (λ opened. starts_fit by new fresh _ (back_tree by old new ready rounds opened) false
-    (census_fit by new.generation wanted (on_tree by old new leaving rounds dropped wanted) (back_tree by old new ready rounds opened (reverse fresh)) (on_fit by old new leaving rounds dropped wanted) (back_fit by old new ready rounds opened (reverse fresh) true))
-    (λ forked. back_fit by old new ready rounds opened forked false))
-    (λ opened. closes_fit by opened _ false (settle_fit by old ready Old rounds false))

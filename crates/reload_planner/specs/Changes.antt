@@ -24,24 +24,6 @@ abbrev pub ends_tree : ℕ → Generation → List ℕ → Bool → Tree → Tre
 ends_tree by g ready true rest = kills by g ready rest
 ends_tree by g ready false rest = quits by g (reverse ready) (awaits_gone by g (reverse ready) rest)
 
--- the workers of the next configuration, who listen at these posts
-abbrev pub next_crew : Crew → Posts → Crew
-next_crew old posts = record { generation = reload_generation old.generation; posts = posts }
-
 -- The old workers quit, addresses are closed, and the new workers settle.
 abbrev pub on_tree : ℕ → Crew → Crew → List ℕ → ℕ → List Address → List ℕ → Tree
 on_tree by old new ready rounds dropped wanted = quits by old.generation (reverse ready) (closes by dropped (settle by new wanted Target rounds))
-
--- New workers are started and counted.
-abbrev pub trial_tree : ℕ → Crew → List ℕ → List ℕ → Tree → (List ℕ → Tree) → Tree
-trial_tree by new wanted fresh full bad = starts by new fresh (census by new.generation wanted (census_edges full (bad (reverse fresh)))) bad
-
--- The new workers quit, what was opened is closed, and the old side settles.
-abbrev pub back_tree : ℕ → Crew → Crew → List ℕ → ℕ → List Address → List ℕ → Tree
-back_tree by old new ready rounds opened forked = quits by new.generation forked (closes by opened (settle by old ready Old rounds))
-
--- Addresses are opened, new workers started and counted, and then it goes on or back.
-abbrev pub renewal_tree : ℕ → Crew → Crew → List ℕ → List ℕ → ℕ → List Address → List Address → List ℕ → List ℕ → Tree
-renewal_tree by old new ready leaving rounds added dropped wanted fresh =
-    opens by added [] (λ opened. trial_tree by new wanted fresh (on_tree by old new leaving rounds dropped wanted) (back_tree by old new ready rounds opened))
-    (λ opened. closes by opened (settle by old ready Old rounds))

@@ -2,16 +2,22 @@
 //! are lost or overdue, to have them open their logs anew, to reload its configuration, and to stop.
 #![tactic(auto)]
 
+mod back;
+mod last;
 mod mending;
+mod one_step;
 mod planning;
 mod refusal;
 mod reloading;
+mod renewal;
 mod reopening;
 mod scene;
+mod steps;
 mod stopping;
 mod workers;
 
 pub use mending::plan_mend;
+pub use one_step::no_steps_are_one_step;
 pub use planning::plan;
 pub use refusal::PlanRefusal;
 pub use reloading::plan_reload;

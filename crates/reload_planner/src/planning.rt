@@ -45,10 +45,7 @@ pub fn plan(alloc: Global, state: &Record, target: &Target) -> Result<Plan, Plan
         Target::Workers(wanted) => plan_workers(alloc, &scene, *wanted, note),
         Target::Mend(overdue) => plan_mend(alloc, &scene, overdue, wanted, note),
         Target::Reopen => plan_reopen(alloc, &scene, note),
-        Target::Reload(settings) => {
-            let (posts, old) = (state.posts_wanted(target), state.listeners.addresses());
-            plan_reload(alloc, &scene, &posts, &old, settings, note)
-        }
+        Target::Reload(settings) => plan_reload(alloc, state, settings, settings.surge, false),
         Target::Upgrade(_) | Target::Attended(_) => match next_image(state.generation) {
             None => Err(PlanRefusal::NoGeneration),
             Some(_) => Err(PlanRefusal::Unplanned),

@@ -24,7 +24,7 @@ use Rattle.table_laws.proofs.Small.{or-elim}
 use Rattle.run_laws.proofs.Processes.{Fact, Lasts, one-found, fact-exits, fact-steps, fact-any}
 use Rattle.run_laws.proofs.Rules.{minus}
 use Rattle.stepped_reloads.specs.Steps.{is_living}
-use Rattle.stepped_reloads.proofs.Late.{Cut, kill-is, wait-keeps}
+use Rattle.theorems.proofs.Late.{Cut, kill-is, wait-keeps}
 use Rattle.stepped_reloads.proofs.Living.{lives, is_left, lives-sub, lives-exits, lives-steps, Lowers, lives-cut}
 
 -- Nothing is known of a row.

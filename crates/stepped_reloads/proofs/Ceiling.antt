@@ -4,7 +4,7 @@ use Rattle.std.specs.Prelude.{⊤, ◌&&◌, ◌||◌, ◌==◌, ◌-◌, revers
 use Rattle.std.proofs.lemmas.List.{length-append, take-append-drop}
 use Rattle.vocabulary.specs.declared.plans.Side.TheVariants as side
 use Rattle.table_laws.proofs.Counts.{Distinct, is_in-append}
-use Rattle.stepped_reloads.proofs.Rolling.{stays, parted}
+use Rattle.table_laws.proofs.Rolling.{stays, parted}
 use Rattle.listener_set.specs.Numbers.{is_in, lacks, numbers_below}
 use Rattle.listener_set.specs.declared.generation.Generation.{Generation}
 use Rattle.vocabulary.specs.declared.calls.Call.{Call}
@@ -38,9 +38,10 @@ use Rattle.run_laws.proofs.Refusals.{is_leave}
 use Rattle.run_laws.proofs.Lights.{first-lacks}
 use Rattle.run_laws.proofs.Processes.{one-found, fact-census}
 use Rattle.run_laws.proofs.Rules.{minus}
-use Rattle.stepped_reloads.specs.Steps.{Step, Rollout, is_living, staying, rolled, quits_new, taken_back, in_steps, last_step, closes_opened, stepped_tree, most_of}
+use Rattle.definitions.specs.Plans.{Step, Rollout, staying, rolled, quits_new, taken_back, in_steps, last_step, closes_opened, stepped_tree}
+use Rattle.stepped_reloads.specs.Steps.{is_living, most_of}
 use Rattle.vocabulary.specs.declared.plans.End.{End}
-use Rattle.stepped_reloads.proofs.Late.{Cut, kill-is}
+use Rattle.theorems.proofs.Late.{Cut, kill-is}
 use Rattle.stepped_reloads.proofs.Alive.{Any, Alive, more, exits-alive, Ok, steps-alive, cut-alive, both_in, alive-few}
 
 -- these names without those of these numbers

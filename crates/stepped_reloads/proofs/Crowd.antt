@@ -1,22 +1,22 @@
 -- At each table of a reload in steps at most so many workers live as its fullest step has.
-use Rattle.std.proofs.Common.{◌≡◌, ℕ, ◌<◌, ◌≤◌, Bool, true, false, not, List, [], ◌∷◌, None, refl, arith, inl}
+use Rattle.std.proofs.Common.{◌≡◌, ℕ, ◌<◌, ◌≤◌, ◌+◌, Bool, true, false, not, List, [], ◌∷◌, None, refl, arith, inl}
 use Rattle.std.specs.Prelude.{◌&&◌, ◌||◌, ◌==◌}
 use Rattle.std.specs.List.{AllByRecursion}
 use Rattle.listener_set.specs.Numbers.{is_in}
 use Rattle.listener_set.specs.declared.generation.Generation.{Generation}
 use Rattle.vocabulary.specs.Settings.{Settings}
-use Rattle.vocabulary.specs.declared.targets.Target.TheVariants.{Reload}
+use Rattle.vocabulary.specs.declared.targets.Target.TheVariants.{Workers, Mend, Reopen, Reload, Upgrade, Attended, Stop}
 use Rattle.vocabulary.specs.declared.table.Stance.TheVariants.{Starting, Ready, Draining, Exited}
 use Rattle.definitions.specs.Table.{Process, Master, Worker, Foreign, Table, bears, same_generation, same_stance, is_worker_where}
 use Rattle.definitions.specs.Master.{Record, reload_generation, addresses_of, crew_of}
 use Rattle.definitions.specs.After.{crew_wanted}
-use Rattle.definitions.specs.Run.{Pattern, start_at}
+use Rattle.definitions.specs.Run.{start_at}
 use Rattle.definitions.specs.Plans.{only_in}
-use Rattle.definitions.specs.Claims.{IsStart, refused_among}
+use Rattle.definitions.specs.Claims.{IsStart, run_of}
 use Rattle.call_laws.specs.Pieces.{is_draining}
 use Rattle.table_laws.proofs.Rows.{one, weigh, weigh-le, every-more, every-both, count-weigh, both-true}
 use Rattle.table_laws.proofs.Counts.{every-any_of}
-use Rattle.table_laws.proofs.Views.{named, View, Fine, live_named, eqb-refl}
+use Rattle.table_laws.proofs.Views.{named, View, Fine, live_named, eqb-refl, eqb-off}
 use Rattle.table_laws.proofs.Effects.{none}
 use Rattle.table_laws.proofs.Services.{sole-fine}
 use Rattle.table_laws.proofs.Begins.{first_view, begin, rising-distinct}
@@ -25,7 +25,8 @@ use Rattle.table_laws.proofs.Sets.{in-here}
 use Rattle.run_laws.proofs.Logic.{Course, from-along, are-mild-anyhow, Anyhow, Unasked}
 use Rattle.run_laws.proofs.Processes.{IsOf}
 use Rattle.theorems.proofs.Reload.{other-next}
-use Rattle.stepped_reloads.specs.Steps.{drained_in, is_living, living_of, is_enough, ceiling_of, plan_of, run_of}
+use Rattle.definitions.specs.Plans.{is_enough, reload_plan}
+use Rattle.stepped_reloads.specs.Steps.{drained_in, is_living, living_of, ceiling_of, RunsStayBelow}
 use Rattle.stepped_reloads.proofs.Living.{lives, is_left}
 use Rattle.stepped_reloads.proofs.Alive.{Any, Alive, both_in}
 use Rattle.stepped_reloads.proofs.Ceiling.{IsLow, any_end, stepped-run}
@@ -114,22 +115,31 @@ module _ (t : Table) (r : Record) (s : IsStart t r) where
       calm-row (Master n q i live hs) a = omega arith
       calm-row (Foreign n hs) a = omega arith
 
-pub stepped-ceiling :
-    (asked : Bool) (surge : ℕ) (t : Table) (r : Record) (st : Settings) (pattern : Pattern) → IsStart t r →
-    same_generation (reload_generation r.generation) r.generation ≡ false →
-    refused_among (r.generation.image ∷ []) [] pattern 0 (run_of asked surge r st pattern t).entries ≡ None →
-    AllByRecursion (λ p. living_of t r p.table ≤ ceiling_of r st surge) (run_of asked surge r st pattern t).passed
-stepped-ceiling asked surge t r st pattern s apart spared =
-    let B = ceiling_of r st surge in
+next-other : (g : Generation) → same_generation (reload_generation g) g ≡ false
+next-other g = go (g.image == g.image) (eqb-off (g.config + 1) g.config (omega arith))
+  where
+    go : (a : Bool) → (g.config + 1 == g.config) ≡ false → (a && (g.config + 1 == g.config)) ≡ false
+    go true e = e
+    go false e = refl
+
+pub runs-stay-below : RunsStayBelow
+runs-stay-below t r (Reload st) turns pattern s spared =
+    let B = ceiling_of r st st.surge in
     let co : Course = record { handed = None; pattern = pattern; executing = r.generation.image ∷ []; heirs = [] } in
     let acts = in-here r.generation.image r.generation.image [] refl in
-    let tree = plan_of asked surge r st in
+    let tree = reload_plan false st.surge r st in
     let at = start_at t r.note in
     let low = IsLow r.pid r.generation.image (drained_in t) B co acts in
     let along =
-    stepped-run r.pid r.generation.image (drained_in t) B co acts (crew_of r) (crew_wanted r (Reload st)) apart (other-next r.generation)
-    r.retries (only_in (addresses_of r) st.listeners) st.workers (is_enough r st) asked surge r.ready (addresses_of r) st.listeners refl (rising-distinct r.ready s.rising) (omega arith)
+    stepped-run r.pid r.generation.image (drained_in t) B co acts (crew_of r) (crew_wanted r (Reload st)) (next-other r.generation) (other-next r.generation)
+    r.retries (only_in (addresses_of r) st.listeners) st.workers (is_enough r st) false st.surge r.ready (addresses_of r) st.listeners refl (rising-distinct r.ready s.rising) (omega arith)
     at (first-alive t r s (reload_generation r.generation)) in
     let all = from-along low (any_end r.pid r.generation.image (drained_in t) B co acts) Anyhow Unasked co tree at along spared (are-mild-anyhow co tree at) in
     every-more low (λ p. living_of t r p.table ≤ B) (λ p h. omega (arith, h, count-weigh (is_living r.pid (drained_in t)) p.table.rows))
-    (run_of asked surge r st pattern t).passed all.always
+    (run_of r (Reload st) turns pattern t).passed all.always
+runs-stay-below t r (Workers n) turns pattern start spared = tt
+runs-stay-below t r (Mend overdue) turns pattern start spared = tt
+runs-stay-below t r Reopen turns pattern start spared = tt
+runs-stay-below t r (Upgrade s) turns pattern start spared = tt
+runs-stay-below t r (Attended s) turns pattern start spared = tt
+runs-stay-below t r (Stop quick) turns pattern start spared = tt

@@ -15,8 +15,9 @@ use Rattle.table_laws.proofs.Counts.{Distinct, filter-distinct}
 use Rattle.table_laws.proofs.Sets.{in-filter-on, in-filter-of, in-here, in-there, shorter, below-length}
 use Rattle.table_laws.proofs.Small.{in-reverse, not-is, true-false}
 use Rattle.table_laws.proofs.Begins.{rising-distinct}
-use Rattle.stepped_reloads.specs.Steps.{Rollout, without, staying, rolled, every, is_enough, rollout_of, most_of, ceiling_of, CeilingIsLow}
-use Rattle.stepped_reloads.proofs.Rolling.{stays, parted}
+use Rattle.definitions.specs.Plans.{Rollout, without, staying, rolled, every, is_enough, rollout_of}
+use Rattle.stepped_reloads.specs.Steps.{most_of, ceiling_of, CeilingIsLow}
+use Rattle.table_laws.proofs.Rolling.{stays, parted}
 
 ---- Enough, in one group
 

@@ -1,11 +1,5 @@
-pub mod Rolling
-pub mod Owed
-pub mod Late
-pub mod Walks
-pub mod Manner
 pub mod Living
 pub mod Alive
 pub mod Ceiling
 pub mod Crowd
 pub mod Fullest
-pub mod Stepped

@@ -1,14 +1,12 @@
-//! That reloads in steps end as they report: the theorem, before any plan is made by it. The function has an empty body: its
-//! contract is the theorem.
+//! How many workers live at once during a reload: the theorems. Each function has an empty body: its contract is the theorem.
 #![tactic(auto)]
 
-ghost use Rattle.stepped_reloads.specs.Steps.{SteppedHeadline, CeilingIsLow};
+ghost use Rattle.stepped_reloads.specs.Steps.{RunsStayBelow, CeilingIsLow};
 
-/// Whatever fails and whoever exits but the executing master, a reload in steps, asked or not, ends as it reports, and keeps
-/// each address on its socket. In one step it keeps the floor of a reload; in more, each fault so far excuses one worker at
-/// each address.
-pub fn stepped_reloads_end_as_reported()
-    ensures { SteppedHeadline }
+/// Whatever fails and whoever exits but the executing master, at no table of a reload do more of the master's workers live than
+/// the fullest step has: of each step the old ones that are left, and all new ones up to it.
+pub fn reloads_stay_below_their_ceiling()
+    ensures { RunsStayBelow }
 {}
 
 /// Where neither side has more than one group, the ceiling is the workers of one step above those that were ready or are

@@ -14,3 +14,4 @@ pub mod Files
 pub mod Addresses
 pub mod Listeners
 pub mod Layouts
+pub mod Rolling

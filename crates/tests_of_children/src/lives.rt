@@ -13,7 +13,7 @@ use vocabulary::{Answer, Call};
 
 /// What an edge hears of one worker in its life, and how many processes are left then.
 #[derive(Clone, Copy)]
-pub(crate) struct Life {
+pub(crate) struct WorkerLife {
     pub(crate) ready: Option<Answer>,
     pub(crate) beats: Numbers,
     pub(crate) counted: Option<Answer>,
@@ -21,7 +21,7 @@ pub(crate) struct Life {
     pub(crate) left: usize,
 }
 
-impl Life {
+impl WorkerLife {
     pub(crate) fn has_beats(&self, n: u32) -> bool {
         self.beats == below(n)
     }
@@ -40,12 +40,12 @@ fn end<F: Family + Drop>(edge: &mut Edge<F>) -> Option<Answer> {
 }
 
 /// The life of a worker, but for what is left of it.
-fn live<F: Family + Drop>(edge: &mut Edge<F>) -> Life {
+fn live<F: Family + Drop>(edge: &mut Edge<F>) -> WorkerLife {
     let ready = start(edge, 0);
     let beats = edge.tick_reigning(7);
     let counted = ask(edge, 1, Call::Census(FIRST));
     let gone = end(edge);
-    Life {
+    WorkerLife {
         ready,
         beats,
         counted,
@@ -66,7 +66,7 @@ pub(crate) struct Case {
 }
 
 /// Whether a worker that was ready was heard as a case says.
-fn is_heard_as(life: &Life, case: &Case) -> bool {
+fn is_heard_as(life: &WorkerLife, case: &Case) -> bool {
     life.has_beats(case.beats) && life.is_counted(case.counted) && life.gone == Some(case.gone)
 }
 
@@ -86,12 +86,12 @@ pub(crate) fn tried_on<T: FamilyTrial>(
 struct OneLife;
 
 impl FamilyTrial for OneLife {
-    type Found = Life;
+    type Found = WorkerLife;
 
-    fn on<F: Countable>(&self, alloc: Global, family: F) -> Result<Life, Fail> {
+    fn on<F: Countable>(&self, alloc: Global, family: F) -> Result<WorkerLife, Fail> {
         let mut edge = edge_of(alloc, family)?;
         let life = live(&mut edge);
-        Ok(Life {
+        Ok(WorkerLife {
             left: edge.family().left(),
             ..life
         })
@@ -99,7 +99,7 @@ impl FamilyTrial for OneLife {
 }
 
 /// The life of a worker that does something at a word.
-pub(crate) fn life_of(rt: &HostRuntime, word: &str, instead: &str) -> Result<Life, Fail> {
+pub(crate) fn life_of(rt: &HostRuntime, word: &str, instead: &str) -> Result<WorkerLife, Fail> {
     tried_on(rt, word, instead, &OneLife)
 }
 

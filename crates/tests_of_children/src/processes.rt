@@ -1,5 +1,5 @@
 //! Edges over processes of the system. Each child ends with its input, or is stopped by the edge.
-use crate::lives::{Case, Life, carried_over, check_carried, is_met, life_of, tried_on};
+use crate::lives::{Case, WorkerLife, carried_over, check_carried, is_met, life_of, tried_on};
 use crate::setup::{Countable, FIRST, FamilyTrial, ask, below, both_beat, counts, edge_of, start};
 use child_edge::Edge;
 use child_family::Family;
@@ -86,7 +86,7 @@ fn gone_or_late(fault: usize) -> Option<Answer> {
 }
 
 /// Whether a worker was ready so, and neither beat nor was counted: one that is late never is. No process is left.
-fn is_missed(life: &Life, ready: Option<Answer>) -> bool {
+fn is_missed(life: &WorkerLife, ready: Option<Answer>) -> bool {
     life.ready == ready && life.has_beats(0) && life.is_counted(0) && life.left == 0
 }
 
@@ -100,7 +100,7 @@ fn hears_faults_at_go(rt: HostRuntime) -> Result<(), Fail> {
 }
 
 /// Whether a worker beat, but was not counted, and then gone so. No process is left.
-fn is_lost(life: &Life, gone: Option<Answer>) -> bool {
+fn is_lost(life: &WorkerLife, gone: Option<Answer>) -> bool {
     life.has_beats(1) && life.is_counted(0) && life.gone == gone && life.left == 0
 }
 
@@ -120,7 +120,7 @@ fn counted_at_tick(fault: usize) -> Option<Answer> {
 }
 
 /// Whether no beat came, and the workers are counted so. No process is left.
-fn has_no_beat(life: &Life, counted: Option<Answer>) -> bool {
+fn has_no_beat(life: &WorkerLife, counted: Option<Answer>) -> bool {
     life.has_beats(0) && life.counted == counted && life.left == 0
 }
 
@@ -134,7 +134,7 @@ fn hears_faults_at_tick(rt: HostRuntime) -> Result<(), Fail> {
 }
 
 /// Whether a worker was counted, and then gone so. No process is left.
-fn is_counted_once(life: &Life, gone: Option<Answer>) -> bool {
+fn is_counted_once(life: &WorkerLife, gone: Option<Answer>) -> bool {
     life.is_counted(1) && life.gone == gone && life.left == 0
 }
 

@@ -102,6 +102,45 @@ fn one_that_reads_nothing_is_killed(rt: HostRuntime) -> Result<(), Fail> {
     Ok(())
 }
 
+/// A limit for readiness alone: neither an answer nor room in the input has one.
+const READY_ALONE: ChildLimits = ChildLimits {
+    answer: 0,
+    ready: 60,
+};
+
+/// Whether a child can be told more than a pipe holds, in forty lines.
+fn is_told_long_lines<F: Family>(family: &mut F, id: u32) -> bool {
+    let mut is_said = true;
+    for _ in 0..40 {
+        is_said = is_said && family.say(id, &[b'x'; 4_000]);
+    }
+    is_said
+}
+
+/// A worker that reads nothing for a while is told all, once it reads.
+#[derive(Clone, Copy)]
+struct ReadsLate;
+
+impl Trial for ReadsLate {
+    fn holds<M: Families>(&self, families: &M) -> Result<bool, Fail> {
+        let mut family = scripted(families, "sleep 2; exec cat >/dev/null")?;
+        let Ok(id) = family.start(&WORKER) else {
+            return Ok(true);
+        };
+        let is_told = is_told_long_lines(&mut family, id);
+        family.end();
+        Ok(is_told)
+    }
+}
+
+#[test]
+fn one_that_reads_late_is_told_all_under_a_limit_for_readiness_alone(
+    rt: HostRuntime,
+) -> Result<(), Fail> {
+    assert!(rt; holds(&rt, Some(READY_ALONE), &ReadsLate)?);
+    Ok(())
+}
+
 /// The first worker says nothing; the second has said its line by the time that the first is killed.
 const FIRST_HANGS: &str = "read -r which; [ \"$which\" = 0 ] && exec sleep 1000; echo \"$which\"";
 

@@ -22,6 +22,9 @@ pub mod Same
 pub mod Mend
 pub mod Reopen
 pub mod LaidOut
+pub mod Owed
+pub mod Late
+pub mod Walks
 pub mod Reload
 pub mod Settling
 pub mod StopFiles

@@ -747,4 +747,4 @@ returns_always handed image pid holds opened crew set new forked rounds pattern 
     (back-goes image pid holds opened crew set new forked on.apart handed rounds pattern first dS (every-is_in (λ k. k < 1024) set below) looks) spared
 
 pub plans_go_back : PlansGoBack
-plans_go_back = record { workers = λ by crew ready retries n. refl; reload = λ by old new ready retries opened forked. refl }
+plans_go_back = record { workers = λ by crew ready retries n. refl; reload = λ by old new ready retries opened numbers forked. refl }

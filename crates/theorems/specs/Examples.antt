@@ -114,6 +114,7 @@ settings_of listeners workers = record {
   groups = (record { addresses = length listeners; workers = workers }) ∷ [];
   timeout = 60;
   retries = 3;
+  surge = 0;
   pid = Some pid_file;
 }
 

@@ -22,7 +22,7 @@ abbrev pub two_groups : List Group
 two_groups = (record { addresses = 1; workers = 2 }) ∷ (record { addresses = 1; workers = 1 }) ∷ []
 
 abbrev pub grouped : Settings
-grouped = record { listeners = port ∷ other_port ∷ []; workers = 3; groups = two_groups; timeout = 60; retries = 3; pid = Some pid_file }
+grouped = record { listeners = port ∷ other_port ∷ []; workers = 3; groups = two_groups; timeout = 60; retries = 3; surge = 0; pid = Some pid_file }
 
 abbrev pub first_hold : Hold
 first_hold = record { fd = 3; socket = 1; address = port }

@@ -10,7 +10,7 @@ use Rattle.definitions.specs.Master.{Crew, IsRunning}
 use Rattle.vocabulary.specs.declared.table.Stance.TheVariants.{Starting, Ready, Draining, Exited}
 use Rattle.definitions.specs.Run.{Side, Tree, Pattern, Progress, Ending, At, Ran, run_with}
 use Rattle.vocabulary.specs.declared.plans.Side.TheVariants as side
-use Rattle.definitions.specs.Plans.{settle, starts, workers_tree, reload_back, full_end, short_end}
+use Rattle.definitions.specs.Plans.{settle, starts, workers_tree, quits_new, closes_opened, full_end, short_end}
 use Rattle.definitions.specs.Claims.{refused_among}
 use Rattle.definitions.specs.Calls.{Handed}
 
@@ -106,7 +106,7 @@ ReturnsAlways =
     Settles image pid (without opened holds) crew set side.Old rounds first
     (run_with handed (back image new.generation forked opened crew set rounds) pattern first)
 
--- The plans go back so: from a failed start of a change of the number of workers, and of a reload.
+-- The plans go back so: from a failed start of a change of the number of workers, and of the first step of a reload.
 pub record PlansGoBack : Type 0 where
   pub workers :
       (by : ℕ) (crew : Crew) (ready : List ℕ) (retries n : ℕ) →
@@ -115,5 +115,6 @@ pub record PlansGoBack : Type 0 where
       (quits by crew.generation (reverse (filter (λ k. not (nat_lt k n)) ready)) (settle by crew (numbers_below n) side.Target retries))
       (λ forked. back by crew.generation forked [] crew ready retries)
   pub reload :
-      (by : ℕ) (old new : Crew) (ready : List ℕ) (retries : ℕ) (opened : List Address) (forked : List ℕ) →
-      reload_back by old new ready retries opened forked ≡ back by new.generation forked opened old ready retries
+      (by : ℕ) (old new : Crew) (ready : List ℕ) (retries : ℕ) (opened : List Address) (numbers forked : List ℕ) →
+      quits_new by new false numbers (closes_opened by old ready retries opened) forked
+      ≡ back by new.generation forked opened old ready retries

@@ -49,20 +49,18 @@ same_plain : (text key : List ℕ) → list_all is_plain key ≡ true → bytes_
 same_plain text key plain h = ap (list_all is_plain) (same_bytes text key h) ∙ plain
 
 key_plain : (text : List ℕ) → is_key text ≡ true → list_all is_plain text ≡ true
-key_plain text h = one (bytes_eq text (codes "command")) refl (bytes_eq text (codes "groups")) refl (bytes_eq text (codes "listeners")) refl (bytes_eq text (codes "pid")) refl (bytes_eq text (codes "retries")) refl (bytes_eq text (codes "timeout")) refl (bytes_eq text (codes "workers")) refl h
+key_plain text h = one (bytes_eq text (codes "command")) refl (bytes_eq text (codes "groups")) refl (bytes_eq text (codes "listeners")) refl (bytes_eq text (codes "pid")) refl (bytes_eq text (codes "retries")) refl (bytes_eq text (codes "surge")) refl (bytes_eq text (codes "timeout")) refl (bytes_eq text (codes "workers")) refl h
   where
-    one : (a : Bool) → bytes_eq text (codes "command") ≡ a → (b : Bool) → bytes_eq text (codes "groups") ≡ b →
-        (c : Bool) → bytes_eq text (codes "listeners") ≡ c → (d : Bool) → bytes_eq text (codes "pid") ≡ d → (e : Bool) →
-        bytes_eq text (codes "retries") ≡ e → (f : Bool) → bytes_eq text (codes "timeout") ≡ f → (g : Bool) →
-        bytes_eq text (codes "workers") ≡ g → (a || b || c || d || e || f || g) ≡ true → list_all is_plain text ≡ true
-    one true i b j c k d l e m f n g o h = same_plain text (codes "command") refl i
-    one false i true j c k d l e m f n g o h = same_plain text (codes "groups") refl j
-    one false i false j true k d l e m f n g o h = same_plain text (codes "listeners") refl k
-    one false i false j false k true l e m f n g o h = same_plain text (codes "pid") refl l
-    one false i false j false k false l true m f n g o h = same_plain text (codes "retries") refl m
-    one false i false j false k false l false m true n g o h = same_plain text (codes "timeout") refl n
-    one false i false j false k false l false m false n true o h = same_plain text (codes "workers") refl o
-    one false i false j false k false l false m false n false o h = cc
+    one : (a : Bool) → bytes_eq text (codes "command") ≡ a → (b : Bool) → bytes_eq text (codes "groups") ≡ b → (c : Bool) → bytes_eq text (codes "listeners") ≡ c → (d : Bool) → bytes_eq text (codes "pid") ≡ d → (e : Bool) → bytes_eq text (codes "retries") ≡ e → (f : Bool) → bytes_eq text (codes "surge") ≡ f → (g : Bool) → bytes_eq text (codes "timeout") ≡ g → (p : Bool) → bytes_eq text (codes "workers") ≡ p → (a || b || c || d || e || f || g || p) ≡ true → list_all is_plain text ≡ true
+    one true i b j c k d l e m f n g o p q h = same_plain text (codes "command") refl i
+    one false i true j c k d l e m f n g o p q h = same_plain text (codes "groups") refl j
+    one false i false j true k d l e m f n g o p q h = same_plain text (codes "listeners") refl k
+    one false i false j false k true l e m f n g o p q h = same_plain text (codes "pid") refl l
+    one false i false j false k false l true m f n g o p q h = same_plain text (codes "retries") refl m
+    one false i false j false k false l false m true n g o p q h = same_plain text (codes "surge") refl n
+    one false i false j false k false l false m false n true o p q h = same_plain text (codes "timeout") refl o
+    one false i false j false k false l false m false n false o true q h = same_plain text (codes "workers") refl q
+    one false i false j false k false l false m false n false o false q h = cc
 
 detail_plain : (text : List ℕ) → is_detail text ≡ true → list_all is_plain text ≡ true
 detail_plain text h = one (is_lettered text) refl (is_numeral text) refl (is_key text) refl h

@@ -19,8 +19,8 @@ is_lettered (c ∷ cs) = is_ascii_uppercase c && is_numeral cs
 abbrev pub is_key : List ℕ → Bool
 is_key text =
     bytes_eq text (codes "command") || bytes_eq text (codes "groups") || bytes_eq text (codes "listeners")
-    || bytes_eq text (codes "pid") || bytes_eq text (codes "retries") || bytes_eq text (codes "timeout")
-    || bytes_eq text (codes "workers")
+    || bytes_eq text (codes "pid") || bytes_eq text (codes "retries") || bytes_eq text (codes "surge")
+    || bytes_eq text (codes "timeout") || bytes_eq text (codes "workers")
 
 abbrev pub is_detail : List ℕ → Bool
 is_detail text = is_lettered text || is_numeral text || is_key text

@@ -44,6 +44,7 @@ fn is_key(text: &[u8]) -> bool
         || text == b"listeners".as_slice()
         || text == b"pid".as_slice()
         || text == b"retries".as_slice()
+        || text == b"surge".as_slice()
         || text == b"timeout".as_slice()
         || text == b"workers".as_slice()
 }

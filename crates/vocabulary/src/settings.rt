@@ -20,6 +20,8 @@ pub struct Settings {
     pub timeout: u32,
     /// How many rounds of starts a plan makes before it gives up, from 0 to 8.
     pub retries: u32,
+    /// How many new workers a step of a reload starts, from 0 to 1024; 0 is all at once.
+    pub surge: u32,
     /// The pid file, a path of at most 100 bytes.
     pub pid: Option<FilePath>,
 }
@@ -29,11 +31,11 @@ impl Model for Settings {
 
     ghost Value = { Said };
 
-    ghost view = { λ s. record { listeners = s.listeners; workers = s.workers; groups = s.groups; timeout = s.timeout; retries = s.retries; pid = s.pid } };
+    ghost view = { λ s. record { listeners = s.listeners; workers = s.workers; groups = s.groups; timeout = s.timeout; retries = s.retries; surge = s.surge; pid = s.pid } };
 
-    ghost invariant = { λ s. IsInRange (record { listeners = s.listeners; workers = s.workers; groups = s.groups; timeout = s.timeout; retries = s.retries; pid = s.pid }) };
+    ghost invariant = { λ s. IsInRange (record { listeners = s.listeners; workers = s.workers; groups = s.groups; timeout = s.timeout; retries = s.retries; surge = s.surge; pid = s.pid }) };
 
-    ghost inverse = { λ v. record { listeners = v.listeners; workers = v.workers; groups = v.groups; timeout = v.timeout; retries = v.retries; pid = v.pid } };
+    ghost inverse = { λ v. record { listeners = v.listeners; workers = v.workers; groups = v.groups; timeout = v.timeout; retries = v.retries; surge = v.surge; pid = v.pid } };
 }
 
 impl Settings {
@@ -50,6 +52,7 @@ impl Settings {
             groups: Groups::one(1, 1),
             timeout: 60,
             retries: 3,
+            surge: 0,
             pid: None,
         }
     }

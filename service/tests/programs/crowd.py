@@ -9,7 +9,7 @@ import time
 sys.path.insert(0, str(pathlib.Path(__file__).resolve().parent.parent.parent))
 
 from prefork_service.addresses import text_of
-from prefork_service.queues import queues_of
+from prefork_service.queues import Queues
 from prefork_service.sockets import inode_of
 
 SECONDS = 60.0
@@ -22,8 +22,8 @@ def waiting(kind: str, listener: socket.socket, count: int) -> str:
     for _ in range(count):
         clients.append(socket.socket(listener.family))
         clients[-1].connect(listener.getsockname())
-    deadline, held = time.monotonic() + SECONDS, {text_of(listener.getsockname()): inode_of(listener)}
-    while (found := queues_of(held)[0])["waiting"] < count and time.monotonic() < deadline:
+    deadline, held, queues = time.monotonic() + SECONDS, {text_of(listener.getsockname()): inode_of(listener)}, Queues()
+    while (found := queues.of(held)[0])["waiting"] < count and time.monotonic() < deadline:
         time.sleep(0.02)
     for client in clients:
         client.close()

@@ -2,7 +2,8 @@
 """prefork-serve, in which a call raises: the one whose name the file FAULTS/raise has. That file is removed first, so that
 it raises once; with FAULTS/always it raises until the test removes FAULTS/raise.
 
-With MARGIN a master that hangs is killed that number of seconds after its limits.
+With MARGIN a master that hangs is killed that number of seconds after its limits, and with READING that is how long a
+configuration may take to be read.
 
 It notes each handler of events that it registers in FAULTS/handlers, a line for each.
 """
@@ -17,15 +18,15 @@ sys.dont_write_bytecode = True
 sys.path.insert(0, str(pathlib.Path(__file__).resolve().parent.parent.parent))
 
 from prefork_service import (  # noqa: E402
-    asking, chronicle, commands, core, door, feed, keeping, leaving, master, patience, preloading, records, serve, service,
-    summary, telling, ticks, watching, words,
+    asking, chronicle, commands, core, door, feed, keeping, leaving, limits, master, patience, preloading, reading, records, refusing,
+    serve, service, stopping, summary, telling, ticks, watching, words,
 )
 
 PLACE = pathlib.Path(os.environ["FAULTS"])
 CLASSES = [
     asking.Asking, chronicle.Chronicle, commands.Commands, door.Door, feed.Feed, keeping.Keeping, leaving.Leaving, master.Master,
-    patience.Hanging, preloading.KeptPreloader, preloading.Preloading, records.Records, service.Service, summary.Summary,
-    telling.Telling, ticks.Ticks, watching.Watching, words.Queue,
+    patience.Hanging, preloading.KeptPreloader, preloading.Preloading, reading.ReaderProcess, records.Records, service.Service,
+    stopping.Stopping, summary.Summary, telling.Telling, ticks.Ticks, watching.Watching, words.Queue,
 ]
 
 
@@ -69,6 +70,9 @@ def blind(select: Any) -> Any:
 
 if __name__ == "__main__":
     patience.MARGIN = float(os.environ.get("MARGIN", patience.MARGIN))
+    # (a busy machine may start the program of a master slowly)
+    limits.ASKING_SECONDS = refusing.REFUSAL_SECONDS = 120.0
+    reading.READING_SECONDS = float(os.environ.get("READING", 120))
     setattr(selectors.DefaultSelector, "select", blind(selectors.DefaultSelector.select))
     for one in CLASSES:
         for name, value in list(vars(one).items()):

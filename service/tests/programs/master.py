@@ -6,13 +6,15 @@
     master.py supervise ..                blocks: of the file BLOCKS/WORD if there is one, or else a plain one
 
 Before a block that has a file it says what the file BLOCKS/errors has, if there is one. If there is a file
-BLOCKS/arguments, it writes its arguments there. If there is a file BLOCKS/adopt, it starts that as a new master at USR2,
-and goes back once that has ended.
+BLOCKS/arguments, it writes its arguments there. If there is a file BLOCKS/dies, it ends at once. If there is a file
+BLOCKS/adopt, it starts that as a new master at USR2, and goes back once that has ended. At the word that the file
+BLOCKS/hangs has, it makes the file BLOCKS/is_held, and does not go on while that word is there.
 """
 import os
 import pathlib
 import subprocess
 import sys
+import time
 
 COUNT = int(os.environ.get("WORKERS", "2"))
 PLACE = pathlib.Path(os.environ.get("BLOCKS", "/nowhere"))
@@ -41,7 +43,17 @@ def note_workers() -> None:
         (place / f"1.1.{number}").write_text(f"{os.getpid()}\n")
 
 
+def hang(word: str) -> None:
+    """Does not go on with a word for as long as the test wants."""
+    file = PLACE / "hangs"
+    while file.exists() and file.read_text() == word:
+        (PLACE / "is_held").touch()
+        time.sleep(0.02)
+
+
 def supervise() -> None:
+    if (PLACE / "dies").exists():
+        sys.exit(1)
     note_workers()
     if (PLACE / "arguments").exists():
         (PLACE / "arguments").write_text(" ".join(sys.argv[1:]))
@@ -51,6 +63,7 @@ def supervise() -> None:
         if word.startswith("tick "):
             for number in range(COUNT):
                 print(f"word beat {number} {word.split()[1]}\nnothing")
+        hang(word)
         is_upgrade = word == "USR2" and (PLACE / "adopt").exists()
         print(upgrade() if is_upgrade else block_of(word), end="", flush=True)
         if word in ("QUIT", "INT", "TERM"):

@@ -28,6 +28,10 @@ def application(environ, start_response):
     if path == "/print":
         print("pong", flush=True)
         subprocess.run(["sh", "-c", "echo pong; cat"], check=True)
+    if path.startswith("/clock/"):
+        set_clock(float(path.removeprefix("/clock/")))
+    if path == "/hurry":
+        sys.modules["prefork_service.wsgi_server"].SILENT_CLIENT_SECONDS = 1.0
     if path == "/fork":
         fork_a_printer()
     if path == "/environment":
@@ -36,6 +40,11 @@ def application(environ, start_response):
         text = f"{len(environ['wsgi.input'].read())}\n"
     start_response("200 OK", [("Content-Type", "text/plain"), ("Content-Length", str(len(text)))])
     return [text.encode()]
+
+
+def set_clock(seconds: float) -> None:
+    """Sets the clock on the wall of this process alone: so much ahead."""
+    time.time = lambda: time.clock_gettime(time.CLOCK_REALTIME) + seconds
 
 
 def hold(file: pathlib.Path) -> None:

@@ -9,6 +9,11 @@ use Rattle.explorer.specs.declared.events.Tried.TheVariants.{Nothing}
 use Rattle.explorer.specs.Known.{IsKnownAt}
 use Rattle.explorer.specs.Positions.{IsFit, IsAt}
 use Rattle.explorer.proofs.Counted.{with-first, firsts-counting}
+use Rattle.explorer.specs.declared.findings.Findings.{Findings}
+use Rattle.explorer.specs.Explored.{each_with_pairs}
+use Rattle.explorer.specs.Looking.{IsSeenIn}
+use Rattle.explorer.specs.Searched.{subject_of, HasSeen, IsWider, IsSeenKnown}
+use Rattle.explorer.proofs.Searching.{IsOnWay}
 use Rattle.explorer.proofs.Turning.{Reaches}
 use Rattle.explorer.proofs.exploring.count_events.Given as goal
 
@@ -27,6 +32,10 @@ invariant-loop-due g l =
       tried : l.run.tried ≡ Nothing;
       known : (p : Progress) → IsAt l.fn.run p → (by : ℕ) (call : Call) → AsksFor (trail_on l.run.course) by call →
           AllByRecursion (IsKnownAt l.run (l.run.made + 1)) l.known.items;
+      searched : (p : Progress) → IsAt l.fn.run p → IsOnWay l.fn.run p None (λ es. each_with_pairs r to given t l.pairs es) l.fn.found l.run l.found;
+      seen : (p : Progress) → IsAt l.fn.run p → HasSeen l.fn.run p l.fn.found → (by : ℕ) (call : Call) → AsksFor (trail_on l.run.course) by call →
+          (later : Findings) → IsWider l.found later → IsSeenIn later l.run.kernel.table →
+          AllByRecursion (IsSeenKnown (subject_of l.run) later (l.run.made + 1)) l.known.items;
       counts : Reaches l.fn.run None (with-first r to given t l.pairs) (firsts-counting r to given t l.pairs) l.run l.fn.found.tally l.found.tally;
     }
 

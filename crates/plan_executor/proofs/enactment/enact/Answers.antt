@@ -7,6 +7,7 @@ use Rattle.plan_executor.proofs.Exact.{IsExact, refused-exact, only-enacted}
 use Rattle.lives.proofs.Restart.{deaths-survived}
 use Rattle.further_theorems.proofs.Named.{workers-end-by-name}
 use Rattle.further_theorems.proofs.Peace.{peace-of-kept}
+use Rattle.stepped_reloads.proofs.Crowd.{runs-stay-below}
 use Rattle.plan_executor.proofs.Beside.{done-in-quiet, are-proper, leaves-files, leaves-record, obeys-operator}
 use Rattle.definitions.specs.Table.{Table}
 use Rattle.definitions.specs.Claims.{IsStart}
@@ -71,3 +72,9 @@ returns-clause-peace c =
     let is = returns-clause-ok c in
     peace-of-kept c.args.kernel.now.table c.args.state.now c.args.target.now c.args.section.now.turns (moment_at c.args.section.now.pattern)
     (subst (λ (t : Table). IsStart t c.args.state.now) c.in_ok-prepared.ensures.table c.in_ok-prepared.ensures.ready.start) is.headline
+
+pub returns-clause-ceiling : goal.returns-clause-ceiling
+returns-clause-ceiling c =
+    let is = returns-clause-ok c in
+    runs-stay-below c.args.kernel.now.table c.args.state.now c.args.target.now c.args.section.now.turns (moment_at c.args.section.now.pattern)
+    (subst (λ (t : Table). IsStart t c.args.state.now) c.in_ok-prepared.ensures.table c.in_ok-prepared.ensures.ready.start) is.spared

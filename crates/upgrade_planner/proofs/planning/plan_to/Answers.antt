@@ -38,7 +38,7 @@ planned c =
     let v = c.state.inside in
     let s = c.settings.inside in
     let r : Record = record { listeners = v.listeners; posts = v.posts; generation = v.generation; ready = v.ready; wanted = v.wanted; retries = v.retries; timeout = v.timeout; pid_path = v.pid_path; note = v.note; pid = v.pid } in
-    let said : Settings = record { listeners = s.listeners; workers = s.workers; groups = s.groups; timeout = s.timeout; retries = s.retries; pid = s.pid } in
+    let said : Settings = record { listeners = s.listeners; workers = s.workers; groups = s.groups; timeout = s.timeout; retries = s.retries; surge = s.surge; pid = s.pid } in
     let held = addresses_of r in
     let dropped = c.as_slice.ensures.items ∙ (c.only_in-dropped.ensures ∙ ap (λ xs. only_in xs s.listeners) c.addresses-listening.ensures) in
     let added = c.as_slice-2.ensures.items ∙ (c.only_in-added.ensures ∙ ap (only_in s.listeners) c.addresses-listening.ensures) in
@@ -78,6 +78,6 @@ returns-clause-few c =
     let added = ap length (c.as_slice-2.ensures.items ∙ c.only_in-added.ensures) in
     let old : length listened ≡ length v.listeners = ap length c.addresses-listening.ensures ∙ length-map v.listeners (λ (l : Listener). l.address) in
     let r : Record = record { listeners = v.listeners; posts = v.posts; generation = v.generation; ready = v.ready; wanted = v.wanted; retries = v.retries; timeout = v.timeout; pid_path = v.pid_path; note = v.note; pid = v.pid } in
-    let said : Settings = record { listeners = s.listeners; workers = s.workers; groups = s.groups; timeout = s.timeout; retries = s.retries; pid = s.pid } in
+    let said : Settings = record { listeners = s.listeners; workers = s.workers; groups = s.groups; timeout = s.timeout; retries = s.retries; surge = s.surge; pid = s.pid } in
     rw (← c.state.view_is, ← c.settings.view_is)
     (omega (arith, ap length (same_numbers c.args.attended r said), ap length (same_addresses c.args.attended r said), c.in_ok-finish_in_parts.ensures.few, c.in_ok-drawn.ensures.count, ap length c.in_ok-draft.ensures.none, coming, length-below s.workers, dropped, added, old, filter_few (λ a. not (has s.listeners a)) listened, filter_few (λ a. not (has listened a)) s.listeners))

@@ -3,6 +3,8 @@ use Rattle.definitions.specs.Run.{Progress}
 use Rattle.plan_walk.specs.Fit.{height_next}
 use Rattle.plan_walk.specs.Course.{turns_of, trail_on}
 use Rattle.explorer.specs.Positions.{IsFit, IsAt}
+use Rattle.explorer.specs.Readiness.{HaveAtLeast}
+use Rattle.explorer.proofs.Searching.{IsFinishing}
 use Rattle.explorer.proofs.position.Position.finish.Given as goal
 
 abbrev pub invariant-loop-due : goal.invariant-loop-due
@@ -16,6 +18,8 @@ invariant-loop-due l = record {
   made : l.fn.self.made ≤ l.self.made;
   found : l.found.tally ≡ l.fn.found.tally;
   at : (p : Progress) → IsAt l.fn.self p → (q : Progress) × IsAt l.self q;
+  low : HaveAtLeast l.found.common.items l.self.kernel.table l.low;
+  searched : (p : Progress) → IsAt l.fn.self p → IsFinishing l.fn.self p l.fn.found l.self l.found;
 }
 
 abbrev pub decreases-loop-due : goal.decreases-loop-due

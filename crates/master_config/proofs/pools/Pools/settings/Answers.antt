@@ -13,8 +13,9 @@ invariant_of-result c =
       groups = are;
       addresses_add_up = sum;
       workers_add_up = sym c.workers.ensures;
-      timeout_least = c.rest.invariant.2;
-      timeout_most = c.rest.invariant.3;
+      timeout_least = c.rest.invariant.3;
+      timeout_most = c.rest.invariant.4;
       retries = c.rest.invariant.1;
+      surge = c.rest.invariant.2;
       pid = c.rest.invariant.0;
     }

@@ -1,0 +1,4 @@
+pub mod Passing
+pub mod Living
+pub mod Opening
+pub mod Calling

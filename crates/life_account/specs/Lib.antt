@@ -1,0 +1,4 @@
+pub mod Tables
+pub mod Shorts
+pub mod Account
+pub mod Lived

@@ -1,0 +1,5 @@
+pub mod Lists
+pub mod Serving
+pub mod Staying
+pub mod Rolled
+pub mod Sides

@@ -1,0 +1,3 @@
+pub mod Spots
+pub mod Counts
+pub mod Sides

@@ -1,0 +1,3 @@
+pub mod Shut
+pub mod Asked
+pub mod Marks
