@@ -68,6 +68,7 @@ def asked_and_interrupted(site: Site) -> None:
     asks(site, 1)
     answers(site, 1, "back")
     until("the end of the upgrade", lambda: site.question() == "asks nothing\n")
+    site.check_workers("the upgrade that went back", 2)
     site.check("a new worker answers", versions(site) == {"1"})
     site.end("12")
     site.certify()
