@@ -3,6 +3,10 @@ import concurrent.futures
 import functools
 import os
 import signal
+import threading
+import time
+from collections.abc import Callable
+from typing import Any
 
 import setups
 from gate.addresses import free_address, ipv6_beside
@@ -14,6 +18,8 @@ HUPS = 5
 BROKEN = ("does not load", "exits", "hangs")
 # For workers that are stopped: how long one may owe an answer, and how long it may finish.
 ANSWER_SECONDS, FINISH_SECONDS = "4", "4"
+# For reloads in steps: how many workers there are, and how many new ones start in each step.
+STEPPED, SURGES = 16, (1, 2, 5, 16)
 
 
 class Life(Run):
@@ -106,6 +112,48 @@ class Reloads(Run):
         self.end_load()
         self.stop()
         self.certify()
+
+
+class Steps(Run):
+    """Reloads of sixteen workers in steps of one, two, five and all, under load, and releases that do not start. There are never
+    more workers than those that are wanted and one step."""
+
+    surge = SURGES[0]
+
+    def configure(self, *addresses: str, **more: Any) -> None:
+        super().configure(*addresses, workers=STEPPED, surge=self.surge, **more)
+
+    def go(self) -> None:
+        self.begin()
+        self.begin_load()
+        for self.surge in SURGES:
+            before, most = set(self.workers()), self.most_meanwhile(lambda: self.goes_over("HUP"))
+            self.check(f"surge {self.surge}: {most} workers ran at once", most <= STEPPED + self.surge)
+            self.check(f"surge {self.surge}: old workers are left", not before & set(self.workers()))
+            self.notes.append(f"surge {self.surge}: at most {most} workers")
+        for breaks in BROKEN[:2]:
+            most = self.most_meanwhile(lambda: self.is_rolled_back(breaks))
+            self.check(f"{breaks}: {most} workers ran at once", most <= STEPPED + self.surge)
+        self.end_load()
+        self.stop()
+
+    def most_meanwhile(self, do: Callable[[], None]) -> int:
+        """The most workers that are seen at once while something is done."""
+        most, is_over = 0, threading.Event()
+
+        def look() -> None:
+            nonlocal most
+            while not is_over.is_set():
+                most = max(most, len(self.workers()))
+                time.sleep(0.02)
+        looking = threading.Thread(target=look, daemon=True)
+        looking.start()
+        try:
+            do()
+        finally:
+            is_over.set()
+            looking.join()
+        return most
 
 
 class Pieces(Run):
