@@ -27,7 +27,9 @@ packet each:
 
     +ADDRESS    with a listening socket: the keeper has opened it, or is given it. Who holds one that it is given, it
                 does not know, and it does not close that one
-    -ADDRESS    the keeper has closed it
+    -ADDRESS    it is closed there
+    _ADDRESS    nobody has held it for LINGER seconds: prefork-serve closes it, says `-ADDRESS`, and then the keeper closes
+                it. Who asks before that gets this socket, which is told with `+ADDRESS` again
     ~           a worker holds its addresses no longer: it finishes, or has ended
     !ADDRESS: REASON    the keeper can't open it
     =           all who are to hold a socket have asked for it since: it may be closed, once those that finish are over
@@ -58,7 +60,7 @@ from .door import Door, has_said
 from .errors import take_standard
 from .opening import Wanted, listening
 from .packets import LONGEST_ADDRESS, LONGEST_TOLD, Packet
-from .sockets import QUEUE, file_of, given_sockets
+from .sockets import QUEUE, file_of, given_sockets, seal
 from .titles import set_title
 
 LINGER = 2.0
@@ -89,8 +91,10 @@ class Kept:
     held no more."""
 
     def __init__(self, address: str, one: socket.socket, has_strangers: bool = False):
-        self.address, self.socket, self.has_strangers = address, one, has_strangers
+        self.address, self.socket, self.has_strangers, self.is_given = address, one, has_strangers, has_strangers
         self.holders, self.free_since = 0, 0.0
+        # Whether it is closed once prefork-serve has closed its copy, and how many answers to that are still to come.
+        self.is_closing, self.owed = False, 0
         self.file = file_of(address)
 
     def settle(self) -> None:
@@ -215,6 +219,9 @@ class Keeper:
             self.begin_to_count()
             held.add(kept)
             kept.holders += 1
+        if kept.is_closing and self.channel:
+            kept.is_closing = False
+            self.channel.tell(Packet.OPENED + address, kept.socket)
         try:
             socket.send_fds(holder, [b"ok"], [kept.socket.fileno()])
         except OSError:
@@ -273,6 +280,8 @@ class Keeper:
         self.events.unregister(channel.socket)
         channel.socket.close()
         self.channel, self.is_orphan = None, True
+        for kept in self.kept.values():
+            kept.is_closing = False
 
     def end_if_over(self) -> None:
         """Without prefork-serve it ends with the last holder. One that has been given sockets knows not who holds them: the
@@ -314,11 +323,34 @@ class Keeper:
         if not self.is_any_held():
             return
         for kept in list(self.kept.values()):
-            if kept.is_free(self.linger):
-                kept.remove()
-                del self.kept[kept.address]
-                if self.channel:
-                    self.channel.tell(Packet.CLOSED + kept.address)
+            if kept.is_free(self.linger) and not kept.is_closing:
+                self.begin_to_close(kept)
+
+    def begin_to_close(self, kept: Kept) -> None:
+        """Closes a socket that nobody holds, after prefork-serve: as long as that has it the address can't be opened anew."""
+        if self.channel:
+            kept.is_closing, kept.owed = True, kept.owed + 1
+            self.channel.tell(Packet.FREED + kept.address)
+        else:
+            self.close(kept)
+
+    def take_closed(self, address: str) -> None:
+        """prefork-serve has closed its copy. Who has asked since holds this one, which stays."""
+        kept = self.kept.get(address)
+        if not kept or not kept.owed:
+            return
+        kept.owed -= 1
+        if kept.is_closing and not kept.owed:
+            self.close(kept)
+
+    def close(self, kept: Kept) -> None:
+        """Closes a socket. systemd may have it for a moment yet: the address can be opened anew beside that. One that was given
+        may be systemd's for good, and is left as it is."""
+        if not kept.is_given:
+            seal(kept.socket)
+            self.dropped.add(kept.address)
+        kept.remove()
+        del self.kept[kept.address]
 
     def drop(self, address: str) -> None:
         """Closes an address that no configuration names. Workers that finish may still hold it."""
@@ -348,6 +380,8 @@ class Keeper:
         elif kind == Packet.SETTLED:
             for kept in self.kept.values():
                 kept.settle()
+        elif kind == Packet.CLOSED:
+            self.take_closed(address)
         elif kind == Packet.DROPS:
             self.drop(address)
         elif kind == Packet.RENEWS:

@@ -133,6 +133,9 @@ class Keeping:
             store(text, self.held[text])
         elif kind == Packet.CLOSED:
             self.forget(text)
+        elif kind == Packet.FREED:
+            self.forget(text)
+            self.tell(Packet.CLOSED + text)
         elif kind == Packet.REFUSED:
             self.refusals.append(plain(text))
             say(f"an address is not opened: {plain(text)}")

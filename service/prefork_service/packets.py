@@ -9,4 +9,4 @@ class Packet(enum.StrEnum):
     """What a packet tells, by its first letter."""
 
     OPENED, CLOSED, REFUSED, SETTLED, ASKS, ANSWERS = "+", "-", "!", "=", "?", "."
-    ENDS, LOST, DROPS, RENEWS, INHERITS, WANTS = "x", "~", "/", "%", "^", "*"
+    ENDS, LOST, DROPS, RENEWS, INHERITS, WANTS, FREED = "x", "~", "/", "%", "^", "*", "_"

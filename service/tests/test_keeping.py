@@ -13,7 +13,7 @@ import unittest
 from collections.abc import Callable
 from unittest import mock
 
-from kit import free_address
+from kit import free_address, is_open
 from prefork_service import core, inheriting, keeper, keeping
 from prefork_service.holding import Unfit
 from prefork_service.inheriting import heritage_at
@@ -338,7 +338,46 @@ class KeepingTest(unittest.TestCase):
         self.assertTrue(self.turn(lambda: len(self.keeping.held) == 2))
         hold.close()
         self.assertTrue(self.turn(lambda: len(self.keeping.held) == 1))
-        self.assertFalse((self.room / "dropped").exists())
+        self.assertTrue(self.turn(lambda: not (self.room / "dropped").exists()))
+
+    def freed(self) -> tuple[str, socket.socket]:
+        """An address that nobody holds any longer while another one is held, and its socket. The keeper has said so, and
+        prefork-serve has not heard it yet."""
+        self.given(free_address())
+        address = free_address()
+        listener = self.given(address)
+        self.assertTrue(self.turn(lambda: len(self.keeping.held) == 2))
+        self.holds[-1].close()
+        channel = self.keeping.channel
+        channel.settimeout(60)
+        while address not in channel.recv(200, socket.MSG_PEEK).decode():
+            self.keeping.hear(channel)
+        channel.setblocking(False)
+        return address, listener
+
+    def test_an_address_that_nobody_holds_is_given_as_long_as_prefork_serve_has_it(self) -> None:
+        """With that copy it could not be opened anew."""
+        address, listener = self.freed()
+        inode = os.fstat(listener.fileno()).st_ino
+        with connected(address) as waits:
+            one = self.given(address)
+            self.assertEqual(os.fstat(one.fileno()).st_ino, inode)
+            one.accept()[0].close()
+            self.assertEqual(waits.recv(1), b"")
+        # (prefork-serve closes its copy, and has another one then)
+        self.keeping.hear(self.keeping.channel)
+        self.assertNotIn(address, self.keeping.held)
+        self.assertTrue(self.turn(lambda: address in self.keeping.held))
+        self.assertEqual(os.fstat(self.keeping.held[address].fileno()).st_ino, inode)
+        self.assertFalse(self.turn(lambda: address not in self.keeping.held, 1.0))
+
+    def test_an_address_is_opened_anew_while_systemd_still_has_its_old_socket(self) -> None:
+        address, stored = self.freed()
+        self.assertTrue(self.turn(lambda: not is_open(address)))
+        one = self.given(address)
+        with connected(address):
+            one.accept()[0].close()
+        self.assertNotEqual(os.fstat(one.fileno()).st_ino, os.fstat(stored.fileno()).st_ino)
 
     def test_the_end_removes_files_and_a_kill_does_not(self) -> None:
         place = self.room / "site.sock"
