@@ -120,8 +120,20 @@ class Survivors:
         return count
 
     def settle(self, report: str, record: Record, sizes: list[int]) -> int:
-        """A block has ended so: if others serve in their place, they finish. `sizes` are those of the groups."""
-        return self.release() if self.now and is_replaced(report, record, sizes) else 0
+        """A block has ended so: if others serve in their place, they finish; how many. `sizes` are those of the groups."""
+        if not self.now or not is_replaced(report, record, sizes):
+            return 0
+        self.look()
+        replaced = [one for one in self.now if not self.is_counted(one, record)]
+        self.end(replaced)
+        return len(replaced)
+
+    def is_counted(self, one: Survivor, record: Record) -> bool:
+        """Whether it is one of the workers that the block has counted: their master has died since, and nobody serves in their
+        place."""
+        generation, _, number = one.name.rpartition(".")
+        started = (content_of(self.place.parent / "workers" / one.name) or b"").split()
+        return generation == record.generation and int(number) in record.workers and b"%d" % one.process in started
 
     def as_json(self) -> list[dict[str, object]]:
         return [{"worker": one.name, "process": one.process} for one in self.now]

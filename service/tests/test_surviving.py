@@ -147,6 +147,18 @@ class SurvivorsTest(unittest.TestCase):
         self.assertFalse(file.exists())
         self.assertIn((process.pid, start_of(process.pid)), self.leaving.due)
 
+    def test_workers_that_a_block_has_counted_are_no_others(self) -> None:
+        """Their master dies as the block is told: nobody serves in their place. A worker of an earlier master may have had the
+        same name."""
+        record = Record()
+        record.wanted, record.workers, record.generation = 2, [0, 1], "2.3"
+        files = [self.started(name)[1] for name in ("2.3.0", "1.2.1", "2.3.0", "2.3.1")]
+        self.look()
+        self.assertEqual(self.survivors.settle("done cause none pid no-file", record, [2]), 2)
+        self.assertEqual([file.exists() for file in files], [False, False, True, True])
+        record.generation = "1.1"
+        self.assertEqual(self.survivors.settle("done cause none pid no-file", record, [2]), 2)
+
     def test_which_reports_say_that_others_serve(self) -> None:
         record, all_run = Record(), Record()
         record.wanted, record.workers = 3, []
