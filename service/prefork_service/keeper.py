@@ -28,8 +28,8 @@ packet each:
     +ADDRESS    with a listening socket: the keeper has opened it, or is given it. Who holds one that it is given, it
                 does not know, and it does not close that one
     -ADDRESS    it is closed there
-    _ADDRESS    nobody has held it for LINGER seconds: prefork-serve closes it, says `-ADDRESS`, and then the keeper closes
-                it. Who asks before that gets this socket, which is told with `+ADDRESS` again
+    _ADDRESS    nobody has held it for LINGER seconds: once it is not needed prefork-serve closes it, says `-ADDRESS`, and
+                then the keeper closes it. Who asks before that gets this socket, which is told with `+ADDRESS` again
     ~           a worker holds its addresses no longer: it finishes, or has ended
     !ADDRESS: REASON    the keeper can't open it
     =           all who are to hold a socket have asked for it since: it may be closed, once those that finish are over
@@ -93,8 +93,8 @@ class Kept:
     def __init__(self, address: str, one: socket.socket, has_strangers: bool = False):
         self.address, self.socket, self.has_strangers, self.is_given = address, one, has_strangers, has_strangers
         self.holders, self.free_since = 0, 0.0
-        # Whether it is closed once prefork-serve has closed its copy, and how many answers to that are still to come.
-        self.is_closing, self.owed = False, 0
+        # Whether it is closed once prefork-serve has closed its copy.
+        self.is_closing = False
         self.file = file_of(address)
 
     def settle(self) -> None:
@@ -329,7 +329,7 @@ class Keeper:
     def begin_to_close(self, kept: Kept) -> None:
         """Closes a socket that nobody holds, after prefork-serve: as long as that has it the address can't be opened anew."""
         if self.channel:
-            kept.is_closing, kept.owed = True, kept.owed + 1
+            kept.is_closing = True
             self.channel.tell(Packet.FREED + kept.address)
         else:
             self.close(kept)
@@ -337,10 +337,7 @@ class Keeper:
     def take_closed(self, address: str) -> None:
         """prefork-serve has closed its copy. Who has asked since holds this one, which stays."""
         kept = self.kept.get(address)
-        if not kept or not kept.owed:
-            return
-        kept.owed -= 1
-        if kept.is_closing and not kept.owed:
+        if kept and kept.is_closing:
             self.close(kept)
 
     def close(self, kept: Kept) -> None:

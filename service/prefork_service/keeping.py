@@ -57,6 +57,8 @@ class Keeping:
         self.is_heir = bool(inherited)
         # Whether a worker may have ended since that was looked at.
         self.lost = False
+        # Addresses that nobody holds, and whether they stay open: it is open then which addresses the next workers have.
+        self.freed, self.is_holding_back = set[str](), False
         self.open_door()
         for address, one in self.held.items():
             store(address, one)
@@ -82,6 +84,7 @@ class Keeping:
 
     def begin(self) -> None:
         self.begun, self.restarts = time.monotonic(), self.restarts + 1
+        self.freed.clear()
         self.channel, theirs = socket.socketpair(socket.AF_UNIX, socket.SOCK_SEQPACKET)
         command = [places.KEEPER, *self.options, "--door", str(self.door.fileno()), self.folder.keeper]
         try:
@@ -134,8 +137,8 @@ class Keeping:
         elif kind == Packet.CLOSED:
             self.forget(text)
         elif kind == Packet.FREED:
-            self.forget(text)
-            self.tell(Packet.CLOSED + text)
+            self.freed.add(text)
+            self.close_freed()
         elif kind == Packet.REFUSED:
             self.refusals.append(plain(text))
             say(f"an address is not opened: {plain(text)}")
@@ -152,7 +155,22 @@ class Keeping:
             unstore(address)
             one.close()
         self.sealed.discard(address)
+        self.freed.discard(address)
         self.files.pop(address, None)
+
+    def hold_back(self) -> None:
+        """From now on no address is closed because nobody holds it. A word goes over to another configuration, and may come back;
+        or the master has died, and the next one has the configuration that was accepted last."""
+        self.is_holding_back = True
+
+    def let_close(self) -> None:
+        self.is_holding_back = False
+        self.close_freed()
+
+    def close_freed(self) -> None:
+        for address in [] if self.is_holding_back else list(self.freed):
+            self.forget(address)
+            self.tell(Packet.CLOSED + address)
 
     def drop_others(self, addresses: list[str]) -> None:
         """The configuration that runs names these addresses. At the others new connections are refused from now on, though

@@ -195,6 +195,8 @@ class Service:
         self.barrier.duty(self.watching.begin, word.text)
         self.barrier.duty(self.chronicle.begin_word, word.text)
         self.barrier.duty(self.telling.begin_word, word.text in CHANGES)
+        if word.text in (*CHANGES, START):
+            self.keeping.hold_back()
         if word.text in STOPS:
             notify("STOPPING=1")
             self.barrier.duty(self.keeping.seal)
@@ -279,6 +281,7 @@ class Service:
         """Refuses the current word, which its master is not told."""
         word, self.current = self.current, None
         self.barrier.duty(self.telling.end_word)
+        self.barrier.duty(self.keeping.let_close)
         if word:
             say(f"{word.text}: {reason}")
             self.barrier.duty(self.settle_options, report)
@@ -422,6 +425,8 @@ class Service:
             self.stopping.finish(word)
         elif is_lost:
             self.end_master()
+        else:
+            self.barrier.duty(self.keeping.let_close)
 
     def mark_lost(self, block: str) -> None:
         """Marks in the record that a new master has ended, if that is so: no model of a master says it."""
@@ -461,6 +466,7 @@ class Service:
             self.current = stop
             duty(self.chronicle.cut_word, stop.text, master.block)
             return
+        self.keeping.hold_back()
         duty(self.survivors.open)
         duty(self.survivors.note_death)
         if word:

@@ -371,6 +371,26 @@ class KeepingTest(unittest.TestCase):
         self.assertEqual(os.fstat(self.keeping.held[address].fileno()).st_ino, inode)
         self.assertFalse(self.turn(lambda: address not in self.keeping.held, 1.0))
 
+    def test_no_address_is_closed_while_it_is_open_which_ones_are_needed(self) -> None:
+        """The next master's workers take longer to load than an address that nobody holds stays open."""
+        self.keeping.hold_back()
+        address, listener = self.freed()
+        inode = os.fstat(listener.fileno()).st_ino
+        listener.close()
+        self.assertTrue(self.turn(lambda: self.keeping.freed))
+        with connected(address) as waits:
+            one = self.given(address)
+            one.accept()[0].close()
+            self.assertEqual((os.fstat(one.fileno()).st_ino, waits.recv(1)), (inode, b""))
+        self.assertTrue(self.turn(lambda: not self.keeping.freed))
+        one.close()
+        self.holds.pop().close()
+        self.assertTrue(self.turn(lambda: self.keeping.freed))
+        connected(address).close()
+        self.keeping.let_close()
+        self.assertNotIn(address, self.keeping.held)
+        self.assertTrue(self.turn(lambda: not is_open(address)))
+
     def test_an_address_is_opened_anew_while_systemd_still_has_its_old_socket(self) -> None:
         address, stored = self.freed()
         self.assertTrue(self.turn(lambda: not is_open(address)))
