@@ -3,10 +3,12 @@ import os
 import re
 import socket
 import sys
+import threading
 import time
 
-from .folder import WORKER_OR_ENDED, Folder, files_in, remove_all, say
+from .folder import SURVIVOR, WORKER_OR_ENDED, Folder, files_in, remove_all, say
 from .inheriting import Heritage, heritage_at
+from .surviving import TOUCH_SECONDS, touch
 
 # How long the processes of a service that was killed may take to end: longer than a worker finishes what it serves.
 LEAVE_SECONDS = 35
@@ -33,7 +35,7 @@ class ClaimedFolder(Folder):
         self.mark.touch(0o600)
         self.lock = os.open(self.path, os.O_RDONLY | os.O_DIRECTORY)
         # Whether it is taken, and what a killed service has left.
-        self.is_taken, self.heritage = False, Heritage()
+        self.is_taken, self.heritage, self.is_left = False, Heritage(), threading.Event()
 
     def is_own(self) -> bool:
         """Whether the folder has the mark of a service, is empty, or has what an earlier version has left, which made no
@@ -56,15 +58,24 @@ class ClaimedFolder(Folder):
             is_told = True
             time.sleep(0.1)
         self.is_taken = True
+        threading.Thread(target=self.keep_survivors, daemon=True).start()
         self.heritage = heritage_at(self.keeper)
         for left in (self.words, *([] if self.heritage.connection else [self.keeper]), *self.path.glob("preloader.*")):
             left.unlink(missing_ok=True)
         remove_all(self.workers, WORKER_OR_ENDED)
         self.write_own()
 
+    def keep_survivors(self) -> None:
+        """Tells the workers of a killed service that another one starts, which may take longer than they wait for one."""
+        while survivors := [file for file in files_in(self.survivors) if SURVIVOR.fullmatch(file.name)]:
+            touch(survivors)
+            if self.is_left.wait(TOUCH_SECONDS):
+                return
+
     def clear(self) -> None:
         """Removes what a start has made that has failed, or was stopped. Workers that survive a killed service, and its keeper,
         stay for the next start. What another service has in the folder that was not taken stays, too."""
+        self.is_left.set()
         if not self.is_taken:
             return
         for own in (self.words, self.pid, self.reasons, *([] if self.heritage.connection else [self.keeper])):

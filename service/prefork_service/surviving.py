@@ -95,9 +95,7 @@ class Survivors:
         self.doubted = waited
         if now >= self.next_touch:
             self.next_touch = now + TOUCH_SECONDS
-            for one in self.now:
-                with contextlib.suppress(OSError):
-                    os.utime(one.file)
+            touch(one.file for one in self.now)
 
     def note_death(self) -> None:
         """Another master has died."""
@@ -137,6 +135,13 @@ class Survivors:
 
     def as_json(self) -> list[dict[str, object]]:
         return [{"worker": one.name, "process": one.process} for one in self.now]
+
+
+def touch(files: Iterable[pathlib.Path]) -> None:
+    """Tells the survivors of these files that there is a service."""
+    for file in files:
+        with contextlib.suppress(OSError):
+            os.utime(file)
 
 
 def counted(count: int) -> str:

@@ -6,6 +6,7 @@ import tempfile
 import unittest
 from unittest import mock
 
+from kit import until
 from prefork_service.claiming import LONGEST_PATH, ClaimedFolder as Folder
 from prefork_service.folder import FOLDER_MARK, plain, text_of
 
@@ -69,6 +70,19 @@ class FolderTest(unittest.TestCase):
         self.addCleanup(lambda: os.close(other.lock))
         other.clear()
         self.assertEqual(self.left(), [FOLDER_MARK, "serve.pid", "traffic", "workers"])
+
+    def test_survivors_are_told_of_a_start_as_long_as_it_takes(self) -> None:
+        file = self.path / "survivors" / "1.1.0.4711"
+        folder = Folder(str(self.path))
+        self.addCleanup(lambda: os.close(folder.lock))
+        file.parent.mkdir()
+        file.touch()
+        folder.claim()
+        for _ in range(2):
+            os.utime(file, (1, 1))
+            self.assertTrue(until(lambda: file.stat().st_mtime > 1))
+        folder.clear()
+        self.assertTrue(file.exists())
 
     def test_the_folder_of_an_earlier_version_is_taken(self) -> None:
         (self.path / "records" / "1").mkdir(parents=True)
