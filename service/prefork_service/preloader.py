@@ -104,7 +104,7 @@ class Preloader:
         """Forks workers until the generation needs no more and the last one has ended. Returns in each worker."""
         for text in self.doubts():
             warn(text)
-        gc.collect()
+        # (without a collection: it would leave holes in shared memory, which each worker would fill for itself)
         gc.freeze()
         self.tell("loaded")
         self.events.register(self.life, selectors.EVENT_READ, self.hear_life)

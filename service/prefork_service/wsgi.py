@@ -329,10 +329,15 @@ def ask(given: argparse.Namespace, application: Callable) -> None:
         warm(application, path, bool(given.trusted_proxy))
 
 
-def share_modules() -> None:
-    """Loads what each worker would load and have for itself: the server, and what it looks up addresses with."""
-    importlib.import_module(".wsgi_server", __package__)
+def share_memory(threads: int) -> None:
+    """Loads what each worker would load and have for itself, the server, and what it looks up addresses with; and serves."""
     importlib.import_module("encodings.idna")
+    practising = importlib.import_module(".practising", __package__)
+    try:
+        practising.practise(threads)
+    except OSError:
+        # The system gives it no socket: each worker has some memory more.
+        pass
 
 
 def forked(given: argparse.Namespace) -> Callable:
@@ -343,7 +348,7 @@ def forked(given: argparse.Namespace) -> Callable:
     faulthandler.dump_traceback_later(given.ready_within, exit=True)
     clear_environment()
     try:
-        share_modules()
+        share_memory(given.threads)
         prepare(given.chdir)
         application = loaded(given.application)
         ask(given, application)

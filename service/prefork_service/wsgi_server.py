@@ -83,66 +83,73 @@ def client_of(channel: HTTPChannel) -> str:
     return str(channel.addr[0]) if isinstance(channel.addr, tuple) else "unix"
 
 
-def channel_of(requests: Requests) -> type:
-    """waitress's channel, whose tasks are noted and close their connections while the server finishes."""
+class Noted:
+    """A task that is noted, and closes its connection while the server finishes. It is mixed into tasks of waitress, which have the
+    rest."""
 
-    class Noted:
-        # It is mixed into tasks of waitress, which have the rest.
-        request: Any
-        channel: Any
-        status: str
-        wrote_header: bool
-        size_of_header = 0
+    request: Any
+    channel: Any
+    status: str
+    wrote_header: bool
+    size_of_header = 0
 
-        def service(self) -> None:
-            began, before = time.monotonic(), self.channel.sent
-            requests.begun[id(self)] = began, self.channel
-            # (after an application that has failed waitress answers in its place, and knows no request of it)
-            request, came = self.channel.__dict__.pop("failed", (self.request, getattr(self.request, "came", began)))
-            status = 500
-            try:
-                super().service()  # type: ignore[misc]
-                status = int(self.status[:3])
-            except ClientDisconnected:
-                status = int(self.status[:3]) if self.wrote_header else CLIENT_HAS_GONE
-                raise
-            except Exception:
-                if not self.wrote_header:
-                    self.channel.failed = request, came
-                raise
-            finally:
-                del requests.begun[id(self)]
-                self.channel.has_asked = time.monotonic()
-                if not hasattr(self.channel, "failed"):
-                    size = self.channel.sent - before - self.size_of_header
-                    requests.note(self, request, status, max(0, size), came)
+    def service(self) -> None:
+        began, before, requests = time.monotonic(), self.channel.sent, self.channel.server.noted
+        requests.begun[id(self)] = began, self.channel
+        # (after an application that has failed waitress answers in its place, and knows no request of it)
+        request, came = self.channel.__dict__.pop("failed", (self.request, getattr(self.request, "came", began)))
+        status = 500
+        try:
+            super().service()  # type: ignore[misc]
+            status = int(self.status[:3])
+        except ClientDisconnected:
+            status = int(self.status[:3]) if self.wrote_header else CLIENT_HAS_GONE
+            raise
+        except Exception:
+            if not self.wrote_header:
+                self.channel.failed = request, came
+            raise
+        finally:
+            del requests.begun[id(self)]
+            self.channel.has_asked = time.monotonic()
+            if not hasattr(self.channel, "failed"):
+                size = self.channel.sent - before - self.size_of_header
+                requests.note(self, request, status, max(0, size), came)
 
-        def build_response_header(self) -> bytes:
-            if requests.is_finishing:
-                self.request.headers["CONNECTION"] = "close"
-            header = super().build_response_header()  # type: ignore[misc]
-            self.size_of_header = len(header)
-            return header
+    def build_response_header(self) -> bytes:
+        if self.channel.server.noted.is_finishing:
+            self.request.headers["CONNECTION"] = "close"
+        header = super().build_response_header()  # type: ignore[misc]
+        self.size_of_header = len(header)
+        return header
 
-    class Timed(HTTPChannel):
-        """A channel that knows when its requests were there, and how much was answered."""
 
-        sent = 0
+class NotedTask(Noted, WSGITask):
+    """The answer of an application."""
 
-        def write_soon(self, data: Any) -> int:
-            size = super().write_soon(data)
-            self.sent += size
-            return size
 
-        def received(self, data: bytes) -> bool:
-            is_heard = super().received(data)
-            now = time.monotonic()
-            for request in list(self.requests):
-                request.__dict__.setdefault("came", now)
-            return is_heard
+class NotedFault(Noted, ErrorTask):
+    """The answer of waitress in its place."""
 
-    task, fault = type("Task", (Noted, WSGITask), {}), type("Fault", (Noted, ErrorTask), {})
-    return type("Channel", (Timed,), {"task_class": task, "error_task_class": fault})
+
+class Timed(HTTPChannel):
+    """A channel that knows when its requests were there, and how much was answered. Its server has `noted`, which is told."""
+
+    task_class: Any = NotedTask
+    error_task_class: Any = NotedFault
+    sent = 0
+
+    def write_soon(self, data: Any) -> int:
+        size = super().write_soon(data)
+        self.sent += size
+        return size
+
+    def received(self, data: bytes) -> bool:
+        is_heard = super().received(data)
+        now = time.monotonic()
+        for request in list(self.requests):
+            request.__dict__.setdefault("came", now)
+        return is_heard
 
 
 def waits_for_client(channel: HTTPChannel) -> bool:
@@ -175,10 +182,11 @@ class Server:
         doors = {one.socket.getsockname(): one for one in list(self.map.values()) if hasattr(one, "active_channels")}
         self.doors = {address: doors[listener.getsockname()] for address, listener in sockets.items()}
         for door in self.doors.values():
-            door.channel_class = channel_of(self.requests)
+            door.channel_class, door.noted = Timed, self.requests
             # For an application: the address, and not a name that nobody has.
             door.server_name = door.effective_host
-        self.trigger = next(iter(self.doors.values())).trigger
+        first = next(iter(self.doors.values()))
+        self.trigger, self.dispatcher = first.trigger, first.task_dispatcher
 
     def run(self, idle: float, finish: float) -> None:
         """Serves until it is told to finish, and then until all is answered, or `finish` seconds have passed."""
@@ -241,6 +249,11 @@ class Server:
         self.requests.write(is_last=True)
         if self.requests.log:
             self.requests.log.finish(LOG_SECONDS)
+
+    def end(self) -> None:
+        """Ends its threads, and closes what it has opened itself. Raises OSError."""
+        self.dispatcher.shutdown()
+        self.trigger.close()
 
     def has_finished(self, idle: float) -> bool:
         """Closes connections that are idle; whether none is open."""

@@ -12,7 +12,7 @@ import types
 import unittest
 from typing import Any
 
-from kit import BIN, WorkerTest, answer_of, free_address, until
+from kit import BIN, SERVICE, WorkerTest, answer_of, free_address, until
 from prefork_service.conversation import END
 from prefork_service.preloading import Preloading
 from prefork_service.processes import fields_of
@@ -25,6 +25,13 @@ def application(environ, start):
     text = b"version 1 process %d\\n" % os.getpid()
     start("200 OK", [("Content-Type", "text/plain"), ("Content-Length", str(len(text)))])
     return [text]
+"""
+# Serves in this process as a preloader does, and says how many pages, and which threads and descriptors are left.
+PRACTICE = """import os, sys, threading
+sys.path.insert(0, sys.argv[1])
+from prefork_service import practising
+before = os.listdir("/proc/self/fd")
+print(practising.practise(4), len(os.listdir("/proc/self/fd")) - len(before), threading.active_count())
 """
 # Answers with the modules that a worker has loaded itself.
 MODULES = """import os, sys
@@ -110,6 +117,10 @@ class PreloadingTest(WorkerTest):
         talk, address = self.worker()
         self.assertEqual(talk.hear(), "ready")
         self.assertEqual(answer_of(address), "none")
+
+    def test_a_preloader_that_has_practised_has_nothing_of_it(self) -> None:
+        told = subprocess.run([str(PYTHON), "-c", PRACTICE, str(SERVICE)], capture_output=True, text=True)
+        self.assertEqual((told.stdout, told.stderr), ("20 0 1\n", ""))
 
     def test_each_ends_when_the_other_is_killed(self) -> None:
         self.begun()
