@@ -222,7 +222,7 @@ class Site:
         return self.found(lambda words: words[:2] == [self.prefork, "supervise"] and words[2:] != ["--help"])
 
     def keeper(self) -> int | None:
-        return self.found(lambda words: str(BIN / "prefork-keeper") in words[:2])
+        return self.found(lambda words: str(BIN / "prefork-keeper") in words[:3])
 
     def listening(self) -> set[tuple[str, str]]:
         """The sockets that listen at its two ports, as the system numbers them."""

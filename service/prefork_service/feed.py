@@ -87,7 +87,7 @@ class Feed:
         self.stream, stream = socket.socketpair(socket.AF_UNIX, socket.SOCK_STREAM)
         self.askers, askers = socket.socketpair(socket.AF_UNIX, socket.SOCK_SEQPACKET)
         environment = {name: text for name, text in os.environ.items() if not name.startswith(OF_SYSTEMD)}
-        command = [places.WATCH, str(stream.fileno()), str(askers.fileno()), str(os.getpid())]
+        command = [*places.in_python(places.WATCH), str(stream.fileno()), str(askers.fileno()), str(os.getpid())]
         given: Message = {"pass_fds": [stream.fileno(), askers.fileno()], "start_new_session": True, "env": environment}
         try:
             self.stream.setblocking(False)

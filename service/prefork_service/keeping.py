@@ -86,7 +86,7 @@ class Keeping:
         self.begun, self.restarts = time.monotonic(), self.restarts + 1
         self.freed.clear()
         self.channel, theirs = socket.socketpair(socket.AF_UNIX, socket.SOCK_SEQPACKET)
-        command = [places.KEEPER, *self.options, "--door", str(self.door.fileno()), self.folder.keeper]
+        command = [*places.in_python(places.KEEPER), *self.options, "--door", str(self.door.fileno()), self.folder.keeper]
         try:
             self.channel.setblocking(False)
             self.events.register(self.channel, selectors.EVENT_READ, self.hear)

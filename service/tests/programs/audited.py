@@ -11,6 +11,8 @@ sys.path.insert(0, str(pathlib.Path(__file__).resolve().parent.parent.parent))
 
 FILE = os.environ["AUDIT"]
 HEARD = {"open": 0, "os.remove": 0, "os.rename": 1, "os.mkdir": 0, "os.rmdir": 0, "socket.bind": 1, "socket.connect": 1, "subprocess.Popen": 1}
+# How a program of ours in Python is started.
+BY_PYTHON = [sys.executable, "-S"]
 is_noting = False
 
 
@@ -21,6 +23,7 @@ def note(event: str, given: tuple) -> None:
     is_noting = True
     what = given[HEARD[event]]
     words = what if isinstance(what, list) else [what]
+    words = words[2:] if words[:2] == BY_PYTHON else words
     told = " ".join(os.fsdecode(word) if isinstance(word, (str, bytes, os.PathLike)) else repr(word) for word in words[:1])
     with open(FILE, "a") as file:
         file.write(f"{event} {told}\n")
