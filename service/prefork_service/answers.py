@@ -14,13 +14,11 @@ from .burying import started
 from .configuration import file_of
 from .feed import NOTES
 from .folder import text_of
-from .recipes import Setup, setup_of, told_in
-from .refusing import mistake_of, refusal_of
 from .sockets import given_sockets
-from .toml_lines import line_of
 from .words import NOTE, STATUS, TRY
 
 if TYPE_CHECKING:
+    from .recipes import Setup
     from .watch import Watch
 
 # How long an asker may take to read its answer, and how many of them there may be.
@@ -116,6 +114,9 @@ class Answers:
 
     def try_next(self, asker: Asker) -> None:
         """Has one worker of the next version tried by a process of its own, which answers the asker."""
+        from .recipes import setup_of, told_in
+        from .refusing import mistake_of, refusal_of
+        from .toml_lines import line_of
         hello = self.watch.picture.hello
         config = pathlib.Path(hello["file"])
         try:
@@ -137,7 +138,7 @@ class Answers:
             return
         self.begin_trial(asker, setup)
 
-    def begin_trial(self, asker: Asker, setup: Setup) -> None:
+    def begin_trial(self, asker: Asker, setup: "Setup") -> None:
         """Starts the process of a trial. What starts the workers is on its input: it may have secrets."""
         hello = self.watch.picture.hello
         seconds = max(one.ready_within or hello["ready_seconds"] for one in setup.recipes)

@@ -6,6 +6,8 @@ import sys
 from collections.abc import Iterable
 from typing import Any
 
+from . import places
+from .burying import adopt_orphans
 from .starting import CORE
 from .words import STOPS
 
@@ -26,8 +28,9 @@ def become_core(settings: dict[str, Any], descriptors: Iterable[int]) -> None:
     os.lseek(file, 0, os.SEEK_SET)
     for number in [file, *descriptors]:
         os.set_inheritable(number, True)
+    adopt_orphans()
     # A stop that comes now is heard once the core hears words.
     signal.pthread_sigmask(signal.SIG_BLOCK, [signal.Signals[f"SIG{name}"] for name in STOPS])
     sys.stderr.flush()
     # (what follows is for people who look at processes)
-    os.execv(sys.executable, [sys.executable, sys.argv[0], CORE, str(file), *sys.argv[1:]])
+    os.execv(sys.executable, [*places.in_python(sys.argv[0]), CORE, str(file), *sys.argv[1:]])

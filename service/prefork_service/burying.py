@@ -3,7 +3,6 @@
 As process 1 of a container prefork-serve is given all of them. Elsewhere it asks for those of its own processes: the
 workers of a killed preloader stay its descendants then, and so do the processes that hold the programs of killed workers.
 """
-import ctypes
 import os
 import pathlib
 import subprocess
@@ -29,7 +28,9 @@ def started(command: list[Any], **given: Any) -> subprocess.Popen:
 
 
 def adopt_orphans() -> None:
-    """Asks the system for the orphans among its descendants. A system that cannot do that gives them to process 1."""
+    """Asks the system for the orphans among its descendants, also for the program that this process becomes. A system that cannot
+    do that gives them to process 1."""
+    import ctypes
     ctypes.CDLL(None).prctl(PR_SET_CHILD_SUBREAPER, 1, 0, 0, 0)
 
 

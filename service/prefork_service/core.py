@@ -14,7 +14,6 @@ from collections.abc import Callable
 from typing import TYPE_CHECKING, Any
 
 from .barrier import Barrier, Broken
-from .burying import adopt_orphans
 from .chronicle import Chronicle
 from .commands import Commands
 from .configuration import configuration_in
@@ -80,7 +79,6 @@ def begin(settings: Given, folder: Folder, commands: Commands, ends: list[Callab
     if wanted := keeping.wanted(commands.current):
         wanted.begin(commands.current)
     keeping.hold([*commands.current.addresses])
-    adopt_orphans()
     commands.told_hooks = settings["hooks"]
     commands.preloads = functools.partial(preloading_of, keeping, told["ready_seconds"], ends)
     service = Service(keeping, settings["supervise"], commands, chronicle, settings["limits"], told)

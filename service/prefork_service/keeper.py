@@ -43,7 +43,6 @@ If prefork-serve ends without this, it was killed. The keeper stays then as long
 on after the death of their master. The next prefork-serve connects to PATH and says `^`. It is given each socket with
 `+ADDRESS`, and then `x`; once it says `x` itself, it keeps them, and this keeper ends.
 """
-import argparse
 import grp
 import io
 import json
@@ -53,6 +52,7 @@ import selectors
 import socket
 import sys
 import time
+from typing import TYPE_CHECKING
 
 from . import VERSION
 from .barrier import Barrier, Broken
@@ -62,6 +62,9 @@ from .opening import Wanted, listening
 from .packets import LONGEST_ADDRESS, LONGEST_TOLD, Packet
 from .sockets import QUEUE, file_of, given_sockets, seal
 from .titles import set_title
+
+if TYPE_CHECKING:
+    import argparse
 
 LINGER = 2.0
 # How long workers that hold a socket, and are not known to, may take to close it once they finish.
@@ -77,6 +80,8 @@ GIVES_UP = "-"
 DEFER = "--defer-accept"
 # Of Unix sockets.
 MODE_OPTION, GROUP = "--socket-mode", "--socket-group"
+# The socket at which it listens, which it inherits from prefork-serve.
+DOOR = "--door"
 
 
 def say(text: str) -> None:
@@ -423,37 +428,75 @@ def mode_of(text: str) -> int:
 
 
 def group_of(text: str) -> int:
-    """The number of a group, by its name or as it is."""
-    try:
-        return int(text) if text.isdigit() else grp.getgrnam(text).gr_gid
-    except KeyError as fault:
-        raise argparse.ArgumentTypeError(f"there is no group {text}") from fault
+    """The number of a group, by its name or as it is. Raises KeyError."""
+    return int(text) if text.isdigit() else grp.getgrnam(text).gr_gid
 
 
-def add_socket_options(parser: argparse.ArgumentParser) -> None:
+def add_socket_options(parser: "argparse.ArgumentParser") -> None:
+    from argparse import ArgumentTypeError
+
+    def known_group(text: str) -> int:
+        try:
+            return group_of(text)
+        except KeyError as fault:
+            raise ArgumentTypeError(f"there is no group {text}") from fault
+
     mode = "the mode of Unix sockets, such as 660"
     parser.add_argument(MODE_OPTION, type=mode_of, metavar="MODE", help=mode)
     group = "the group of Unix sockets; the user must be in it"
-    parser.add_argument(GROUP, type=group_of, metavar="GROUP", help=group)
+    parser.add_argument(GROUP, type=known_group, metavar="GROUP", help=group)
 
 
-def socket_options(given: argparse.Namespace) -> list[str]:
+def socket_options(given: "argparse.Namespace") -> list[str]:
     """The same options again, for a keeper."""
     found = [MODE_OPTION, f"{given.socket_mode:o}"] if given.socket_mode is not None else []
     return found + ([GROUP, str(given.socket_group)] if given.socket_group is not None else [])
 
 
-def arguments() -> argparse.Namespace:
+class Told:
+    """What a keeper is told."""
+
+    def __init__(self) -> None:
+        self.defer_accept, self.path, self.linger = False, "", LINGER
+        self.socket_mode: int | None = None
+        self.socket_group: int | None = None
+        self.door: int | None = None
+
+
+def told_by_serve(words: list[str]) -> Told:
+    """What prefork-serve tells the keeper that it starts: it has looked at the options. (What reads those of people would take a
+    tenth of the keeper's memory.)"""
+    told = Told()
+    *options, told.path = words
+    while options:
+        option = options.pop(0)
+        if option == DEFER:
+            told.defer_accept = True
+        elif option == MODE_OPTION:
+            told.socket_mode = mode_of(options.pop(0))
+        elif option == GROUP:
+            told.socket_group = group_of(options.pop(0))
+        elif option == DOOR:
+            told.door = int(options.pop(0))
+        else:
+            raise ValueError(option)
+    return told
+
+
+def arguments() -> Told:
+    """What people tell it."""
+    import argparse
+
     parser = argparse.ArgumentParser(prog="prefork-keeper", description="Keeps the listening sockets of a service.")
     parser.add_argument("--version", action="version", version=f"prefork-keeper {VERSION}")
     parser.add_argument(DEFER, action="store_true", help="accept a TCP connection once its first bytes are there")
     add_socket_options(parser)
     door = "the number of the socket at PATH, as prefork-serve gives it; standard input is a socket to prefork-serve"
-    parser.add_argument("--door", type=int, metavar="N", help=door)
+    parser.add_argument(DOOR, type=int, metavar="N", help=door)
     parser.add_argument("path", metavar="PATH", help="where workers ask")
     linger = f"how long a socket that nobody holds stays open ({LINGER:g})"
     parser.add_argument("linger", type=float, nargs="?", default=LINGER, metavar="SECONDS", help=linger)
-    return parser.parse_args()
+    return parser.parse_args(namespace=Told())
 
 
 def take_descriptors() -> None:
@@ -464,7 +507,7 @@ def take_descriptors() -> None:
 
 def main() -> int:
     take_standard()
-    given = arguments()
+    given = told_by_serve(sys.argv[1:]) if DOOR in sys.argv else arguments()
     set_title("prefork-keeper")
     take_descriptors()
     if given.socket_mode is not None:

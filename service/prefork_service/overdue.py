@@ -3,8 +3,6 @@ them. A thread of Python that hangs cannot be ended by itself."""
 import time
 from typing import Any
 
-from .access_log import escaped
-
 # What such a reason has in it.
 REASON = "has been at a request for more than "
 
@@ -18,6 +16,7 @@ def late_ones(begun: list[tuple[float, Any]], seconds: float) -> list[Any]:
 
 def named(channel: Any) -> str:
     """The request of a channel, without what follows the path: that may be secret."""
+    from .access_log import escaped
     requests = list(channel.requests)
     return f"{escaped(requests[0].command or '')} {escaped(requests[0].path or '')}" if requests else "-"
 

@@ -13,7 +13,6 @@ from .folder import text_of
 from .forms import Status
 from .hard_memory import REASONS_OF_LIMITS
 from .measures import Measures
-from .named import workers_in
 from .processes import masters_of
 from .progress import Progress, counts_of
 from .queues import Queues
@@ -128,6 +127,7 @@ class Picture:
 
     def goal(self, word: str) -> int:
         """How many workers a word is to start, as the configuration's file says; 0 where that is not known."""
+        from .named import workers_in
         text = self.config_text() if word in CHANGES else None
         return workers_in(text.encode("latin-1")) if text else 0
 

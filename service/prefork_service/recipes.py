@@ -8,8 +8,8 @@ from typing import Any
 
 from .bounds import ADAPTER_SECONDS, EARLIER_SECONDS
 from .configuration import LAST, SETS, Group
+from .toml_lines import Path as Path
 
-Path = tuple[str, ...]
 # The table of a configuration that says what runs.
 SERVICE = "service"
 # The rules of `command` in a configuration.

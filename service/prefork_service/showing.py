@@ -4,19 +4,21 @@ import pathlib
 import selectors
 import time
 from collections.abc import Callable
-from typing import Any
+from typing import TYPE_CHECKING, Any
 
-from . import live, metrics, page, view
+from . import metrics
 from .barrier import Barrier
 from .done import Done
 from .forms import Status
 from .hooks import OF_OUTCOMES, Hooks
 from .metrics import MetricsFile, metrics_of
-from .page import NextPlan
 from .picture import Picture
 from .sites import is_site
 from .state import SHORT
 from .web import Pages, Site
+
+if TYPE_CHECKING:
+    from .page import NextPlan
 
 # How often the file of metrics is written, and how often it is tried to open an address. How old the status of a page may be
 # that is open: it asks each second.
@@ -32,7 +34,7 @@ class Showing:
         self.hooks = Hooks({})
         self.sites: list[Site] = []
         self.file: MetricsFile | None = None
-        self.plan: NextPlan | None = None
+        self.plan: "NextPlan | None" = None
         self.written, self.next_open = 0.0, 0.0
         # The event that pages were told last, with what it was made of.
         self.told: tuple[Status, object, str] = {}, None, ""
@@ -44,11 +46,14 @@ class Showing:
         elif hello["metrics"]:
             self.file = MetricsFile(pathlib.Path(hello["metrics"]).absolute())
         if hello["page"]:
+            # (a service without a page does not take the memory of this)
+            from .page import NextPlan
             self.plan = NextPlan()
             self.wanted[hello["page"]] = {**self.pages(), **numbers}
 
     def pages(self) -> Pages:
         """What the page's address shows: the page, what keeps it as the service is, and the status for programs."""
+        from . import live, page, view
         return {
             "/": lambda: (page.KIND, view.page_of(*self.seen())),
             "/live": lambda: (live.EVENT_KIND, self.event()),
@@ -65,7 +70,8 @@ class Showing:
         status, words, calls, plan = self.seen(PAGE_SECONDS)
         last = words[-1] if words else None
         if status is not self.told[0] or (last, len(calls), plan) != self.told[1]:
-            self.told = status, (last, len(calls), plan), view.event_of(status, words, calls, plan)
+            from .view import event_of
+            self.told = status, (last, len(calls), plan), event_of(status, words, calls, plan)
         return self.told[2]
 
     def open(self) -> None:

@@ -1,8 +1,8 @@
 """In which line of a TOML text a key is, for people."""
 import re
 
-from .recipes import Path
-
+# The names by which a key is found.
+Path = tuple[str, ...]
 TOML_NAME = r"""(?:[A-Za-z0-9_-]+|"[^"\n]*"|'[^'\n]*')"""
 TOML_NAMES = rf"{TOML_NAME}(?:\s*\.\s*{TOML_NAME})*"
 HEADER, ENTRY, ONE = re.compile(rf"\s*\[\[?\s*({TOML_NAMES})\s*\]\]?"), re.compile(rf"\s*({TOML_NAMES})\s*="), re.compile(TOML_NAME)

@@ -16,13 +16,17 @@ SECONDS = 120
 # told by prefork-watch.
 OURS = {
     "asking", "barrier", "blocks", "bounds", "burying", "changed", "chronicle", "commands", "configuration", "core", "counted", "door", "errors", "feed",
-    "folder", "holding", "journal", "keeping", "last_lines", "leaving", "master", "packets", "patience", "places", "processes",
+    "folder", "holding", "journal", "keeping", "last_lines", "lean", "leaving", "master", "packets", "patience", "places", "processes",
     "questions", "reading", "reasons", "records", "service", "sockets", "starting", "state", "stopping", "summary", "surviving", "systemd", "telling", "ticks", "titles",
     "trying", "watching", "words", "writing",
 }
 MOST_LINES = 5100
 # Modules of Python that a core has no business with.
 NEVER = {"tomllib", "pwd", "grp", "argparse", "html", "http", "email", "urllib.request", "difflib", "ssl", "asyncio", "logging", "multiprocessing", "sqlite3"}
+# Those that others import, or that a simpler way replaces: they would take 2 MB.
+HEAVY = {"ast", "dis", "_bz2", "_lzma", "datetime", "ctypes"}
+# What Python runs before a program, if a user has it: it notes which program.
+CUSTOMIZE = "import os, sys\nopen(os.environ['CUSTOMIZED'], 'a').write(' '.join(sys.orig_argv) + '\\n')\n"
 # The files in the folder of a service that it opens, makes or removes.
 OWN = re.compile(
     r"run|run/(\.prefork|serve\.pid|reasons|journal|(ctl|keeper|masters)\.sock|\.\d+|\.blocks|blocks|(config|next|accepted)\.toml|commands|workers|"
@@ -47,7 +51,10 @@ class CoreTest(unittest.TestCase):
         self.address, self.page = free_address(), free_address()
         (self.room / "site.toml").write_text(f'listeners = ["{self.address}"]\nworkers = 2\n[service]\nprogram = ["true"]\n')
         options = ["--prefork", PROGRAMS / "master.py", "--page", self.page, "--on-done", "/bin/true"]
+        self.customized = self.room / "customized"
+        (self.room / "sitecustomize.py").write_text(CUSTOMIZE)
         environment = {**os.environ, "AUDIT": str(self.audit), "BLOCKS": str(self.blocks)}
+        environment |= {"PYTHONPATH": str(self.room), "CUSTOMIZED": str(self.customized)}
         with open(self.said, "a") as said:
             command = [PYTHON, PROGRAMS / "audited.py", *options, "site.toml"]
             self.serve: Any = subprocess.Popen(command, cwd=self.room, env=environment, stderr=said)
@@ -110,7 +117,7 @@ class CoreTest(unittest.TestCase):
         ours = {name.rpartition(".")[2]: file for name, file in modules if name.startswith("prefork_service.")}
         self.assertEqual(set(ours), OURS)
         self.assertLessEqual(sum(len(pathlib.Path(file).read_text().splitlines()) for file in ours.values()), MOST_LINES)
-        self.assertEqual(NEVER & {name for name, _ in modules}, set())
+        self.assertEqual((NEVER | HEAVY) & {name for name, _ in modules}, set())
         with self.subTest("ports"):
             bound = {text for kind, text in noted if kind in ("socket.bind", "socket.connect")}
             self.assertEqual({text for text in bound if not text.startswith(f"{self.room}/run/")}, set())
@@ -119,6 +126,13 @@ class CoreTest(unittest.TestCase):
         with self.subTest("files"):
             files = {text for kind, text in noted if kind in ("open", "os.remove", "os.rename", "os.mkdir", "os.rmdir")}
             self.assertEqual({file for file in files if not self.is_known(file)}, set())
+
+    def test_what_others_add_to_python_is_in_none_of_its_processes(self) -> None:
+        self.assertTrue(self.children("prefork-keeper") and self.children("prefork-watch"))
+        customized = self.customized.read_text()
+        self.assertIn("audited.py --prefork", customized)
+        for name in ("--core", "prefork-keeper", "prefork-watch"):
+            self.assertNotIn(name, customized)
 
     def is_known(self, file: str) -> bool:
         """Whether it is a file that the core may open."""

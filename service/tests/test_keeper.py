@@ -8,8 +8,10 @@ import tempfile
 import time
 import unittest
 from typing import Any
+from unittest import mock
 
 from kit import BIN, free_address, until
+from prefork_service import keeper
 from prefork_service.opening import DEFER_SECONDS
 
 
@@ -44,6 +46,13 @@ class KeeperTest(unittest.TestCase):
         if listener:
             self.addCleanup(listener.close)
         return said.decode(), listener, hold
+
+    def test_prefork_serve_is_understood_as_people_are(self) -> None:
+        for words in (["--door", "7"], ["--defer-accept", "--socket-mode", "660", "--socket-group", "0", "--door", "7"]):
+            with mock.patch("sys.argv", ["prefork-keeper", *words, "run/keeper.sock"]):
+                self.assertEqual(vars(keeper.told_by_serve([*words, "run/keeper.sock"])), vars(keeper.arguments()))
+        with self.assertRaises(ValueError):
+            keeper.told_by_serve(["--socket-user", "0", "--door", "7", "run/keeper.sock"])
 
     def test_two_workers_get_the_same_socket(self) -> None:
         place = str(self.room / "site.sock")

@@ -41,6 +41,9 @@ def end() -> None:
 if sys.argv[1:2] == ["--core"]:
     sys.addaudithook(note)
     atexit.register(end)
+    from prefork_service.lean import put_off
+
+    put_off()
     from prefork_service import core
 
     sys.exit(core.main(int(sys.argv[2])))
