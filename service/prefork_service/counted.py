@@ -6,6 +6,9 @@ from .blocks import block_of
 from .folder import WORKER, files_in
 from .processes import descends
 
+# More than the file of a worker has.
+MOST_WORKER_BYTES = 4096
+
 
 class Record:
     """What blocks have told: which workers there are, and how many are wanted."""
@@ -31,27 +34,28 @@ class Record:
 def started_workers(place: pathlib.Path, service: int | None = None) -> dict[tuple[str, int], int]:
     """The processes of workers, by generation and number. The service itself removes the files of those that have ended;
     others name its process."""
-    found, ancestor = {}, service or os.getpid()
+    found, ancestor, known = {}, service or os.getpid(), set[int]()
     for file in files_in(place):
         if not WORKER.fullmatch(file.name):
             continue
         try:
-            text = file.read_text()
+            with open(file, "rb", 0) as opened:
+                text = opened.read(MOST_WORKER_BYTES).decode()
         except (OSError, ValueError):
             continue
         numbers, (generation, _, number) = text.split(), file.name.rpartition(".")
         # The process that the master has started, and the one that serves, where it is another one.
-        if number.isdigit() and numbers and numbers[0].isdigit() and runs_below(int(numbers[0]), ancestor):
+        if number.isdigit() and numbers and numbers[0].isdigit() and runs_below(int(numbers[0]), ancestor, known):
             found[generation, int(number)] = int(numbers[-1])
         elif numbers and not service:
             forget(file, text)
     return found
 
 
-def runs_below(process: int, ancestor: int) -> bool:
+def runs_below(process: int, ancestor: int, known: set[int] | None = None) -> bool:
     """Whether a worker runs, as far as is known: one of which the system can't be asked just now is not forgotten."""
     try:
-        return descends(process, ancestor)
+        return descends(process, ancestor, known)
     except OSError:
         return True
 

@@ -4,6 +4,8 @@ import pathlib
 import shutil
 import time
 
+from .folder import files_in
+
 # How much of the end is shown, how long the process that keeps it may take to write the rest, and how long it is waited
 # between two looks.
 KEPT, LAST_LINE_SECONDS, LINE_PAUSE = 4096, 0.5, 0.005
@@ -62,11 +64,13 @@ class LastLines:
 
     def forget_old(self) -> None:
         """Removes the oldest files of workers that have ended, if there are too many."""
+        if len(files := files_in(self.place)) <= MOST_FILES:
+            return
         try:
-            files = sorted(self.place.iterdir(), key=lambda file: file.stat().st_mtime)
+            files.sort(key=lambda file: file.stat().st_mtime)
         except OSError:
             return
-        for file in files[: max(0, len(files) - MOST_FILES)]:
+        for file in files[: len(files) - MOST_FILES]:
             if is_complete(file):
                 file.unlink(missing_ok=True)
 

@@ -35,15 +35,19 @@ def is_ending(process: int) -> bool:
     return not fields or fields[0] in "ZX" or bool(int(fields[6]) & PF_EXITING)
 
 
-def descends(process: int, ancestor: int) -> bool:
-    """Whether a process runs that this one has started, or one that it has started. Raises OSError if the system can't be
-    asked."""
+def descends(process: int, ancestor: int, known: set[int] | None = None) -> bool:
+    """Whether a process runs that this one has started, or one that it has started. Those that were seen to are added to those
+    that are known to. Raises OSError if the system can't be asked."""
+    passed = set[int]()
     while process > 1:
         fields = read_fields(process)
         if not fields or fields[0] == "Z":
             return False
+        passed.add(process)
         process = int(fields[1])
-        if process == ancestor:
+        if process == ancestor or known and process in known:
+            if known is not None:
+                known |= passed
             return True
     return False
 

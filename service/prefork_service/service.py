@@ -36,7 +36,8 @@ if TYPE_CHECKING:
     from .changes import Changes
 
 # What comes of a tick comes in many small pieces, and nobody waits for it: what came in this time is read together.
-TOGETHER_SECONDS = 0.01
+# And what has to be tended waits for this time, while nothing else happens.
+TOGETHER_SECONDS, QUIET_SECONDS = 0.01, 0.25
 # The longest pause of the loop, and that while no master runs.
 PAUSE, SHORT_PAUSE = 1.0, 0.1
 TOO_MANY, NOT_READ = "refused too-many-wait", "refused not-read"
@@ -59,7 +60,7 @@ class Service:
         self.current: Word | None = None
         # The question that the current word asks, or 0; since when, and how many there were.
         self.question, self.asked, self.questions = 0, 0.0, 0
-        self.word_began = 0.0
+        self.word_began, self.tended = 0.0, 0.0
         self.begun, self.ticks, self.is_stopped = 0.0, Ticks(), False
         self.has_heard, self.is_ready = False, False
         # Whether the program of the master may be an older one by now, which has no limits.
@@ -97,10 +98,14 @@ class Service:
         duty(self.tell_next)
         if self.is_ticking():
             time.sleep(TOGETHER_SECONDS)
-        for key in self.barrier.select(self.events, duty(self.pause)):
+        heard = self.barrier.select(self.events, duty(self.pause))
+        for key in heard:
             self.barrier.event(self.events, key)
             if self.is_stopped:
                 return
+        if duty(self.is_quiet, heard):
+            return
+        self.tended = time.monotonic()
         preloading = [self.commands.preloading.tend] if self.commands.preloading else []
         preloading += [self.changes.tend] if self.changes else []
         preloading += [self.keeping.listeners.tend] if self.keeping.listeners else []
@@ -109,6 +114,14 @@ class Service:
         tends += [self.chronicle.tend, self.telling.tend, sys.stderr.flush]
         for tend in tends:
             duty(tend)
+
+    def is_quiet(self, heard: list[selectors.SelectorKey]) -> bool:
+        """Whether nothing was heard but signs of life, and pieces of a tick that is carried out, since all was tended a moment ago."""
+        if not heard or not self.master or time.monotonic() - self.tended > QUIET_SECONDS:
+            return False
+        pieces = [self.master.output, self.master.errors] if self.is_ticking() else []
+        is_whole = self.feed.process and self.keeping.process and not self.keeping.lost and not self.survivors.now and not self.stopping.word
+        return bool(is_whole) and all(key.fileobj in (self.feed.stream, self.keeping.channel, *pieces) for key in heard)
 
     def hurry(self) -> None:
         """Where a worker may have ended, the next tick is due."""

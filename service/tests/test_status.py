@@ -52,6 +52,10 @@ class ProcessesTest(unittest.TestCase):
         self.assertTrue(descends(shell.pid, os.getpid()))
         self.assertFalse(descends(os.getppid(), os.getpid()))
         self.assertFalse(descends(2**22 + 1, os.getpid()))
+        known = set[int]()
+        self.assertFalse(descends(os.getppid(), os.getpid(), known))
+        self.assertTrue(descends(shell.pid, os.getpid(), known))
+        self.assertEqual(known, {shell.pid})
 
     def test_the_age_of_a_process(self) -> None:
         process = self.started("sleep", "1000")
@@ -139,7 +143,7 @@ class FilesTest(unittest.TestCase):
         self.addCleanup(running.wait)
         self.addCleanup(running.kill)
 
-        def written_meanwhile(process: int, ancestor: int) -> bool:
+        def written_meanwhile(process: int, ancestor: int, known: set[int]) -> bool:
             self.file.write_text(f"{running.pid}\n")
             return False
 
