@@ -28,7 +28,7 @@ pre { background: var(--ground); padding: .6rem; overflow-x: auto; white-space: 
 .band.short, .band.stopped { border-color: var(--bad) } .band.short strong, .band.stopped strong { color: var(--bad) }
 .question { border-left: .5rem solid var(--accent) }
 .bar { display: flex; flex-wrap: wrap; gap: 3px; align-items: center; margin: .3rem 0 }
-.bar b { font-weight: 600; min-width: 9rem } i.cell { width: 16px; height: 20px; border-radius: 3px }
+.bar b { font-weight: 600; min-width: 9rem } .bar span { margin-left: 4px } i.cell { width: 16px; height: 20px; border-radius: 3px }
 i.leaves { border-style: dotted; opacity: .75 }
 .bar i.missing { border: 2px dashed var(--bad) } .bar i.ended { border-color: var(--bad) }
 .stations { display: flex; flex-wrap: wrap; gap: .3rem; list-style: none; margin: 0; padding: 0 }
