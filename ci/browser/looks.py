@@ -1,5 +1,6 @@
 """What can be seen and heard of a page: names in the tree of a screen reader, contrast, and its width."""
-from collections.abc import Iterator
+import collections
+from collections.abc import Iterable, Iterator
 from typing import Any
 
 from browser.chromium import Page
@@ -121,14 +122,13 @@ def unnamed(tree: list[Any]) -> Iterator[str]:
             yield f"a {role} without a name"
 
 
-def headings(tree: list[Any]) -> list[str]:
-    return [value_of(node, "name") for node in tree if value_of(node, "role") == "heading"]
-
-
-def unheard(page: Page, wanted: str) -> list[str]:
-    """Whether a screen reader finds a heading that says this."""
-    found = headings(page.tree())
-    return [] if any(wanted in it for it in found) else [f"no heading says {wanted!r}: {found}"]
+def unheard(page: Page, wanted: Iterable[tuple[str, str]]) -> Iterator[str]:
+    """What a screen reader should find, each by its role and a part of its name, and does not: as often as it is wanted."""
+    found = [(value_of(node, "role"), value_of(node, "name")) for node in page.tree()]
+    for (role, text), count in collections.Counter(wanted).items():
+        names = [name for its, name in found if its == role]
+        if sum(text in name for name in names) < count:
+            yield f"a screen reader finds no {role} that says {text!r}{f' {count} times' if count > 1 else ''}: {names}"
 
 
 def low_contrasts(page: Page) -> list[str]:

@@ -7,9 +7,10 @@ import threading
 from collections.abc import Iterator
 from typing import Any
 
-from browser import looks
-from browser.chromium import Page
+from browser import looks, shots
+from browser.chromium import BrowserFault, Page
 from gate.addresses import free_address
+from gate.tally import Tally
 
 SERVICE = pathlib.Path(__file__).resolve().parent.parent.parent / "service"
 sys.path.insert(0, str(SERVICE))
@@ -69,6 +70,25 @@ STATES: dict[str, tuple[Status, list[Done], tuple[str, ...]]] = {
     "question": (status(state="changes", line="changes: USR2 attended", doing="USR2 attended", question=1, question_seconds=95,
                         others=UPGRADED, masters=[4002, 4200]), [RELOADED], ATTENDED),
     "stopped": (status(state="stopped", wanted=0, running=0, workers=[], line="stopped: no worker is wanted"), [RELOADED], ()),
+}
+
+
+SAYS, COUNTS = "StaticText", "image"
+OLD_ONES = (COUNTS, "generation 1.2: 4 ready")
+WAS_TAKEN_BACK = (SAYS, "The reload at 13:21 was taken back: gunicorn ended with status 3. The version before serves.")
+# What a screen reader finds of each, by role and text.
+HEARD: dict[str, list[tuple[str, str]]] = {
+    "before": [OLD_ONES, (SAYS, "None yet."), ("meter", "queue at 0.0.0.0:8080"), ("table", "workers")],
+    "during": [OLD_ONES, (COUNTS, "generation 1.3: 2 ready, 2 starting"), (SAYS, "A reload is on its way."), ("heading", "HUP, on its way"),
+               (SAYS, "hear them ready")],
+    "after": [(COUNTS, "generation 1.3: 4 ready"), (SAYS, "The reload at 13:21 is done.")],
+    "rolled-back": [OLD_ONES, WAS_TAKEN_BACK, WAS_TAKEN_BACK, (SAYS, "6 m1 await-ready 1.3 0 : gone: gunicorn ended with status 3"),
+                    (SAYS, "ZeroDivisionError: division by zero")],
+    "short": [(COUNTS, "generation 1.2: 2 ready, 1 ended, 1 missing"), (SAYS, "short: wanted 4, runs 2"), (SAYS, "has failed 21 times")],
+    "question": [OLD_ONES, (COUNTS, "generation 2.3: 4 ready"), ("region", "question"), ("heading", "It asks whether to go on"),
+                 (SAYS, "Question 1 of 2, for 95\u00a0s: old and new workers serve."), (SAYS, "prefork-ctl --folder /run/prefork/shop go"),
+                 (SAYS, "prefork-ctl --folder /run/prefork/shop back")],
+    "stopped": [(COUNTS, "generation 1.2: no worker"), (SAYS, "No worker runs.")],
 }
 
 
@@ -140,10 +160,10 @@ def live_faults(seen: Page, shown: Shown) -> Iterator[str]:
     yield from (f"the page asks for {it}" for it in others)
 
 
-def heard(name: str) -> str:
-    """What a screen reader hears of a state, in a heading."""
+def heard(name: str) -> list[tuple[str, str]]:
+    """What a screen reader finds of a state: the heading of the page, and what HEARD has."""
     found = STATES[name][0]
-    return f"{view.name_of(found)} {view.STATES[found['state']]}"
+    return [("heading", f"{view.name_of(found)} {view.STATES[found['state']]}"), *HEARD[name]]
 
 
 def lay_out(name: str, folder: pathlib.Path) -> pathlib.Path:
@@ -152,3 +172,24 @@ def lay_out(name: str, folder: pathlib.Path) -> pathlib.Path:
     file = folder / f"service-{name}.html"
     file.write_text(view.page_of(found, words, calls, PLAN))
     return file
+
+
+def tally_of(room: pathlib.Path, folder: pathlib.Path | None) -> Tally:
+    """The checks of the page of a service. Pictures are written into a folder, if one is given."""
+    found = Tally()
+    try:
+        with Page() as page, Shown() as shown:
+            for fault in live_faults(page, shown):
+                found.check([f"service, live: {fault}"])
+            found.check([])
+            for name in STATES:
+                page.go(f"file://{lay_out(name, room)}")
+                for width, scheme in shots.LOOKS:
+                    page.size(width, shots.HEIGHT, scheme)
+                    wrong = [*looks.faults(page), *looks.unheard(page, heard(name))]
+                    found.check([f"service, {name}, {scheme}, {width}: {fault}" for fault in wrong])
+                    if folder:
+                        page.picture(folder / f"service-{name}-{scheme}-{width}.png")
+    except BrowserFault as fault:
+        found.check([f"service: {fault}"])
+    return found

@@ -13,8 +13,26 @@ REHEARSALS: dict[str, tuple[str, list[tuple[int, str]]]] = {
     "short": ("HUP", [(10, "w1.2.0"), (11, "again"), (13, "again"), (15, "again"), (17, "again"), (19, "again")]),
     "question": ("USR2 attended", [(12, "")]),
 }
-# What a screen reader hears in a heading of each.
-HEARD = {"before": "done", "during": "done", "rolled-back": "rolled-back", "after": "done", "short": "degraded", "question": "done"}
+# What a screen reader finds of each beside what it finds of all, by role and text.
+HEARD: dict[str, list[tuple[str, str]]] = {
+    "before": [("heading", "done"), ("image", "generation 1.1: 3 ready")],
+    "during": [("heading", "done"), ("group", "what can go wrong at call 3"), ("button", "no-memory rolled-back"), ("button", "w1.2.0 exits rolled-back")],
+    "rolled-back": [("heading", "rolled-back"), ("button", "take back 3 fail again"), ("button", "Nothing goes wrong")],
+    "after": [("heading", "done"), ("image", "generation 2.2: 2 ready")],
+    "short": [("heading", "degraded"), ("StaticText", "The service runs with fewer workers than wanted."), ("button", "take back 11 fail again")],
+    "question": [("heading", "done"), ("group", "what can go wrong at call 12"), ("button", "back rolled-back")],
+}
+OF_ALL = [
+    ("heading", "Rehearse a reload"), ("textbox", "What runs"), ("textbox", "What comes"), ("combobox", "Word"), ("region", "calls of the run"),
+    ("region", "picture of the plan"), ("image", "the plan, "), ("button", "Certify"), ("textbox", "blocks of a master"),
+]
+
+
+def heard(page: Page, name: str) -> list[tuple[str, str]]:
+    """What a screen reader should find in a state: each call of the run is a button, and the report is a text."""
+    seen = page.value(clicks.SEEN)
+    calls = [("button", line.split(" ", 1)[1].partition(" : ")[0]) for line in seen["calls"]]
+    return [*OF_ALL, *HEARD[name], *calls, ("StaticText", seen["report"])]
 
 
 def show(page: Page, name: str) -> None:
