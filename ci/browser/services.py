@@ -55,6 +55,7 @@ def done(word: str, block: str, reasons: list[str], errors: dict[str, list[str]]
 
 
 RELOADED = done("HUP", DONE, [])
+ENDED = done("WINCH", "word WINCH\n1 m1 quit 1.2 0 : ok\n2 m1 await-gone 1.2 0 : gone\ndone cause none pid in-place\n", [])
 TAKEN_BACK = done("HUP", BACK, ["6 m1 await-ready 1.3 0 : gone: gunicorn ended with status 3"], {"1.3.0": TRACE})
 FAILING = [{"worker": 0, "failed": 21, "reason": "gunicorn ended with status 3", "next_try_seconds": 12.0}]
 NEW = [worker("1.3", number, state="is ready" if number < 2 else "starts", seconds=3) for number in range(4)]
@@ -69,7 +70,7 @@ STATES: dict[str, tuple[Status, list[Done], tuple[str, ...]]] = {
                      workers=[worker("1.2", 1), worker("1.2", 2), worker("1.2", 3, process=None, seconds=None)], failing=FAILING), [TAKEN_BACK], ()),
     "question": (status(state="changes", line="changes: USR2 attended", doing="USR2 attended", question=1, question_seconds=95,
                         others=UPGRADED, masters=[4002, 4200]), [RELOADED], ATTENDED),
-    "stopped": (status(state="stopped", wanted=0, running=0, workers=[], line="stopped: no worker is wanted"), [RELOADED], ()),
+    "stopped": (status(state="stopped", wanted=0, running=0, workers=[], line="stopped: no worker is wanted"), [RELOADED, ENDED], ()),
 }
 
 
@@ -88,7 +89,7 @@ HEARD: dict[str, list[tuple[str, str]]] = {
     "question": [OLD_ONES, (COUNTS, "generation 2.3: 4 ready"), ("region", "question"), ("heading", "It asks whether to go on"),
                  (SAYS, "Question 1 of 2, for 95\u00a0s: old and new workers serve."), (SAYS, "prefork-ctl --folder /run/prefork/shop go"),
                  (SAYS, "prefork-ctl --folder /run/prefork/shop back")],
-    "stopped": [(COUNTS, "generation 1.2: no worker"), (SAYS, "No worker runs.")],
+    "stopped": [(COUNTS, "generation 1.2: no worker"), (SAYS, "No worker runs."), (SAYS, "The end of all workers at 13:21 is done.")],
 }
 
 
