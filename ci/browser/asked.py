@@ -75,6 +75,8 @@ class Asked:
                 pass
 
         self.server = http.server.ThreadingHTTPServer(("127.0.0.1", 0), Handler)
+        # (its end waits for what it has started)
+        self.server.daemon_threads = False
         self.address = f"http://127.0.0.1:{self.server.server_address[1]}/"
         self.thread = threading.Thread(target=self.server.serve_forever)
 
