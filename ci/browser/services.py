@@ -142,11 +142,19 @@ SAME = """(() => {
 })()"""
 
 
+def spoken(seen: Page) -> list[str]:
+    """The regions that a screen reader tells of by itself when they change."""
+    return [looks.value_of(node, "name") for node in seen.tree() for it in node.get("properties", [])
+            if it["name"] == "live" and it["value"].get("value") == "polite" and looks.value_of(node, "role") == "region"]
+
+
 def live_faults(seen: Page, shown: Shown) -> Iterator[str]:
     """An open page follows the service by itself: each state is seen, and what is open, where the keys are and what is
     marked stays."""
     seen.go(f"http://{shown.address}/")
     seen.value(MARKED)
+    if spoken(seen) != ["state"]:
+        yield f"a screen reader tells by itself of {spoken(seen)}"
     for name, state in STATES.items():
         shown.name = name
         seen.becomes(SAME % json.dumps(view.middle_of(*state, PLAN)))

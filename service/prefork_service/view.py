@@ -71,7 +71,7 @@ def band(status: Status, words: Sequence[Done]) -> str:
     """How the service is."""
     state = status["state"]
     told = on_its_way(status["doing"]) if state == IN_CHANGE and status["doing"] else newest(words)
-    return f'<section class="band {text(state)}" aria-label="state"><h1>{text(name_of(status))} ' \
+    return f'<section class="band {text(state)}" aria-label="state" aria-live="polite"><h1>{text(name_of(status))} ' \
         f'<strong>{text(STATES.get(state, state))}</strong></h1><p>{text(told)}</p>' \
         f'<p class="state {text(state)}">{text(status["line"])}</p><p class="count">{text(count(status))}</p></section>'
 
