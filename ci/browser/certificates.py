@@ -155,7 +155,8 @@ def folder_faults(page: Page, program: str, folder: pathlib.Path) -> Iterator[st
     record = Record("".join(chosen), (life.begin or b"").decode(), tuple(goals))
     told = certified(program, record)
     yield from (f"{folder}: {fault}" for fault in answer_faults(page, told, record.blocks))
-    if (certifying.answered(life, program) == "") != (told.returncode == 0):
-        yield f"{folder}: prefork-ctl certify says something else: {told.stderr}"
+    judged = certifying.answered(life, program)
+    if bool(judged.number or judged.why) != (told.returncode != 0):
+        yield f"{folder}: prefork-ctl certify says something else, {judged}: {told.stderr}"
     if not told.returncode:
         yield from drawn_faults(page, record.blocks)

@@ -172,6 +172,7 @@ def state_faults(page: Page, program: str, dice: random.Random, number: int) -> 
 
 def keyboard_faults(page: Page) -> Iterator[str]:
     """A call is opened, and left, by keys alone."""
+    to_start(page)
     page.value("document.querySelector('tr[data-call=\"1\"] button.call').focus()")
     page.key("Enter", 13, "\r")
     page.becomes("document.querySelector('tr[data-call=\"1\"] button.call').getAttribute('aria-expanded') === 'true'")
@@ -199,6 +200,7 @@ def case_faults(page: Page) -> Iterator[tuple[str, list[str]]]:
 
 def explore_faults(page: Page, program: str) -> Iterator[str]:
     """`explore` beside the page says what the program prints, and each pattern that it names can be shown."""
+    to_start(page)
     for which, events in (("explore", "1"), ("pairs", "2")):
         click(page, f"#{which}")
         page.becomes("document.querySelectorAll('#explored li').length > 0")

@@ -14,7 +14,7 @@ from shipping.debian import SOURCES
 
 PLACE = "usr/share/prefork/page"
 MODULE = "prefork_wasm.js"
-# How much later the program is made than a module that is not of it.
+# How much later a module is made than the program that it is of, and the next program than that.
 LATER = 60
 
 
@@ -36,6 +36,8 @@ def lay_out(tree: pathlib.Path, program: str, built: pathlib.Path | None) -> pat
         shutil.copytree(built, tree / "page" / "out")
     else:
         asked.builder().lay_out(b"", tree / "page" / "out")
+    moment = (tree / "page" / "out" / MODULE).stat().st_mtime - LATER
+    os.utime(made, (moment, moment))
     return made
 
 
