@@ -17,6 +17,7 @@ sys.path.insert(0, str(SERVICE))
 
 from prefork_service import live, page, view
 from prefork_service.done import Done
+from prefork_service.progress import Progress, Running
 from prefork_service.web import Site
 
 Status = dict[str, Any]
@@ -25,8 +26,6 @@ RELOAD = ("word HUP", "1 m1 open 0.0.0.0:9090 : opened 4", "2 m1 fork 1.3 0 : fo
           "5 m1 fork 1.3 3 : forked", "6 m1 await-ready 1.3 0 : ready", "7 m1 await-ready 1.3 1 : ready")
 DONE = "\n".join((*RELOAD, "8 m1 census 1.3 : counted 0-3", "done cause none pid in-place", ""))
 BACK = "\n".join((*RELOAD[:6], "6 m1 await-ready 1.3 0 : gone", "7 m1 quit 1.3 1 : ok", "8 m1 census 1.2 : counted 0-3", "rolled-back cause 6 pid in-place", ""))
-ATTENDED = ("word USR2 attended", "1 m1 spawn-master 2 : spawned", "2 m2 adopt : adopted", "3 m2 fork 2.3 0 : forked",
-            "4 m2 await-ready 2.3 0 : ready", "5 m1 census 1.2 : counted 0-3", "6 m2 census 2.3 : counted 0-3")
 TRACE = ["Traceback (most recent call last):", '  File "site.py", line 3, in <module>', "ZeroDivisionError: division by zero"]
 PLAN = "plan steps 3 longest 3\n1 m1 fork 1.3 0 | forked 2 | again no-memory 3\n"
 
@@ -60,17 +59,19 @@ TAKEN_BACK = done("HUP", BACK, ["6 m1 await-ready 1.3 0 : gone: gunicorn ended w
 FAILING = [{"worker": 0, "failed": 21, "reason": "gunicorn ended with status 3", "next_try_seconds": 12.0}]
 NEW = [worker("1.3", number, state="is ready" if number < 2 else "starts", seconds=3) for number in range(4)]
 UPGRADED = [worker("2.3", number, state="is ready", seconds=40) for number in range(4)]
-# Each state: the status, the last words, and the lines of the block that is not complete.
-STATES: dict[str, tuple[Status, list[Done], tuple[str, ...]]] = {
-    "before": (status(), [], ()),
-    "during": (status(state="changes", line="changes: HUP", doing="HUP", others=NEW), [RELOADED], RELOAD),
-    "after": (status(generation="1.3", workers=[worker("1.3", number) for number in range(4)]), [TAKEN_BACK, RELOADED], ()),
-    "rolled-back": (status(file_has_changed=True), [RELOADED, TAKEN_BACK], ()),
+RELOADS = Progress().of("HUP", 0.0, 3.0, Running(4, 4, 4, 2), 4)
+ASKS = Progress().of("USR2 attended", 0.0, 95.0, Running(4, 4, 4, 4), 4, 1)
+# Each state: the status, and the last words.
+STATES: dict[str, tuple[Status, list[Done]]] = {
+    "before": (status(), []),
+    "during": (status(state="changes", line="changes: HUP", doing="HUP", others=NEW, progress=RELOADS), [RELOADED]),
+    "after": (status(generation="1.3", workers=[worker("1.3", number) for number in range(4)]), [TAKEN_BACK, RELOADED]),
+    "rolled-back": (status(file_has_changed=True), [RELOADED, TAKEN_BACK]),
     "short": (status(state="short", running=2, line="short: wanted 4, runs 2: worker 0 has failed 21 times, last: gunicorn ended with status 3",
-                     workers=[worker("1.2", 1), worker("1.2", 2), worker("1.2", 3, process=None, seconds=None)], failing=FAILING), [TAKEN_BACK], ()),
+                     workers=[worker("1.2", 1), worker("1.2", 2), worker("1.2", 3, process=None, seconds=None)], failing=FAILING), [TAKEN_BACK]),
     "question": (status(state="changes", line="changes: USR2 attended", doing="USR2 attended", question=1, question_seconds=95,
-                        others=UPGRADED, masters=[4002, 4200]), [RELOADED], ATTENDED),
-    "stopped": (status(state="stopped", wanted=0, running=0, workers=[], line="stopped: no worker is wanted"), [RELOADED, ENDED], ()),
+                        others=UPGRADED, masters=[4002, 4200], progress=ASKS), [RELOADED]),
+    "stopped": (status(state="stopped", wanted=0, running=0, workers=[], line="stopped: no worker is wanted"), [RELOADED, ENDED]),
 }
 
 
@@ -106,7 +107,7 @@ class Shown:
         })
         self.thread = threading.Thread(target=self.turn)
 
-    def seen(self) -> tuple[Status, list[Done], tuple[str, ...], str]:
+    def seen(self) -> tuple[Status, list[Done], str]:
         return *STATES[self.name], PLAN
 
     def turn(self) -> None:
@@ -177,9 +178,9 @@ def heard(name: str) -> list[tuple[str, str]]:
 
 def lay_out(name: str, folder: pathlib.Path) -> pathlib.Path:
     """The page of a state, in a file."""
-    found, words, calls = STATES[name]
+    found, words = STATES[name]
     file = folder / f"service-{name}.html"
-    file.write_text(view.page_of(found, words, calls, PLAN))
+    file.write_text(view.page_of(found, words, PLAN))
     return file
 
 

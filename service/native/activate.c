@@ -293,6 +293,7 @@ static void look(void) {
             END_WRONG("%s: %s", gate_path, strerror(errno));
         is_ready = true;
         say("ready");
+        note_ready();
     } else if (options.ready == READY_PROBE && probe.wrong >= MOST_WRONG) {
         END_WRONG("%s answers %s with a status of 500 or more, %d times", options.command[0], options.probe, MOST_WRONG);
     } else if (now() - begun > options.ready_within) {

@@ -8,24 +8,41 @@
 #include <string.h>
 #include <unistd.h>
 
-void note_reason(const char *name, const char *why) {
-    char path[4096], line[1200];
+/* Appends to a file of the folder of the service. Where it is missing nobody asks. */
+static void append(const char *name, const char *line, size_t length) {
+    char path[4096];
     const char *folder = getenv("PREFORK_FOLDER");
-    name = name ? name : getenv("PREFORK_WORKER");
-    if (!folder || !name)
+    if (!folder)
         return;
-    snprintf(path, sizeof path, "%s/reasons", folder);
-    int file = open(path, O_WRONLY | O_APPEND | O_CLOEXEC), length = snprintf(line, sizeof line, "%s %s\n", name, why);
+    snprintf(path, sizeof path, "%s/%s", folder, name);
+    int file = open(path, O_WRONLY | O_APPEND | O_CLOEXEC);
     if (file < 0)
         return;
+    if (write(file, line, length) < 0)
+        /* What it says is on standard error too, or said at the end of the word. */
+        (void)0;
+    close(file);
+}
+
+void note_reason(const char *name, const char *why) {
+    char line[1200];
+    name = name ? name : getenv("PREFORK_WORKER");
+    if (!name)
+        return;
+    int length = snprintf(line, sizeof line, "%s %s\n", name, why);
     if (length >= (int)sizeof line) {
         length = sizeof line - 1;
         line[length - 1] = '\n';
     }
-    if (write(file, line, (size_t)length) < 0)
-        /* It is on standard error, too. */
-        (void)0;
-    close(file);
+    append("reasons", line, (size_t)length);
+}
+
+void note_ready(void) {
+    char line[128];
+    const char *name = getenv("PREFORK_WORKER");
+    int length = snprintf(line, sizeof line, "%.64s %d\n", name ? name : "", (int)getpid());
+    if (name)
+        append("commands/ready", line, (size_t)length);
 }
 
 /* Opens the file of late generations, and gives the generation of this worker with a newline; -1 if the file is missing. */

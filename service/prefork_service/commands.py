@@ -42,7 +42,8 @@ class Commands:
         self.folder, self.config = folder, pathlib.Path(config)
         self.place = folder.path / "commands"
         self.place.mkdir(mode=0o700, exist_ok=True)
-        self.late = self.place / "late"
+        # What workers of a generation that is tried note: that one was not ready in time, and who is ready.
+        self.noted = [self.place / name for name in ("late", "ready")]
         self.now, self.next = folder.path / "config.toml", folder.path / "next.toml"
         self.accepted, self.kept = folder.path / "accepted.toml", self.place / "accepted.files"
         # The programs that are told of events where the command line names them.
@@ -153,14 +154,15 @@ class Commands:
         self.write(self.next, found)
         self.write_next(found, True)
         self.forget_others()
-        self.try_late()
+        self.begin_notes()
 
     def settle(self, report: str) -> None:
         """Takes the new command if the new generation runs, and forgets it otherwise."""
         if not self.is_changing:
             return
         self.is_changing = False
-        self.late.unlink(missing_ok=True)
+        for file in self.noted:
+            file.unlink(missing_ok=True)
         if report_of(report).runs:
             self.current = self.proposed
             self.keep_now()
@@ -173,14 +175,15 @@ class Commands:
             self.write_next(self.current, False)
             self.settle_preloading(False)
 
-    def try_late(self) -> None:
-        """A worker that is not ready in time notes its generation in a file while a new one is tried. The others of its
-        generation end at once: a master that upgrades starts several, one after another, before it goes back."""
-        try:
-            self.late.write_bytes(b"")
-        except OSError as fault:
-            # Each of them is waited for, then.
-            say(f"{self.late}: {fault.strerror}")
+    def begin_notes(self) -> None:
+        """While a new generation is tried, a worker that is not ready in time notes that in a file. The others of its generation
+        end at once: a master that upgrades starts several, one after another, before it goes back."""
+        for file in self.noted:
+            try:
+                file.write_bytes(b"")
+            except OSError as fault:
+                # Each of them is waited for, then.
+                say(f"{file}: {fault.strerror}")
 
     def keep_now(self) -> None:
         """The configuration that is to follow runs. A file that can't be written is tried again when a master starts."""
@@ -220,8 +223,8 @@ class Commands:
         self.accept()
 
     def clear(self) -> None:
-        own = [self.place / name for name in ("next", "new", "accepted", "accepted.files", "late", GIVEN)]
-        for file in [*self.generations(), *own, self.now, self.next, self.accepted]:
+        own = [self.place / name for name in ("next", "new", "accepted", "accepted.files", GIVEN)]
+        for file in [*self.generations(), *own, *self.noted, self.now, self.next, self.accepted]:
             file.unlink(missing_ok=True)
         with contextlib.suppress(OSError):
             self.place.rmdir()

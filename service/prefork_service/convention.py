@@ -105,13 +105,13 @@ class Survival:
 
 
 # Those of its files that a worker writes to. They are open for one that becomes another user.
-LATE, REASONS = "commands/late", "reasons"
+LATE, READY, REASONS = "commands/late", "commands/ready", "reasons"
 OPENED: dict[str, int] = {}
 
 
 def open_files() -> None:
     """Opens them: as another user it could not."""
-    for name in (LATE, REASONS):
+    for name in (LATE, READY, REASONS):
         try:
             OPENED[name] = os.open(f"{FOLDER}/{name}", os.O_WRONLY | os.O_APPEND | os.O_CLOEXEC)
         except OSError:
@@ -134,6 +134,11 @@ def append(name: str, text: bytes) -> None:
 def note_late() -> None:
     """Notes that this worker was not ready in time, while its generation is tried."""
     append(LATE, f"{generation()}\n".encode())
+
+
+def note_ready() -> None:
+    """Notes that this worker is ready, while its generation is tried: its master tells it at the end of the word."""
+    append(READY, f"{WORKER_NAME} {os.getpid()}\n".encode())
 
 
 def is_known_late() -> bool:

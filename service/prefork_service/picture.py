@@ -9,20 +9,20 @@ from typing import Any
 from .ages import age_since
 from .counted import Record
 from .done import Done
-from .folder import text_of
+from .folder import content_of, text_of
 from .forms import Status
 from .hard_memory import REASONS_OF_LIMITS
 from .measures import Measures
 from .processes import masters_of
-from .progress import Progress, counts_of
+from .progress import HAVE_ENDED, Progress, counts_of, is_newer
 from .queues import Queues
 from .remembering import Remembered
 from .signs import Unchanged
 from .state import SERVES
-from .status import others_of, workers_of
+from .status import Moment, others_of, workers_of
 from .traffic import Traffic
 from .words import CHANGES, START, is_routine
-from .worker_files import WorkerFiles
+from .worker_files import WorkerFiles, WorkerName
 
 # How many words are remembered.
 MOST_WORDS = 20
@@ -117,17 +117,29 @@ class Picture:
                done and done.began, len(state.get("survivors", [])), state["generation"], *state["workers"])
         return self.remembered.get(self.looked, key, seconds)
 
-    def progress(self, workers: list[Status], others: list[Status]) -> Status | None:
+    def progress(self, workers: list[Status], running: dict[WorkerName, int], ready: set[WorkerName]) -> Status | None:
         """How far the present word is, as far as processes show it."""
         word, began, generation = self.state["doing"], self.state.get("word_began", 0.0), self.state["generation"]
         if not word:
             return None
-        counts = counts_of(generation, len(self.state["workers"]), [*workers, *others])
-        return self.far.of(word, began, time.monotonic(), counts, self.goal(word))
+        counted = {(worker["generation"], worker["number"]) for worker in workers}
+        others = [{"generation": one[0], "process": process} for one, process in running.items() if one not in counted]
+        counts = counts_of(generation, len(self.state["workers"]), [*workers, *others], len(ready))
+        return self.far.of(word, began, time.monotonic(), counts, self.goal(word), self.state["question"])
+
+    def ready(self, running: dict[WorkerName, int]) -> set[WorkerName]:
+        """The workers of the version that is tried which have noted that they are ready, and run."""
+        if self.state["doing"] not in CHANGES:
+            return set()
+        noted = set((content_of(self.folder / "commands" / "ready") or b"").decode("latin-1").split("\n"))
+        new = [(worker, process) for worker, process in running.items() if is_newer(worker[0], self.state["generation"])]
+        return {worker for worker, process in new if f"{worker[0]}.{worker[1]} {process}" in noted}
 
     def goal(self, word: str) -> int:
         """How many workers a word is to start, as the configuration's file says; 0 where that is not known."""
         from .named import workers_in
+        if word == START:
+            return int(self.state["whole"]["wanted"])
         text = self.config_text() if word in CHANGES else None
         return workers_in(text.encode("latin-1")) if text else 0
 
@@ -142,13 +154,19 @@ class Picture:
         def age_of(process: int) -> float:
             return age_since(since[process])
 
-        workers, others = workers_of(record, running, beats, age_of), others_of(record, running, state["calls"], age_of)
+        workers, ready = workers_of(record, running, beats, age_of), self.ready(running)
+        progress = self.progress(workers, running, ready)
+        moment = Moment(
+            state["doing"], progress is not None and progress["step"] == HAVE_ENDED, frozenset(ready),
+            frozenset(one["worker"] for one in state["failing"]), frozenset(one["process"] for one in state.get("survivors", [])),
+        )
+        others = others_of(record, running, moment, age_of)
         self.add_measures(workers, others, since)
         return {
             **self.brief(), "workers": workers, "measured": self.measures.moment,
             "queues": self.queues.of({address: state["held"][address] for address in state["addresses"] if address in state["held"]}),
             "others": others,
-            "progress": self.progress(workers, others),
+            "progress": progress,
             "requests": self.traffic.told(),
             "masters": masters_of(state["master"], self.files.launched()) if state["master"] else [],
         }

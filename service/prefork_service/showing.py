@@ -61,17 +61,17 @@ class Showing:
             "/status.json": lambda: (live.JSON_KIND, json.dumps(self.status()) + "\n"),
         }
 
-    def seen(self, seconds: float = 0.0) -> tuple[Status, list[Done], list[str], str]:
+    def seen(self, seconds: float = 0.0) -> tuple[Status, list[Done], str]:
         """What a page shows, which may be some seconds old."""
-        return self.status(seconds), [*self.picture.words], self.picture.state["calls"], self.plan.text if self.plan else ""
+        return self.status(seconds), [*self.picture.words], self.plan.text if self.plan else ""
 
     def event(self) -> str:
         """What pages that are open are told: all of them the same, as long as that is the same."""
-        status, words, calls, plan = self.seen(PAGE_SECONDS)
+        status, words, plan = self.seen(PAGE_SECONDS)
         last = words[-1] if words else None
-        if status is not self.told[0] or (last, len(calls), plan) != self.told[1]:
+        if status is not self.told[0] or (last, plan) != self.told[1]:
             from .view import event_of
-            self.told = status, (last, len(calls), plan), event_of(status, words, calls, plan)
+            self.told = status, (last, plan), event_of(status, words, plan)
         return self.told[2]
 
     def open(self) -> None:

@@ -1,11 +1,12 @@
 """The status of a service: who runs, what was done last, and what is being done now."""
+import dataclasses
 import time
 from collections.abc import Callable
 
 from .ages import age_of
-from .blocks import calls_in
 from .counted import Record
 from .forms import Status
+from .progress import is_newer
 from .questions import line_of
 from .state import times
 from .worker_files import WorkerName
@@ -31,31 +32,37 @@ def workers_of(
     return found
 
 
-# What a worker does after a call of it.
-STATES_AFTER = {("fork", "forked"): "starts", ("await-ready", "ready"): "is ready", ("quit", "ok"): "finishes", ("kill", "ok"): "ends"}
+@dataclasses.dataclass(frozen=True)
+class Moment:
+    """Where a service is: the word that changes it, if one does, whether that goes back, the workers that have noted that they
+    are ready, the numbers of those that fail to start, and the processes of those that have survived their master."""
 
+    word: str | None = None
+    is_back: bool = False
+    ready: frozenset[WorkerName] = frozenset()
+    failing: frozenset[int] = frozenset()
+    survivors: frozenset[int] = frozenset()
 
-def states_in(lines: list[str]) -> dict[WorkerName, str]:
-    """What workers do, as the lines of a block say that is not complete."""
-    found = {}
-    for call in calls_in(lines):
-        if call.worker is not None and (state := STATES_AFTER.get((call.kind, call.answer))):
-            found[call.generation, call.worker] = state
-    return found
+    def state_of(self, worker: WorkerName, process: int, counted: str) -> str:
+        """What a worker does that runs beside those of the generation that was counted last. A master tells of its calls at the
+        end of a word, and a worker itself that it is ready."""
+        generation, number = worker
+        is_new = is_newer(generation, counted) and (bool(self.word) or not counted)
+        is_more = generation == counted and (self.word == "TTIN" or number in self.failing)
+        if self.is_back or process in self.survivors or not (is_new or is_more):
+            return "finishes"
+        return "is ready" if worker in self.ready else "starts"
 
 
 def others_of(
-    record: Record, running: dict[WorkerName, int], lines: list[str], age_of: Callable[[int], float] = age_of
+    record: Record, running: dict[WorkerName, int], moment: Moment, age_of: Callable[[int], float] = age_of
 ) -> list[Status]:
-    """The workers that run beside those that were counted last: they start, or finish. `lines` are those of a block that
-    is not complete."""
+    """The workers that run beside those that were counted last: they start, are ready, or finish."""
     counted, found = {(record.generation, number) for number in record.workers}, []
-    others = sorted((worker, process) for worker, process in running.items() if worker not in counted)
-    states = states_in(lines) if others else {}
-    for (generation, number), process in others:
+    for worker, process in sorted((worker, process) for worker, process in running.items() if worker not in counted):
         found.append({
-            "generation": generation, "number": number, "process": process, "seconds": int(age_of(process)),
-            "state": states.get((generation, number), "starts" if lines and not record.generation else "finishes"),
+            "generation": worker[0], "number": worker[1], "process": process, "seconds": int(age_of(process)),
+            "state": moment.state_of(worker, process, record.generation),
         })
     return found
 

@@ -10,9 +10,6 @@ from .state import Whole
 if TYPE_CHECKING:
     from .service import Service
 
-# The lines of the present block that are told.
-MOST_CALLS = 1000
-
 
 class Summary:
     """What a service knows of itself."""
@@ -55,7 +52,6 @@ class Summary:
             "generation": of.watching.record.generation,
             "workers": of.watching.record.workers,
             "beats": {str(number): moment for number, moment in master.beats.items()} if master else {},
-            "calls": master.block[-MOST_CALLS:] if master else [],
             "word_began": self.of.word_began if self.of.doing() else 0.0,
             "master": master.process.pid if master else None,
             "master_restarts": max(0, of.starts - 1),

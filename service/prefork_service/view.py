@@ -113,23 +113,24 @@ def bars(status: Status) -> str:
     missing = max(0, status["wanted"] - len(cells)) if status["state"] != IN_CHANGE else 0
     cells += [("missing", "is wanted, and does not run")] * missing
     found = [bar(f"generation {status['generation']}" if status["generation"] else "no generation", cells, False)]
+    goal = (status.get("progress") or {}).get("wanted") or status["wanted"]
     for generation in sorted({worker["generation"] for worker in status["others"]}):
         beside = [worker for worker in status["others"] if worker["generation"] == generation]
         others = [(KINDS.get(it["state"], "starting"), f"worker {it['number']}: process {it['process']}, {it['state']}") for it in beside]
         is_new = any(kind != "leaves" for kind, _ in others)
         if is_new:
-            others += [("missing", "is to be started")] * max(0, status["wanted"] - len(others))
+            others += [("missing", "is to be started")] * max(0, goal - len(others))
         found.append(bar(f"generation {generation}", others, is_new))
     return f'<section><h2>Workers</h2>{"".join(found)}</section>'
 
 
-def stations(status: Status, calls: Sequence[str]) -> str:
+def stations(status: Status) -> str:
     """Where the present word is."""
-    found = shown_stations(status["doing"], calls, status["question"])
+    progress = status.get("progress")
+    found = shown_stations(status["doing"], progress, status["question"])
     if not found:
         return ""
     rows = "".join(f'<li class="{kind}"{CURRENT_STEP if kind == "now" else ""}>{text(name)}</li>' for name, kind in found)
-    progress = status.get("progress")
     far = f'<p class="soft">{text(progress["line"])}</p>' if progress else ""
     return f'<section><h2>{text(status["doing"])}, on its way</h2><ol class="stations">{rows}</ol>{far}</section>'
 
@@ -179,25 +180,25 @@ Now: {text(shown_doing(status))}.</p>
 <details id="plan"><summary>Plan of the next HUP</summary>{changed}<pre>{text(plan)}</pre></details>"""
 
 
-def middle_of(status: Status, words: Sequence[Done], calls: Sequence[str], plan: str) -> str:
+def middle_of(status: Status, words: Sequence[Done], plan: str) -> str:
     """What changes of the page."""
-    parts = [band(status, words), question(status), bars(status), stations(status, calls), last_words(words)]
+    parts = [band(status, words), question(status), bars(status), stations(status), last_words(words)]
     parts += [queues(status), numbers(status, plan)]
     return "".join(parts)
 
 
-def page_of(status: Status, words: Sequence[Done], calls: Sequence[str], plan: str) -> str:
-    """The whole page. `calls` are the lines of a block that is not complete."""
+def page_of(status: Status, words: Sequence[Done], plan: str) -> str:
+    """The whole page."""
     return f"""<!doctype html>
 <html lang="en"><head><meta charset="utf-8"><meta name="viewport" content="width=device-width, initial-scale=1">
 <title>{text(title_of(status))}</title><style>{STYLE}</style><script src="live.js" defer></script>
 <noscript><meta http-equiv="refresh" content="5"></noscript></head><body>
 <p id="live" role="status"></p>
-<main>{middle_of(status, words, calls, plan)}</main>
+<main>{middle_of(status, words, plan)}</main>
 </body></html>
 """
 
 
-def event_of(status: Status, words: Sequence[Done], calls: Sequence[str], plan: str) -> str:
+def event_of(status: Status, words: Sequence[Done], plan: str) -> str:
     """The same for a page that is open."""
-    return live.event_of(title_of(status), middle_of(status, words, calls, plan))
+    return live.event_of(title_of(status), middle_of(status, words, plan))

@@ -29,7 +29,7 @@ from typing import Any, Protocol
 
 from . import VERSION, access_log, convention
 from .access_log import AccessLog
-from .convention import SURVIVAL_LOOK, Pipes, Survival, clear_environment, is_known_late, note_late, open_files, warn
+from .convention import SURVIVAL_LOOK, Pipes, Survival, clear_environment, is_known_late, note_late, note_ready, open_files, warn
 from .holding import Hold, Unfit
 from .probing import probe, warm
 from .proxies import corrected, proxy_of
@@ -185,6 +185,7 @@ class Worker:
             told = corrected(application, given.trusted_proxy)
             server = self.server = Server(told, self.sockets, given.threads, given.keep, requests)
             self.pipes.say("ready")
+            note_ready()
             server.run(self.given.idle, self.given.finish)
         self.leave()
 

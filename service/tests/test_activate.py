@@ -373,6 +373,21 @@ class ProbeTest(WorkerTest):
         self.assertEqual((talk.hear(), talk.wait(), late.exists()), (END, 1, False))
         late.parent.rmdir()
 
+    def test_a_worker_notes_that_it_is_ready_while_its_version_is_tried(self) -> None:
+        noted = self.room / "commands" / "ready"
+        noted.parent.mkdir()
+        names = {"PREFORK_FOLDER": str(self.room), "PREFORK_WORKER": "1.2.0"}
+        talk = self.started(ACTIVATE, "--ready-within", "0.3", "--", "sleep", "1000", addresses=(free_address(),), **names)
+        self.assertEqual((talk.hear(), noted.exists()), (END, False))
+        noted.touch()
+        for options, wanted in ((("--ready-within", "0.3", "--", "sleep", "1000"), END), (("--", PAGE, "{fd}"), "ready")):
+            self.assertEqual(noted.read_text(), "")
+            talk = self.started(ACTIVATE, *options, addresses=(free_address(),), **names)
+            self.assertEqual(talk.hear(), wanted)
+        self.assertTrue(until(lambda: noted.read_text() == f"1.2.0 {talk.process.pid}\n"), noted.read_text())
+        noted.unlink()
+        noted.parent.rmdir()
+
 
 if __name__ == "__main__":
     unittest.main()

@@ -129,15 +129,19 @@ class CommandsTest(unittest.TestCase):
         self.change("1.1")
         self.assertEqual(self.start("1.2")[0], "PREFORK_ADDRESSES=/b /a")
 
-    def test_late_workers_are_noted_while_a_generation_is_tried(self) -> None:
+    def test_late_and_ready_workers_are_noted_while_a_generation_is_tried(self) -> None:
         self.start("1.1")
         for report in ("done cause none pid no-file", "rolled-back cause 2 pid no-file"):
-            self.assertFalse(self.commands.late.exists())
+            for file in (self.place / "late", self.place / "ready"):
+                self.assertFalse(file.exists())
             self.change("1.1")
-            self.assertEqual(self.commands.late.read_bytes(), b"")
-            self.commands.late.write_text("1.2\n")
+            for file in (self.place / "late", self.place / "ready"):
+                self.assertEqual(file.read_bytes(), b"")
+                file.write_text("1.2\n")
             self.commands.settle(report)
-        self.assertFalse(self.commands.late.exists())
+        self.change("1.1")
+        self.commands.clear()
+        self.assertFalse(self.place.exists())
 
     def test_a_generation_that_was_rolled_back_is_forgotten(self) -> None:
         self.start("1.1")

@@ -31,7 +31,7 @@ CUSTOMIZE = "import os, sys\nopen(os.environ['CUSTOMIZED'], 'a').write(' '.join(
 OWN = re.compile(
     r"run|run/(\.prefork|serve\.pid|reasons|journal|(ctl|keeper|masters)\.sock|\.\d+|\.blocks|blocks|(config|next|accepted)\.toml|commands|workers|"
     r"traffic|errors|waiting|survivors(/.*)?|records(/\d+(/(from\.toml|to\.\d+\.toml|blocks\.\d+|(lost|died)\.\d+)?)?)?"
-    r"|commands/(next|new|accepted|accepted\.files|late|given\.toml|\d+\.\d+)|workers/\d+\.\d+\.\d+(\.ended)?|waiting/\d+(\.once)?|errors/\d+\.\d+\.\d+|traffic/.*)"
+    r"|commands/(next|new|accepted|accepted\.files|late|ready|given\.toml|\d+\.\d+)|workers/\d+\.\d+\.\d+(\.ended)?|waiting/\d+(\.once)?|errors/\d+\.\d+\.\d+|traffic/.*)"
 )
 ELSEWHERE = re.compile(r"site\.toml|/dev/null|/proc/(\d+|self)/(stat|task/\d+/children|cmdline|environ|comm|fd/2)|\d+")
 STARTED = {"prefork-keeper", "prefork-read", "prefork-watch", "master.py"}

@@ -34,7 +34,7 @@ class ProgressTest(unittest.TestCase):
         counts = counts_of("1.9", 4, [*run("1.9", "1.9", "1.8", "1.10"), *ended])
         told = Progress().of("HUP", 100.0, 108.9, counts, 4)
         line = "HUP, for 8 s: 1 of 4 new and 3 old workers run; new workers start, for 8 s"
-        self.assertEqual(told, {"word": "HUP", "seconds": 8, "new": 1, "old": 3, "wanted": 4, "step": "new workers start",
+        self.assertEqual(told, {"word": "HUP", "seconds": 8, "new": 1, "old": 3, "wanted": 4, "ready": 0, "step": "new workers start",
                                 "step_seconds": 8, "line": line})
         for old, wanted in ((1, "QUIT, for 3 s: 1 worker runs; old workers finish, for 3 s"),
                             (2, "QUIT, for 3 s: 2 workers run; old workers finish, for 3 s")):
@@ -50,6 +50,24 @@ class ProgressTest(unittest.TestCase):
             ("the new workers are to be ready", 3), ("old workers finish", 0), ("the end of the word", 0),
         ])
         self.assertEqual(progress.of("HUP", 20.0, 21.0, Running(0, 3, 3), 3)["step_seconds"], 1)
+
+    def test_the_new_workers_become_ready_one_after_another(self) -> None:
+        progress, told = Progress(), []
+        for ready in range(4):
+            far = progress.of("HUP", 0.0, 9.0, Running(3, 2, 2, ready), 3)
+            told.append((far["ready"], far["step"]))
+        self.assertEqual(told, [*((ready, "the new workers are to be ready") for ready in range(3)), (3, "old workers finish")])
+        self.assertIn("3 of 3 new (3 ready) and 2 old workers run; old workers finish", far["line"])
+        self.assertEqual(progress.of("HUP", 0.0, 9.0, Running(3, 0, 2, 3), 3)["step"], "the end of the word")
+        # (after WINCH no old one runs)
+        self.assertEqual(Progress().of("HUP", 0.0, 9.0, Running(3, 0, 0), 3)["step"], "the new workers are to be ready")
+
+    def test_a_question_waits_for_its_answer(self) -> None:
+        self.assertEqual(Progress().of("USR2 attended", 0.0, 9.0, Running(3, 2, 2, 3), 3, 1)["step"], "its question is to be answered")
+
+    def test_words_that_start_no_generation(self) -> None:
+        for word, old, step in (("TTIN", 2, "another worker starts"), ("TTIN", 3, "the other worker is to be ready"), ("USR1", 2, "the end of the word")):
+            self.assertEqual(Progress().of(word, 0.0, 9.0, Running(0, old, 2), 0)["step"], step)
 
     def test_a_word_that_goes_back(self) -> None:
         progress = Progress()

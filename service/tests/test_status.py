@@ -12,7 +12,7 @@ from kit import PYTHON, until
 from prefork_service.ages import age_of
 from prefork_service.counted import Record, forget, started_workers
 from prefork_service.processes import descends, masters_of
-from prefork_service.status import others_of, shown, workers_of
+from prefork_service.status import Moment, others_of, shown, workers_of
 
 BLOCK = "word HUP\n1 m1 census 1.1 : counted 0-2\n2 m1 census 1.2 : counted 0-1,3\ndone cause none pid no-file\n"
 
@@ -174,13 +174,28 @@ class WantedTest(unittest.TestCase):
         record.note("word tick 9\nnothing\n")
         self.assertEqual((record.wanted, record.workers), (0, []))
 
-    def test_workers_that_start_and_finish(self) -> None:
+    def states(self, moment: Moment, running: dict[tuple[str, int], int], generation: str = "1.1") -> dict[str, str]:
         record = Record()
-        record.note("word HUP\n1 m1 census 1.1 : counted 0\ndone cause none pid no-file\n")
-        lines = ["word HUP", "1 m1 fork 1.2 0 : forked", "2 m1 fork 1.2 1 fds 3 : forked", "3 m1 await-ready 1.2 0 : ready"]
+        record.generation, record.workers = generation, [0] if generation else []
+        return {f"{it['generation']}.{it['number']}": it["state"] for it in others_of(record, running, moment)}
+
+    def test_workers_of_a_version_that_is_tried(self) -> None:
+        """They start until they have noted that they are ready; older ones finish, and so do they if it goes back."""
         running = {("1.1", 0): 1, ("1.0", 0): 1, ("1.2", 0): 1, ("1.2", 1): 1}
-        found = [(f"{it['generation']}.{it['number']}", it["state"]) for it in others_of(record, running, lines)]
-        self.assertEqual(found, [("1.0.0", "finishes"), ("1.2.0", "is ready"), ("1.2.1", "starts")])
+        ready = frozenset({("1.2", 0)})
+        self.assertEqual(self.states(Moment("HUP", False, ready), running), {"1.0.0": "finishes", "1.2.0": "is ready", "1.2.1": "starts"})
+        self.assertEqual(set(self.states(Moment("HUP", True, ready), running).values()), {"finishes"})
+        # The word has ended: it was rolled back.
+        self.assertEqual(set(self.states(Moment(), running).values()), {"finishes"})
+
+    def test_workers_of_the_generation_that_runs(self) -> None:
+        running = {("1.1", 0): 1, ("1.1", 1): 1}
+        for moment, state in ((Moment("TTIN"), "starts"), (Moment("TTOU"), "finishes"), (Moment(), "finishes"), (Moment(failing=frozenset({1})), "starts")):
+            self.assertEqual(self.states(moment, running), {"1.1.1": state}, moment)
+
+    def test_workers_of_a_master_that_has_counted_nobody(self) -> None:
+        running = {("1.1", 0): 5, ("1.2", 1): 6}
+        self.assertEqual(self.states(Moment(survivors=frozenset({6})), running, ""), {"1.1.0": "starts", "1.2.1": "finishes"})
 
 
 class ShownTest(unittest.TestCase):

@@ -2,29 +2,28 @@
 import json
 import re
 import unittest
+from typing import Any
 
 from prefork_service import live, view
 from prefork_service.done import Done
+from prefork_service.progress import ANSWER, ARE_READY, END, FINISH, ONE_IS_READY, ONE_MORE, STARTING, Progress, Running
 from prefork_service.sentences import on_its_way, sentence
-from prefork_service.stations import GOES_BACK, PLANS, shown_stations
+from prefork_service.stations import GOES_BACK, PLANS, SOME_RUN, shown_stations
 from prefork_service.words import START
 from test_metrics import STATUS
 from test_page import read
 
 BEGAN = "2026-01-01T13:21:00+00:00"
 WHY = ["2 m1 await-ready 1.2 0 : gone: gunicorn ended with status 3"]
-RELOAD = ["word HUP", "1 m1 open 0.0.0.0:9090 : opened 4", "2 m1 fork 1.2 0 : forked", "3 m1 await-ready 1.2 0 : ready"]
-UPGRADE = ["word USR2", "1 m1 spawn-master 2 : spawned", "2 m2 adopt : adopted", "3 m2 fork 2.2 0 : forked",
-           "4 m1 census 1.1 : counted 0", "5 m2 await-ready 2.2 0 : ready"]
 
 
 def done(word: str, report: str, reasons: list[str] | None = None) -> Done:
     return Done(word, BEGAN, 1.5, f"word {word}\n{report}\n", reasons or [], {})
 
 
-def lit(word: str, lines: list[str], question: int = 0) -> str:
+def lit(word: str, far: dict[str, Any] | None = None) -> str:
     """The station that is lit."""
-    return next(name for name, kind in shown_stations(word, lines, question) if kind == "now")
+    return next(name for name, kind in shown_stations(word, far, 0) if kind == "now")
 
 
 class SentenceTest(unittest.TestCase):
@@ -51,41 +50,54 @@ class SentenceTest(unittest.TestCase):
 
 class StationsTest(unittest.TestCase):
     def test_a_reload_goes_from_station_to_station(self) -> None:
-        told = [lit("HUP", RELOAD[:length]) for length in range(1, len(RELOAD) + 1)]
-        self.assertEqual(told, ["open addresses", "open addresses", "start workers", "hear them ready"])
-        self.assertEqual(lit("HUP", [*RELOAD, "4 m1 census 1.2 : counted 0"]), "count them")
-        self.assertEqual(lit("HUP", [*RELOAD, "4 m1 census 1.2 : counted 0", "5 m1 quit 1.1 0 : ok"]), "let the old ones finish")
+        self.assertEqual(lit("HUP"), "open addresses")
+        progress, told = Progress(), []
+        for new, old, ready in ((0, 2, 0), (1, 2, 0), (2, 2, 0), (2, 2, 1), (2, 2, 2), (2, 1, 2), (2, 0, 2)):
+            told.append(lit("HUP", progress.of("HUP", 0.0, 1.0, Running(new, old, 2, ready), 2)))
+        self.assertEqual(told, ["open addresses", "start workers", "hear them ready", "hear them ready", *["let the old ones finish"] * 2, "count again"])
 
-    def test_a_reload_in_steps_begins_again_with_each_step(self) -> None:
-        step = ["word HUP", "1 m1 fork 1.2 0 : forked", "2 m1 await-ready 1.2 0 : ready", "3 m1 quit 1.1 1 : ok",
-                "4 m1 await-gone 1.1 1 : gone", "5 m1 fork 1.2 1 : forked", "6 m1 await-ready 1.2 1 : ready"]
-        told = [lit("HUP", step[:length]) for length in range(2, len(step) + 1)]
-        start, hear, finish = "start workers", "hear them ready", "let the old ones finish"
-        self.assertEqual(told, [start, hear, finish, finish, start, hear])
+    def test_a_reload_whose_workers_note_nothing(self) -> None:
+        progress = Progress()
+        told = [lit("HUP", progress.of("HUP", 0.0, 1.0, Running(2, old, 2), 2)) for old in (2, 1, 0)]
+        self.assertEqual(told, ["hear them ready", "let the old ones finish", "count again"])
 
-    def test_the_old_master_of_an_upgrade_counts_meanwhile(self) -> None:
-        self.assertEqual(lit("USR2", UPGRADE[:5]), "start its workers")
-        self.assertEqual(lit("USR2", UPGRADE), "hear them ready")
+    def test_an_upgrade(self) -> None:
+        progress = Progress()
+        told = [lit("USR2", progress.of("USR2", 0.0, 1.0, Running(*counts), 2)) for counts in ((0, 2, 2), (1, 2, 2), (2, 2, 2, 1), (2, 2, 2, 2))]
+        self.assertEqual(told, ["start a new master", "start its workers", "hear them ready", "let the old workers finish"])
 
     def test_a_question_is_lit(self) -> None:
         for question in (1, 2):
-            found = [kind for name, kind in shown_stations("USR2 attended", UPGRADE, question) if name == "it asks"]
-            self.assertEqual(found.index("now"), question - 1)
+            far = Progress().of("USR2 attended", 0.0, 1.0, Running(2, 2, 2, 2), 2, question)
+            found = [kind for name, kind in shown_stations("USR2 attended", far, question) if name == "it asks"]
+            self.assertEqual((found.index("now"), found.count("now")), (question - 1, 1))
 
-    def test_a_call_that_went_wrong_goes_back(self) -> None:
-        self.assertEqual(lit("HUP", [*RELOAD[:3], "3 m1 await-ready 1.2 0 : gone"]), GOES_BACK)
+    def test_a_worker_more_and_a_worker_less(self) -> None:
+        told = [lit("TTIN", Progress().of("TTIN", 0.0, 1.0, Running(0, old, 2), 0)) for old in (2, 3)]
+        self.assertEqual(told, ["start a worker", "hear it ready"])
+        self.assertEqual(lit("TTOU", Progress().of("TTOU", 0.0, 1.0, Running(0, 2, 2), 0)), "let a worker finish")
+
+    def test_new_workers_that_have_ended_go_back(self) -> None:
+        progress = Progress()
+        told = [lit("HUP", progress.of("HUP", 0.0, 1.0, Running(new, 2, 2), 2)) for new in (2, 1)]
+        self.assertEqual(told, ["hear them ready", GOES_BACK])
 
     def test_other_words_have_none(self) -> None:
-        self.assertEqual([shown_stations(word, [], 0) for word in (None, "tick 1", "USR1")], [[], [], []])
+        self.assertEqual([shown_stations(word, None, 0) for word in (None, "tick 1", "USR1")], [[], [], []])
 
     def test_one_station_is_lit_in_each_plan(self) -> None:
         for word in PLANS:
-            self.assertEqual([kind for _, kind in shown_stations(word, [], 0)].count("now"), 1)
+            self.assertEqual([kind for _, kind in shown_stations(word, None, 0)].count("now"), 1)
+
+    def test_each_step_is_at_a_station(self) -> None:
+        """A step that no station knows would light the first one."""
+        steps = {step for plan in PLANS.values() for _, found in plan for step in found}
+        self.assertEqual(steps, {STARTING, SOME_RUN, ARE_READY, FINISH, END, ONE_MORE, ONE_IS_READY, ANSWER})
 
 
 class ViewTest(unittest.TestCase):
     def shown(self, **more: object) -> str:
-        return view.page_of({**STATUS, **more}, [done("HUP", "rolled-back cause 2 pid no-file", WHY)], RELOAD, "plan <x>")
+        return view.page_of({**STATUS, **more}, [done("HUP", "rolled-back cause 2 pid no-file", WHY)], "plan <x>")
 
     def test_each_state_has_its_word_and_colour(self) -> None:
         for state, word in (("serves", "serves"), ("changes", "changes"), ("short", "is short"), ("stopped", "is stopped")):
@@ -112,9 +124,13 @@ class ViewTest(unittest.TestCase):
 
     def test_a_generation_beside_it(self) -> None:
         others = [{"generation": "1.3", "number": number, "process": 9, "seconds": 1, "state": state} for number, state in enumerate(("is ready", "starts"))]
-        page = self.shown(state="changes", line="changes: HUP", doing="HUP", others=others)
+        far = Progress().of("HUP", 0.0, 1.0, Running(3, 1, 1, 1), 3)
+        page = self.shown(state="changes", line="changes: HUP", doing="HUP", others=others, progress=far)
         self.assertIn('aria-label="generation 1.3: 1 ready, 1 starting, 1 missing"', page)
         self.assertIn('<li class="now" aria-current="step">hear them ready</li>', page)
+        # (what is wanted of it may be more than of the one that runs)
+        page = self.shown(state="changes", line="changes: HUP", doing="HUP", others=others, progress={**far, "wanted": 5})
+        self.assertIn('aria-label="generation 1.3: 1 ready, 1 starting, 3 missing"', page)
         self.assertIn("A reload is on its way.", page)
 
     def test_queues_and_memory(self) -> None:
@@ -139,17 +155,17 @@ class ViewTest(unittest.TestCase):
         bad = "<script>x</script>"
         word = Done("HUP", bad, 1.0, f"word HUP\nrolled-back cause 1 pid {bad}\n", [bad], {bad: [bad]})
         service = {"process": 1, "seconds": 60, "folder": f"/run/{bad}"}
-        page = view.page_of({**STATUS, "service": service, "addresses": [bad], "line": f"short: {bad}"}, [word], [bad], bad)
+        page = view.page_of({**STATUS, "service": service, "addresses": [bad], "line": f"short: {bad}"}, [word], bad)
         self.assertEqual(re.findall("<script[^>]*>", page), ['<script src="live.js" defer>'])
         read(page)
 
     def test_an_event_has_the_middle_of_the_page(self) -> None:
-        told = view.event_of(STATUS, [], [], "")
+        told = view.event_of(STATUS, [], "")
         self.assertTrue(told.startswith(f"retry: {live.RETRY}\ndata: "))
         self.assertTrue(told.endswith("\n\n") and told.count("\n") == 3)
         event = json.loads(told.splitlines()[1].removeprefix("data: "))
-        self.assertIn(f"<main>{event['middle']}</main>", view.page_of(STATUS, [], [], ""))
-        self.assertIn(f"<title>{event['title']}</title>", view.page_of(STATUS, [], [], ""))
+        self.assertIn(f"<main>{event['middle']}</main>", view.page_of(STATUS, [], ""))
+        self.assertIn(f"<title>{event['title']}</title>", view.page_of(STATUS, [], ""))
 
 
 if __name__ == "__main__":

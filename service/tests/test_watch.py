@@ -19,7 +19,7 @@ from test_whole import BACK
 
 SECONDS = 60
 STATE = {
-    "addresses": ["127.0.0.1:1"], "held": {}, "lost_paths": [], "generation": "1.1", "workers": [0, 1], "beats": {}, "calls": [],
+    "addresses": ["127.0.0.1:1"], "held": {}, "lost_paths": [], "generation": "1.1", "workers": [0, 1], "beats": {},
     "master": None, "master_restarts": 0, "keeper": {"process": 1, "restarts": 0}, "counts": [], "ticks": 1, "tick_outcomes": {},
     "doing": None, "question": 0, "asked": 0.0, "waiting": 0, "accepted": "", "records_waiting": 0,
     "whole": whole_of(None, True, 2, 2, "").as_json(), "failing": [], "failed_starts": 0, "hooks": {},

@@ -397,6 +397,23 @@ class WsgiTest(WorkerTest):
         late.parent.rmdir()
         (self.room / "hangs.py").unlink()
 
+    def test_a_worker_notes_that_it_is_ready_while_its_version_is_tried(self) -> None:
+        (self.room / "hangs.py").write_text("import time; time.sleep(3600)")
+        noted = self.room / "commands" / "ready"
+        noted.parent.mkdir()
+        noted.touch()
+        more = {"PREFORK_FOLDER": str(self.room), "PREFORK_WORKER": "1.2.0"}
+        talk, _ = self.begun("--chdir", str(self.room), "--ready-within", "3", application="hangs", **more)
+        self.assertEqual((talk.hear(), talk.wait(), noted.read_text()), (END, 1, ""))
+        talk, _ = self.begun(**more)
+        self.assertEqual(talk.hear(), "ready")
+        self.assertTrue(until(lambda: noted.read_text() == f"1.2.0 {talk.process.pid}\n"), noted.read_text())
+        talk.say("quit")
+        talk.wait()
+        noted.unlink()
+        noted.parent.rmdir()
+        (self.room / "hangs.py").unlink()
+
     def test_the_end_of_input_and_a_master_that_has_gone(self) -> None:
         talk, _ = self.begun()
         talk.hear()

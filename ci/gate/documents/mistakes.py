@@ -75,7 +75,7 @@ MISTAKES = (
     Mistake("pairs", "docs/architecture/words.md", "`certifier::certificate`", "`certifier::carry_out`", "no carry_out"),
     Mistake("glossary", "service/guides/wsgi.md", "(../../docs/GLOSSARY.md)", "(../README.md)", "is a word of ours"),
     Mistake("glossary", "docs/GLOSSARY.md", "| adapter |", "| zone |", "zone is out of order"),
-    Mistake("places", places.PAGE, "`stations.py` (", "`the stations` (", "does not name service/prefork_service/stations.py"),
+    Mistake("places", places.PAGE, "`blocks.py` (", "`the blocks` (", "does not name service/prefork_service/blocks.py"),
     Mistake("places", places.PAGE, "and `prefork.bash`;", "and more;", "does not name completions/prefork.bash"),
     Mistake("edits", "crates/explorer/must-fail/begins_with_a_shortfall.edit", "old: shortfall", "old: surplus", "has 0 times"),
     Mistake("edits", "crates/explorer/must-fail/begins_with_a_shortfall.edit", "0,\nnew", "1,\nnew", "it changes nothing"),
