@@ -1,11 +1,12 @@
 """A service that is short, for each of six reasons: status, JSON, metrics, page, systemd and hooks tell the same, and that it
 is over."""
+import concurrent.futures
+import html
 import itertools
 import json
 import os
 import pathlib
 import re
-import resource
 import signal
 import socket
 import subprocess
@@ -16,12 +17,15 @@ from typing import Any
 
 from gate.addresses import answer_of, free_address, place_of
 from gate.tally import ROOT
-from gate.waiting import SECONDS, comes, until
+from gate.waiting import SECONDS, Wrong, comes, until
+from web.limit import Limit
 from web.site import BIN, BROKEN, SERVICE, Scenario, Site, text_of
 from web.systemd import Systemd
 
 EVENTS = ("on-short", "on-healed")
-HOOK = '#!/bin/sh\ncat >"$0.$1.new" && mv "$0.$1.new" "$0.$1"\n'
+PREFORK_STATE = 'prefork_state{state="%s"}'
+HOOKS_OF = {"short": "on-short", "serves": "on-healed"}
+HOOK = '#!/bin/sh\necho "$1" >>"$0.events"\ncat >"$0.$1.new" && mv "$0.$1.new" "$0.$1"\n'
 # Goes into the application: what its start needs, and does not get while a file is there.
 NEEDS = """
 if sys.argv[1:] == ["child"] and os.path.exists({there!r}):
@@ -73,29 +77,57 @@ class Views:
         for event in EVENTS:
             pathlib.Path(f"{self.hook}.{event}").unlink(missing_ok=True)
 
+    def lines(self, state: str) -> dict[str, Callable[[], str]]:
+        """What each place tells of the state: the line of all of them that have it, as it is there."""
+        def of(told: dict) -> str:
+            numbers = f"{told.get('state')}: wanted {told.get('wanted')}, runs {told.get('running')}"
+            return str(told.get("line")) if str(told.get("line")).startswith(numbers) else f"{numbers}, and {told.get('line')}"
+
+        def counted() -> str:
+            found = dict(line.rsplit(" ", 1) for line in answer_of(self.page, "/metrics").splitlines())
+            states = [name for name, value in found.items() if name.startswith("prefork_state{") and value == "1"]
+            return f"{states} wanted {found['prefork_workers_wanted']}, runs {found['prefork_workers_running']}"
+        return {
+            "status": lambda: found_in(r"^state +(.*)$", self.ctl("status")),
+            "json": lambda: of(json.loads(self.ctl("--json", "status") or "{}")),
+            "status.json": lambda: of(json.loads(answer_of(self.page, "/status.json") or "{}")),
+            "page": lambda: html.unescape(found_in(f'<p class="state {state}">(.*?)</p>', answer_of(self.page))),
+            "metrics": counted, "systemd": self.told_to_systemd, "hook": lambda: of(self.told_to_hook(HOOKS_OF[state])),
+        }
+
+    def is_told(self, place: str, line: str, state: str, running: int, why: str) -> bool:
+        """Whether a place tells this state of two workers that are wanted, and this reason."""
+        numbers = f"wanted 2, runs {running}"
+        if place == "metrics":
+            return line == f"{[PREFORK_STATE % state]} {numbers}"
+        if place == "systemd" and state != "short":
+            return line.startswith(f"{running} workers of generation ")
+        return line.startswith(f"{state}: {numbers}") and (state != "short" or why in line)
+
+    def time_of(self, place: str, state: str, running: int, why: str, began: float) -> float:
+        """After how many seconds a place tells of it. Raises Wrong."""
+        said = ""
+
+        def holds() -> bool:
+            nonlocal said
+            try:
+                said = self.lines(state)[place]()
+            except (OSError, ValueError, KeyError) as fault:
+                said = f"nobody answers: {fault}"
+            return self.is_told(place, said, state, running, why)
+        if not comes(holds):
+            raise Wrong(f"{place} tells of {state}: {said}")
+        return time.monotonic() - began
+
     def differences(self, state: str, running: int, why: str) -> list[str]:
         """Where something else is told than this state of two workers that are wanted, and this reason."""
-        status, page = json.loads(self.ctl("--json", "status") or "{}"), answer_of(self.page)
-        metrics, told = answer_of(self.page, "/metrics").splitlines(), json.loads(answer_of(self.page, "/status.json") or "{}")
-        text, hook = self.ctl("status"), self.told_to_hook("on-short" if state == "short" else "on-healed")
-        lines = {"json": status.get("line"), "status.json": told.get("line"), "hook": hook.get("line")}
-        line = f"{state}: wanted 2, runs {running}"
-        named = line if state == "short" else f"{running} workers of generation "
-        looks = {
-            "json": (status.get("state"), status.get("wanted"), status.get("running")) == (state, 2, running),
-            "status.json": (told.get("state"), told.get("wanted"), told.get("running")) == (state, 2, running),
-            "status": f"state       {line}" in text, "page": f'class="state {state}"' in page and line in page,
-            "metrics": {f'prefork_state{{state="{state}"}} 1', "prefork_workers_wanted 2", f"prefork_workers_running {running}"}
-            <= set(metrics), "systemd": self.told_to_systemd().startswith(named),
-            "hook": (hook.get("state"), hook.get("wanted"), hook.get("running")) == (state, 2, running),
-        }
-        reasons = {"json": status.get("line", ""), "status": text, "page": page, "systemd": self.told_to_systemd()}
-        reasons |= {"status.json": told.get("line", ""), "hook": str([hook.get("line"), hook.get("failing")])}
-        wrong = [name for name, is_well in looks.items() if not is_well]
-        # How often it has failed changes while they are asked one after another; all else is the same text.
-        same = {name: re.sub(r"once|\d+ times", "N times", str(line)) for name, line in lines.items()}
-        wrong += [f"their lines are {same}"] if len(set(same.values())) > 1 else []
-        return wrong + [f"{name}: not {why}" for name, said in reasons.items() if state == "short" and why not in said]
+        told = {place: line() for place, line in self.lines(state).items()}
+        wrong = [f"{place}: {line}" for place, line in told.items() if not self.is_told(place, line, state, running, why)]
+        # How often it has failed changes while they are asked one after another; all else is the same text. systemd is told
+        # the last word after it.
+        own = {place: line for place, line in told.items() if place != "metrics" and (place != "systemd" or state == "short")}
+        same = {re.sub(r"once|\d+ times", "N times", line).partition("; last word ")[0] for line in own.values()}
+        return wrong + ([f"they differ: {same}"] if len(same) > 1 else [])
 
     def queue_is(self, waiting: int, most: int, wrong: list[str]) -> bool:
         """Whether all that tells of queues has this number of connections; what does not is put into a list."""
@@ -112,26 +144,42 @@ class Views:
         wrong[:] = [name for name, is_well in looks.items() if not is_well]
         return not wrong
 
-    def agree(self, what: str, state: str, running: int, why: str = "") -> None:
-        """Waits until all tell the same, and says how long that took."""
+    def agree(self, what: str, state: str, running: int, why: str, began: float) -> None:
+        """Waits until each place tells this, and then all the same, and says after how many seconds each of them did."""
         found: list[str] = []
-        began = time.monotonic()
 
         def holds() -> bool:
             try:
                 found[:] = self.differences(state, running, why)
-            except (OSError, ValueError) as fault:
+            except (OSError, ValueError, KeyError) as fault:
                 found[:] = [f"nobody answers: {fault}"]
             return not found
+        places = list(self.lines(state))
         try:
+            with concurrent.futures.ThreadPoolExecutor(len(places)) as pool:
+                times = list(pool.map(lambda place: self.time_of(place, state, running, why, began), places))
             until(f"all tell of {what}", holds)
-            print(f"{self.site.name}: all tell of {what} after {time.monotonic() - began:.1f} s")
         except Exception:
             self.site.check(f"{what}: {found}; {self.ctl('status')}{self.told_to_systemd()}", False)
             raise
+        told = ", ".join(f"{place} {seconds:.1f}" for place, seconds in zip(places, times))
+        print(f"{self.site.name}: all tell of {what} after {max(times):.1f} s: {told}")
+
+    def check_events(self, count: int) -> None:
+        """Hooks were told this many times by turns that the service is short, and that it is not."""
+        told = text_of(pathlib.Path(f"{self.hook}.events")).splitlines()
+        kinds = [kind for kind, _ in itertools.groupby(told)]
+        # (a shortfall is told again where its workers that fail are others)
+        self.site.check(f"hooks are told {told}", kinds == list(EVENTS) * count and len(told) <= 3 * count)
 
 
-def began(site: Site) -> Views:
+def found_in(pattern: str, text: str) -> str:
+    """What a pattern finds in a text; nothing if it is missing."""
+    found = re.search(pattern, text, re.M)
+    return found[1] if found else ""
+
+
+def begun(site: Site) -> Views:
     """A service of two workers, without load, and all that tells of it."""
     views = Views(site)
     for file in ("from.toml", "to.toml", "site.toml"):
@@ -152,12 +200,15 @@ def short_from_its_start(site: Site) -> None:
     site.nothing_left()
     views = Views(site)
     site.options = [*site.options, "--keep-trying"]
+    began = time.monotonic()
     site.serve = site.started()
     try:
-        views.agree("a broken start", "short", 0, ", last: no database")
+        views.agree("a broken start", "short", 0, ", last: no database", began)
+        began = time.monotonic()
         site.install(site.app_text)
         site.check("tick does not mend", views.ctl("tick").splitlines()[-1].startswith("done "))
-        views.agree("the end of a broken start", "serves", 2)
+        views.agree("the end of a broken start", "serves", 2, "", began)
+        views.check_events(1)
         site.stop()
     finally:
         views.systemd.close()
@@ -165,10 +216,10 @@ def short_from_its_start(site: Site) -> None:
 
 def short_for_five_reasons(site: Site) -> None:
     """A worker that is killed is not replaced while its application is broken, its port is taken, it has no memory, the master
-    has no descriptor for another process, or its program is gone."""
+    may start no other process, or its program is gone."""
     there, address = str(site.room / "there"), free_address()
-    app = site.app_text
-    views = began(site)
+    app, limit = site.app_text, None
+    views = begun(site)
     try:
         until("two workers", lambda: "serves: wanted 2, runs 2" in views.ctl("status"))
         fails(site, views, "a rollback", ", last: no database", lambda: roll_back(site), lambda: site.install(app))
@@ -180,14 +231,16 @@ def short_for_five_reasons(site: Site) -> None:
             fails(site, views, "a port that is taken", "Address already in use", pathlib.Path(there).touch, pathlib.Path(there).unlink)
         site.install(needing(app, there, ALLOCATE))
         fails(site, views, "no memory", "MemoryError", pathlib.Path(there).touch, pathlib.Path(there).unlink)
-        master = site.master() or 0
-        limits = resource.prlimit(master, resource.RLIMIT_NOFILE)
-        fails(site, views, "a limit", "fork: again", lambda: resource.prlimit(master, resource.RLIMIT_NOFILE, (3, limits[1])),
-              lambda: resource.prlimit(master, resource.RLIMIT_NOFILE, limits))
+        limit = Limit(site.master() or 0)
+        print(f"{site.name}: the limit is {limit.kind}")
+        fails(site, views, f"a limit of {limit.kind}", "fork: again", limit.set, limit.lift)
         fails(site, views, "a program that is gone", "No such file or directory", (site.home / "app").unlink, lambda: site.install(app))
+        views.check_events(5)
         site.stop()
     finally:
         views.systemd.close()
+        if limit:
+            limit.remove()
     said = text_of(site.room / "said")
     lines = [line for line in said.splitlines() if line.startswith(("prefork-serve: short: ", "prefork-serve: serves: "))]
     kinds = [kind for kind, _ in itertools.groupby(line.split(": ")[1] for line in lines)]
@@ -212,12 +265,14 @@ def fails(site: Site, views: Views, what: str, why: str, spoil: Callable, mend: 
     """Kills a worker whose start fails from now on, and mends it."""
     views.forget_hooks()
     spoil()
+    began = time.monotonic()
     os.kill(min(site.workers()), signal.SIGKILL)
-    views.agree(what, "short", 1, why)
+    views.agree(what, "short", 1, why, began)
+    began = time.monotonic()
     mend()
     said = views.ctl("tick")
     site.check(f"{what}: tick does not mend: {said}", said.splitlines()[-1].startswith(("done ", "nothing")))
-    views.agree(f"the end of {what}", "serves", 2)
+    views.agree(f"the end of {what}", "serves", 2, "", began)
 
 
 def has_own_network() -> bool:
@@ -245,7 +300,7 @@ def a_crowd_waits(site: Site) -> None:
 def crowd_waits(site: Site, count: int, most: int) -> None:
     """Status, JSON, page and metrics have the number of connections that wait, and that nobody waits once workers take
     them."""
-    views = began(site)
+    views = begun(site)
     clients: list[socket.socket] = []
     try:
         until("two workers", lambda: "serves: wanted 2, runs 2" in views.ctl("status"))
