@@ -1,5 +1,7 @@
 """Programs that are told what happens."""
+import errno
 import json
+import os
 import pathlib
 import tempfile
 import unittest
@@ -61,6 +63,27 @@ class HooksTest(unittest.TestCase):
             found.tell("on-short", {})
             self.assertTrue(self.ended(found))
             self.assertIn("has ended with status 7", said.call_args[0][0])
+
+    def test_one_that_finds_no_process_left_is_started_later_and_in_its_order(self) -> None:
+        found = Hooks({event: self.program(f"echo $1 >>{self.room}/told") for event in ("on-short", "on-healed")})
+        full = OSError(errno.EAGAIN, os.strerror(errno.EAGAIN))
+        with mock.patch.object(hooks, "say") as said:
+            with mock.patch.object(hooks, "started", side_effect=full):
+                found.tell("on-short", {})
+                found.tell("on-healed", {})
+                found.tend()
+            self.assertEqual([call.args[0] for call in said.call_args_list], [f"--on-short: {self.room}/hook: {full.strerror}; it is tried again"])
+            self.assertEqual(len(found.running), 0)
+            found.tend()
+            self.assertEqual(len(found.running), 2)
+            self.assertTrue(self.ended(found))
+            self.assertEqual(sorted((self.room / "told").read_text().split()), ["on-healed", "on-short"])
+            # In the end it is given up.
+            with mock.patch.object(hooks, "started", side_effect=full):
+                found.tell("on-short", {})
+                with mock.patch.object(hooks, "time", clock_ahead(601)):
+                    found.tend()
+            self.assertEqual((said.call_args[0][0], len(found.waiting)), (f"--on-short: {self.room}/hook: {full.strerror}", 0))
 
     def test_not_more_than_some_run_at_a_time(self) -> None:
         found = Hooks({"on-done": self.program("sleep 1000")})
