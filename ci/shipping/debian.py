@@ -17,8 +17,8 @@ FILES = {
     "./usr/share/doc/prefork/fleet/roles/prefork/tasks/main.yml": "-rw-r--r--",
     "./usr/share/doc/prefork/README.md": "-rw-r--r--", "./usr/share/doc/prefork/docs/FORMATS.md": "-rw-r--r--",
     "./usr/share/doc/prefork/docs/WORKERS.md": "-rw-r--r--", "./usr/share/doc/prefork/docs/formats/json.md": "-rw-r--r--",
-    "./usr/share/zsh/vendor-completions/_prefork-ctl": "-rw-r--r--",
-    "./usr/share/fish/vendor_completions.d/prefork-ctl.fish": "-rw-r--r--",
+    **{f"./usr/share/zsh/vendor-completions/{name}": "-rw-r--r--" for name in ("_prefork", "_prefork-ctl", "_prefork-service")},
+    **{f"./usr/share/fish/vendor_completions.d/{name}.fish": "-rw-r--r--" for name in ("prefork", "prefork-ctl", "prefork-serve")},
 }
 # The texts whose links lead somewhere in the package.
 LINKED = ("guides", "examples", "units", "containers")

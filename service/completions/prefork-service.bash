@@ -58,7 +58,7 @@ _prefork_service() {
                 compopt -o default
                 return
             fi
-            options='--folder --prefork --records --records-size --metrics --page --host --answer-within --defer-accept --socket-mode --socket-group --public --on-done --on-rolled-back --on-degraded --on-short --on-healed --check --init --keep-trying --plain-log --reload-on-change --listen --workers --wsgi --preload --python --threads --timeout --request-timeout --hard-memory --keep --trusted-proxy --access-log --access-form --chdir --warm --after-load --after-fork --ready --ready-within --probe --probe-within --probe-limit --stop --finish --usr1 --env --no-listen-fds --blocking --version --help'
+            options='--folder --prefork --records --records-size --metrics --page --host --answer-within --defer-accept --socket-mode --socket-group --public --on-done --on-rolled-back --on-degraded --on-short --on-healed --check --json --init --keep-trying --plain-log --reload-on-change --listen --workers --wsgi --preload --python --threads --timeout --request-timeout --hard-memory --keep --trusted-proxy --access-log --access-form --chdir --warm --after-load --after-fork --ready --ready-within --probe --probe-within --probe-limit --stop --finish --usr1 --env --no-listen-fds --blocking --version --help'
             ;;
         prefork-ctl) options='--folder --json --ask --no-ask --after --ask-within --wait --seconds --events --forbid --require --least --records --prefork --version --help' ;;
         prefork-checkworker) options='--path --slow --one --preload --patience --version --help' ;;

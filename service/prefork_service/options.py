@@ -94,6 +94,7 @@ def parser() -> argparse.ArgumentParser:
         made.add_argument(f"--{event}", metavar="PROGRAM", help=f"start this program {moment}, with JSON on its input")
     only = "say whether CONFIG, PROGRAM and the limits of the system fit, and start nothing"
     made.add_argument("--check", action="store_true", help=only)
+    made.add_argument("--json", action="store_true", help="of --check: print what was found as JSON")
     begins = "write CONFIG (site.toml) for this command line, with comments, and start nothing"
     made.add_argument("--init", action="store_true", help=begins)
     changes = "HUP once this file, or one in this folder, has changed; it may be given again"
@@ -169,6 +170,8 @@ def arguments(words: list[str]) -> argparse.Namespace:
     given.program = words[cut + 1 :]
     if cut < len(words) and not given.program:
         made.error("no PROGRAM after --")
+    if given.json and not given.check:
+        made.error("--json is an option of --check")
     if given.init and not given.wsgi and not given.program:
         made.error("--init takes a PROGRAM or --wsgi, for which it writes CONFIG")
     if fault := fault_of_told(given) or (None if given.init else fault_of_file(given)):

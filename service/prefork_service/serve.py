@@ -28,10 +28,13 @@ newest part). `prefork-ctl certify` checks them. A second service in the same fo
 stop, and 1 if the service could not run.
 """
 import argparse
+import contextlib
 import errno
+import io
 import json
 import os
 import pathlib
+import re
 import socket
 import sys
 import tempfile
@@ -43,6 +46,7 @@ from .becoming import become_core, has_journal
 from .bounds import ADAPTER_SECONDS
 from .claiming import ClaimedFolder
 from .commands import Commands
+from .configuration import Configuration
 from .errors import take_standard
 from .folder import Folder, content_of, say
 from .keeper import DEFER, socket_options
@@ -60,6 +64,9 @@ from .sites import is_site
 from .starting import take_signals
 from .titles import set_title
 from .web import opened
+
+# What `say` puts before each text.
+SAID_BY_US = re.compile("^prefork-serve: ", re.M)
 
 
 def fitting(given: argparse.Namespace, folder: ClaimedFolder) -> tuple[SiteFile, Commands] | None:
@@ -206,15 +213,25 @@ def fault_of_sites(given: argparse.Namespace) -> str | None:
 
 def check(given: argparse.Namespace) -> int:
     """Says whether the service could be started, and starts nothing; the status."""
+    said = io.StringIO()
     with tempfile.TemporaryDirectory(prefix="prefork-check-") as room:
         folder = ClaimedFolder(f"{room}/run")
         folder.claim()
-        found = fitting(given, folder)
+        with contextlib.redirect_stderr(said) if given.json else contextlib.nullcontext():
+            found = fitting(given, folder)
         if found:
-            _, commands = found
-            commands.clear()
-            print(f"{given.config}: fits: {len(commands.current.addresses)} addresses, {commands.current.workers} workers")
+            found[1].clear()
+        print(shown_check(given, found[1].current if found else None, said.getvalue()), end="")
         return 0 if found else 1
+
+
+def shown_check(given: argparse.Namespace, found: Configuration | None, said: str) -> str:
+    """What a check has found, in words or as JSON; why not is on standard error, or in `said`."""
+    addresses, workers = (len(found.addresses), found.workers) if found else (0, 0)
+    if given.json:
+        told = [text.rstrip("\n") for text in SAID_BY_US.split(said)[1:]]
+        return json.dumps({"config": given.config, "fits": bool(found), "addresses": addresses, "workers": workers, "said": told}) + "\n"
+    return f"{given.config}: fits: {addresses} addresses, {workers} workers\n" if found else ""
 
 
 def folder_of(given: argparse.Namespace) -> ClaimedFolder:

@@ -103,6 +103,23 @@ class WholeTest(unittest.TestCase):
         self.assertEqual((found.returncode, found.stdout.partition(": ")[2]), (0, "fits: 1 addresses, 2 workers\n"), found.stderr)
         self.assertFalse(self.folder.exists())
 
+    def test_a_check_as_json(self) -> None:
+        def found(*words: str) -> tuple[int, dict[str, Any], str]:
+            command = [BIN / "prefork-serve", "--prefork", PROGRAMS / "master.py", "--check", "--json", "site.toml", *words]
+            ended = subprocess.run(command, cwd=self.room, env=self.environment, capture_output=True, text=True, timeout=SECONDS)
+            return ended.returncode, json.loads(ended.stdout), ended.stderr
+        wanted = {"config": "site.toml", "fits": True, "addresses": 1, "workers": 2, "said": []}
+        self.assertEqual(found(), (0, wanted, ""))
+        (self.room / "site.toml").write_text('listeners = ["127.0.0.1:1"]\n[service]\nprogram = ["true"]\nnice = 99\nthread = 1\n')
+        status, told, errors = found()
+        self.assertEqual((status, told["fits"], told["addresses"], errors), (1, False, 0, ""))
+        self.assertEqual([text.partition(": ")[0] for text in told["said"]], ["site.toml, line 4", "site.toml, line 5"])
+        (self.room / "site.toml").unlink()
+        self.assertEqual(found("--", "true")[:2], (1, {"config": "site.toml", "fits": False, "addresses": 0, "workers": 0, "said": ["site.toml: No such file or directory"]}))
+        command = [BIN / "prefork-serve", "--json", "site.toml", "--", "true"]
+        ended = subprocess.run(command, cwd=self.room, capture_output=True, text=True, timeout=SECONDS)
+        self.assertEqual((ended.returncode, ended.stderr.splitlines()[-1]), (2, "prefork-serve: error: --json is an option of --check"))
+
     def test_a_service_without_a_file(self) -> None:
         other = free_address()
         self.start_without_a_file("--listen", self.address, "--listen", other, "--workers", "3")
