@@ -298,7 +298,9 @@ static void look(void) {
         END_WRONG("%s answers %s with a status of 500 or more, %d times", options.command[0], options.probe, MOST_WRONG);
     } else if (now() - begun > options.ready_within) {
         note_late();
-        END_WRONG("%s is not ready after %g seconds", options.command[0], options.ready_within);
+        const char *unseen = options.ready == READY_ACCEPT ? unseen_address(&waiting, &addresses) : "";
+        END_WRONG("%s is not ready after %g seconds%s%s", options.command[0], options.ready_within,
+                  *unseen ? ": it does not accept at " : "", unseen);
     }
 }
 

@@ -237,3 +237,10 @@ bool is_waited_for(struct waiting *waiting, pid_t session) {
             return false;
     return true;
 }
+
+const char *unseen_address(const struct waiting *waiting, const struct addresses *addresses) {
+    for (int at = 0; at < waiting->count; at++)
+        if (!waiting->of[at].is_seen)
+            return addresses->of[at].text;
+    return "";
+}

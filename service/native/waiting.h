@@ -18,5 +18,7 @@ struct waiting {
 void begin_waiting(struct waiting *waiting, const struct addresses *addresses);
 /* Looks at the processes of a session once; whether each socket has been seen by now. */
 bool is_waited_for(struct waiting *waiting, pid_t session);
+/* The first address at which it was not seen to accept; the empty text if there is none. */
+const char *unseen_address(const struct waiting *waiting, const struct addresses *addresses);
 
 #endif

@@ -21,6 +21,7 @@ FIRST_SECONDS, MOST_SECONDS, JITTER = 1.0, 60.0, 0.25
 # How many tries all workers together have in a row, and how often there is another one: 48 in ten minutes.
 MOST_TRIES, EACH_SECONDS = 8.0, 15.0
 NUMBERS = re.compile(r"0x[0-9a-fA-F]+|\d+")
+MEANT = {"again": "fork: again: no process or descriptor was left (ulimit -u, ulimit -n, TasksMax=)"}
 
 
 class Budget:
@@ -152,7 +153,7 @@ class Trying:
             elif not call.is_plain and left.get(number, 1):
                 if number in left:
                     left[number] -= 1
-                tried.add(self.fail(number, reasons.get(call.name, f"{call.kind}: {call.answer}"), now))
+                tried.add(self.fail(number, reasons.get(call.name, MEANT.get(call.answer, f"{call.kind}: {call.answer}")), now))
         for kind in tried:
             self.put_off(kind, now)
 

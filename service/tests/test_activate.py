@@ -157,6 +157,15 @@ class ReadyTest(WorkerTest):
         talk = self.started(ACTIVATE, "--", PAGE, "{fd0}", addresses=(free_address(), free_address()))
         self.assertEqual(talk.hear(1.0), NO_OUTPUT)
 
+    def test_an_address_at_which_a_program_does_not_accept_is_named(self) -> None:
+        reasons, addresses = self.room / "reasons", (free_address(), free_address())
+        reasons.touch()
+        names = {"PREFORK_FOLDER": str(self.room), "PREFORK_WORKER": "1.2.0"}
+        talk = self.started(ACTIVATE, "--ready-within", "2", "--", PAGE, "{fd0}", addresses=addresses, **names)
+        self.assertEqual((talk.hear(), talk.wait()), (END, 1))
+        self.assertEqual(reasons.read_text(), f"1.2.0 {PAGE} is not ready after 2 seconds: it does not accept at {addresses[1]}\n")
+        reasons.unlink()
+
     def test_not_ready_in_time(self) -> None:
         talk = self.started(ACTIVATE, "--ready-within", "0.3", "--", "sleep", "1000", addresses=(free_address(),))
         self.assertEqual((talk.hear(), talk.wait()), (END, 1))

@@ -189,6 +189,16 @@ class TryingTest(unittest.TestCase):
         self.assertEqual(self.trying.allowed, {})
 
 
+class ReasonTest(unittest.TestCase):
+    def test_a_worker_for_which_no_process_is_left(self) -> None:
+        """A call that nobody has noted a reason for says what the system lacks."""
+        with tempfile.TemporaryDirectory() as room:
+            found = Trying(pathlib.Path(room) / "waiting")
+            block = "word tick 1\n1 m1 fork 1.1 0 : again\n2 m1 census 1.1 : counted none\ndegraded target 1 cause 1 pid no-file\n"
+            found.note(block, {}, 1.0)
+            self.assertEqual(found.why(), "worker 0 has failed once, last: fork: again: no process or descriptor was left (ulimit -u, ulimit -n, TasksMax=)")
+
+
 class LaunchTest(unittest.TestCase):
     """prefork-launch, which starts no worker that waits."""
 
