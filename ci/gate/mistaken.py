@@ -40,6 +40,8 @@ ASKED_SO = (
     ('workers = "2"\n', "check site.toml", 1, ('site.toml:1: C3 workers: a value is of the wrong kind (allowed: a whole number from 0 to 1024): workers = "2"',)),
     ("timeout = 0\n", "check --json site.toml", 1,
      ('"outcome":"refused","line":1,"code":"C4 timeout","message":"a number is out of range (allowed: a whole number from 1 to 86400): timeout = 0"',)),
+    *((f'listeners = ["{address}"]\n', "check site.toml", 1, (f"site.toml:1: C5 0 A{rule}: a listener is not an address: ", f"(allowed: {allowed}", address))
+      for address, rule, allowed in ((":8080", 2, "four numbers, as 127.0.0.1, or IPv6 in brackets, as [::1]"), ("[::1]", 3, "a whole number from 1 to 65535"))),
     *(("workers = 2000\n", f"{command} --json --from site.toml {word}", 1, FAULT)
       for command, word in (("explore", "HUP"), ("plan", "HUP"), ("enact", "HUP"), ("certify", ""))),
     *(("workers = 1024\n", f"{command} --json --from site.toml TTIN", 1, REFUSED) for command in ("explore", "plan", "enact")),
