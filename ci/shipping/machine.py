@@ -12,6 +12,8 @@ from gate.waiting import Wrong, until
 from shipping.room import Missing, Room, needs, needs_root, ran
 
 SYSTEMD = "/lib/systemd/systemd"
+# How long it may take to be up, on a busy machine.
+BOOT_SECONDS = 300.0
 # Makes the copy and the usual places in the folder that is named, and becomes systemd, which starts little.
 BOOT = r"""
 set -e
@@ -89,7 +91,7 @@ class Machine:
             streams: dict[str, Any] = {"stdin": subprocess.DEVNULL, "stdout": said, "stderr": said}
             self.holder = subprocess.Popen(["sh", "-c", enter, str(self.group), *map(str, command)], **streams)
         try:
-            until("systemd", lambda: self.holder.poll() is not None or self.is_running())
+            until("systemd", lambda: self.holder.poll() is not None or self.is_running(), BOOT_SECONDS)
         except Wrong:
             self.holder.kill()
             self.holder.wait()

@@ -3,12 +3,17 @@ import os
 import pathlib
 import shutil
 import subprocess
+import time
 from typing import Any
 
 from gate.tally import ROOT, Tally
 
-SECONDS = 400.0
+# How long a command may take: lintian takes half a minute of a processor, and a busy machine twenty times as long.
+SECONDS = 1200.0
 SERVICE = ROOT / "service"
+# The commands that were run, each with the seconds that it took.
+TOOK: list[tuple[float, str]] = []
+MOST_SHOWN = 5
 
 
 class Missing(Exception):
@@ -46,4 +51,19 @@ def needs_root() -> None:
 def ran(*command: Any, **more: Any) -> subprocess.CompletedProcess:
     """A command that has ended, and what it said."""
     streams: dict[str, Any] = {"stdin": subprocess.DEVNULL, "stdout": subprocess.PIPE, "stderr": subprocess.STDOUT}
-    return subprocess.run([str(word) for word in command], **{**streams, **more}, text=True, timeout=SECONDS)
+    words, began = [str(word) for word in command], time.monotonic()
+    try:
+        return subprocess.run(words, **{**streams, **more}, text=True, timeout=SECONDS)
+    finally:
+        TOOK.append((time.monotonic() - began, shown(words)))
+
+
+def shown(words: list[str]) -> str:
+    """A command in short: what runs in a machine of its own, by itself."""
+    words = words[words.index("--wd") + 1 :] if words[0] == "nsenter" else words
+    return " ".join([os.path.basename(words[0]), *(os.path.basename(word) for word in words[1:4])])
+
+
+def slowest() -> str:
+    """The commands that took longest."""
+    return ", ".join(f"{seconds:.1f} s {command}" for seconds, command in sorted(TOOK, reverse=True)[:MOST_SHOWN])
