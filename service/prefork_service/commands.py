@@ -42,7 +42,6 @@ class Commands:
         self.folder, self.config = folder, pathlib.Path(config)
         self.place = folder.path / "commands"
         self.place.mkdir(mode=0o700, exist_ok=True)
-        # What workers of a generation that is tried note: that one was not ready in time, and who is ready.
         self.noted = [self.place / name for name in ("late", "ready")]
         self.now, self.next = folder.path / "config.toml", folder.path / "next.toml"
         self.accepted, self.kept = folder.path / "accepted.toml", self.place / "accepted.files"
@@ -176,8 +175,8 @@ class Commands:
             self.settle_preloading(False)
 
     def begin_notes(self) -> None:
-        """While a new generation is tried, a worker that is not ready in time notes that in a file. The others of its generation
-        end at once: a master that upgrades starts several, one after another, before it goes back."""
+        """While a new generation is tried, its workers note in files who is ready, and that one was not in time. The others end at
+        once then: a master that upgrades starts several, one after another, before it goes back."""
         for file in self.noted:
             try:
                 file.write_bytes(b"")

@@ -46,14 +46,11 @@ class Whole:
         return f"{SHORT}: wanted {self.wanted}, runs {self.running}" + (f": {self.why}" if self.why else "")
 
     def as_json(self) -> dict[str, Any]:
-        return {
-            "state": self.state, "means": MEANINGS[self.state], "wanted": self.wanted, "running": self.running, "line": self.line,
-        }
+        numbers = {"wanted": self.wanted, "running": self.running}
+        return {"state": self.state, "means": MEANINGS[self.state], **numbers, "line": self.line}
 
 
-def whole_of(
-    word: str | None, is_started: bool, wanted: int, running: int, why: str, failing: tuple[int, ...] = ()
-) -> Whole:
+def whole_of(word: str | None, is_started: bool, wanted: int, running: int, why: str, failing: tuple[int, ...] = ()) -> Whole:
     """The state of a service that carries out this word, or none. `is_started` is false up to its first block."""
     if not is_started:
         return Whole(IN_CHANGE, wanted, running, "the service starts")
@@ -61,8 +58,7 @@ def whole_of(
         return Whole(IN_CHANGE, wanted, running, f"{word}")
     if not wanted:
         return Whole(STOPPED, wanted, running)
-    is_short = running < wanted
-    return Whole(SHORT, wanted, running, "", why, failing) if is_short else Whole(SERVES, wanted, running)
+    return Whole(SHORT, wanted, running, "", why, failing) if running < wanted else Whole(SERVES, wanted, running)
 
 
 class News:
@@ -78,7 +74,7 @@ class News:
         """The state, if it is to be told now, and the one that was told before. A change is told by its word."""
         key = key_of(whole)
         if key != self.seen:
-            self.seen, self.since = key, now
+            self.seen, self.since = key, self.since if self.goes_on(whole) else now
         self.is_near = False
         if whole.state == IN_CHANGE or self.told and key == key_of(self.told):
             return None
@@ -87,6 +83,11 @@ class News:
             return None
         before, self.told = self.told, whole
         return whole, before
+
+    def goes_on(self, whole: Whole) -> bool:
+        """Whether a shortfall goes on of which nobody was told yet, or not who fails."""
+        is_new = not self.told or self.told.state != SHORT or not self.told.failing and self.told.running == whole.running
+        return whole.state == SHORT and self.seen.startswith(SHORT) and is_new
 
 
 def key_of(whole: Whole) -> str:

@@ -41,8 +41,16 @@ class NewsTest(unittest.TestCase):
 
     def test_a_shortfall_is_told_again_once_it_is_known_who_fails(self) -> None:
         news = News()
-        told = [news.take(Whole(SHORT, 4, 3, "", "", failing), now) for failing, now in (((), 0), ((), 2), ((0,), 3), ((0,), 5), ((0,), 6))]
-        self.assertEqual([it[0].failing if it else None for it in told], [None, (), None, (0,), None])
+        seen = (((), 0.0), ((), 2.0), ((0,), 2.1), ((0,), 5.0), ((0, 1), 6.0), ((0, 1, 2), 6.5), ((0, 1, 2), 7.5))
+        told = [news.take(Whole(SHORT, 4, 3, "", "", failing), now) for failing, now in seen]
+        self.assertEqual([it[0].failing if it else None for it in told], [None, (), (0,), None, None, None, (0, 1, 2)])
+
+    def test_a_shortfall_lasts_from_its_begin_on(self) -> None:
+        """It is told after a second, whatever became known of it meanwhile."""
+        news = News()
+        seen = (((), 3, 0.0), ((), 3, 0.5), ((0,), 3, 0.7), ((0,), 2, 0.9), ((0,), 2, SETTLE_SECONDS))
+        told = [news.take(Whole(SHORT, 4, running, "", "", failing), now) for failing, running, now in seen]
+        self.assertEqual([(it[0].failing, it[0].running) if it else None for it in told], [None, None, None, None, ((0,), 2)])
 
     def test_a_shortfall_of_another_size(self) -> None:
         news = News()
