@@ -6,21 +6,19 @@ one life. What holds of it is read from what `prefork certify` says of each.
 import dataclasses
 import datetime
 import pathlib
-import re
 import subprocess
 import tempfile
 from typing import Any
 
 from .blocks import block_of, ends_block
 from .records import DIED, GAP, LOST, files_of, masters_in, part_number
+from .verdicts import Holds, Judgement, judged
 from .words import CHANGES, START, is_tick
 
 NOT_ACCEPTED, NOT_COMPARED = 5, 1
 BEGINNING = "its beginning is no longer there"
 # How often the records of a master are read anew, since the service removes old parts meanwhile.
 MOST_READINGS = 5
-# What `prefork certify` says of an address that was open in each table, and of missing workers that no word healed.
-OPEN, NOT_HEALED = re.compile(r"open throughout (\S+) least ready .*"), re.compile(r"short .* not healed")
 
 
 @dataclasses.dataclass
@@ -42,23 +40,13 @@ class Life:
 
 
 @dataclasses.dataclass
-class Judgement:
-    """What `prefork certify` says of a master: which block it does not accept, or 0, and why; or why it compares nothing;
-    or what holds of all blocks."""
-
-    number: int = 0
-    why: str = ""
-    holds: list[str] = dataclasses.field(default_factory=list)
-
-
-@dataclasses.dataclass
 class Certified:
     """What is said of a master, and the status; and what holds of its life, if all of its blocks are accepted."""
 
     life: Life
     text: str
     status: int
-    holds: list[str] | None = None
+    holds: Holds | None = None
 
 
 def lives_in(place: pathlib.Path) -> list[Life]:
@@ -147,7 +135,7 @@ def certified(life: Life, prefork: str) -> Certified:
         # What the model has no master's death for. The next master has a record of its own.
         told = f"{head}: {counted(found.number - 1)}, from the first on{ended_before(life, found.number)}"
         before = answered(dataclasses.replace(life, blocks=life.blocks[: found.number - 1]), prefork)
-        return Certified(life, "\n  ".join([told, *before.holds]), 0, before.holds)
+        return Certified(life, "\n  ".join([told, *lines_of(before)]), 0, before.holds)
     if found.number:
         word = life.blocks[found.number - 1].splitlines()[0]
         return Certified(life, f"{head}: block {found.number}, {word}, is not accepted: {found.why}", NOT_ACCEPTED)
@@ -155,7 +143,11 @@ def certified(life: Life, prefork: str) -> Certified:
         return Certified(life, f"{head}: nothing was compared: {found.why}", NOT_COMPARED)
     told = f"{head}: {counted(len(life.blocks))}, from the first on{dead(life)}"
     told = f"{told}; {life.lacks}" if life.lacks else told
-    return Certified(life, "\n  ".join([told, *found.holds]), 0, None if life.lacks else found.holds)
+    return Certified(life, "\n  ".join([told, *lines_of(found)]), 0, None if life.lacks else found.holds)
+
+
+def lines_of(found: Judgement) -> list[str]:
+    return found.holds.lines() if found.holds else []
 
 
 def dead(life: Life) -> str:
@@ -184,24 +176,13 @@ def answered(life: Life, prefork: str) -> Judgement:
         begin, files = pathlib.Path(room) / "from.toml", goal_files(pathlib.Path(room), goals_of(life))
         begin.write_bytes(life.begin or b"")
         goals = [argument for file in files for argument in ("--to", file)]
-        command: list[Any] = [prefork, "certify", "--bare", "--from", begin, "--life", *goals]
+        command: list[Any] = [prefork, "certify", "--json", "--bare", "--from", begin, "--life", *goals]
         text = "".join(block for _, block in chosen)
         try:
             found = subprocess.run(command, input=text, capture_output=True, text=True)
         except OSError as fault:
             return Judgement(why=f"{prefork}: {fault.strerror}")
-    said = re.match(r"prefork: certify (\d+) (.*)", found.stderr)
-    if said:
-        return Judgement(chosen[int(said[1]) - 1][0], said[2])
-    if found.returncode:
-        return Judgement(why=found.stderr.strip() or f"status {found.returncode}")
-    return Judgement(holds=held_in(found.stdout, [number for number, _ in chosen]))
-
-
-def held_in(text: str, numbers: list[int]) -> list[str]:
-    """What holds of all blocks: the lines of a life after its first, with the numbers that the blocks have in the record."""
-    lines = text.partition("life words ")[2].splitlines()[1:]
-    return [re.sub(r"\bword (\d+)", lambda found: f"block {numbers[int(found[1]) - 1]}", line) for line in lines]
+    return judged(found, [number for number, _ in chosen])
 
 
 def goal_files(room: pathlib.Path, goals: list[bytes]) -> list[pathlib.Path]:
@@ -239,12 +220,10 @@ def joined(group: list[Certified]) -> list[str]:
     """What holds of a life of several masters. Between two of them the keeper has the sockets, and the next one takes them:
     an address that is open throughout each part is open throughout the whole. Missing workers of one that has died are
     healed by a later master, of which no worker is missing."""
-    if len(group) < 2 or any(one.holds is None for one in group):
+    parts = [one.holds for one in group if one.holds]
+    if len(group) < 2 or len(parts) < len(group):
         return []
-    parts = [one.holds or [] for one in group]
-    opened = [[found[1] for line in part if (found := OPEN.fullmatch(line))] for part in parts]
-    kept = [address for address in opened[0] if all(address in others for others in opened)]
-    is_short = any(NOT_HEALED.fullmatch(line) for line in parts[-1])
+    kept = [address for address in parts[0].addresses if all(address in part.addresses for part in parts)]
     head = f"{group[0].life.name} to {group[-1].life.name} are one life, if the keeper kept the sockets"
-    ends = "it ends with missing workers" if is_short else "it ends without missing workers"
+    ends = "it ends with missing workers" if parts[-1].is_short else "it ends without missing workers"
     return [f"{head}: open throughout {', '.join(kept) or 'none'}; {ends}"]

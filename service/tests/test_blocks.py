@@ -11,7 +11,8 @@ FORMATS = SERVICE.parent / "docs" / "formats" / "blocks.md"
 PACKAGE = SERVICE / "prefork_service"
 # What a module does that looks into a text, and what only texts of a master have.
 LOOKS = re.compile(r"startswith\(|endswith\(|\bre\.\w+\(|\bin block\b|\.find\(")
-OF_MASTER = re.compile(r"m\\d|word (?:beat|tick|HUP|\.)|\"(?:tick|done|rolled-back|degraded|lost|refused|unread|asks) ?[\"A-Z]| cause |killed worker|prefork\\\]")
+OF_MASTER = re.compile(r"m\\d|word (?:beat|tick|HUP|\.)|\"(?:tick|done|rolled-back|degraded|lost|refused|unread|asks) ?[\"A-Z]| cause |killed worker|prefork\\\]|"
+                       r"life words|open throughout|least ready|not healed|prefork: certify")
 # The service says these itself: questions to those that wait, and mistakes of a program.
 OWN = {"ctl.py": 'line.startswith("asks ")'}
 
@@ -99,6 +100,7 @@ class BlocksTest(unittest.TestCase):
         for line in (
             'QUIT = re.compile(r"^\\d+ m\\d+ quit (\\S+) : ok$", re.M)', 'if report.startswith(("done", "degraded target")):',
             'if word.startswith("tick "):', 'BEAT = re.compile(r"word beat (\\d+)")', 'named = re.search(r" cause (\\d+) ", block)',
+            'OPEN = re.compile(r"open throughout (\\S+) least ready .*")', 'said = re.match(r"prefork: certify (\\d+) (.*)", errors)',
         ):
             self.assertTrue(finds(line), line)
 

@@ -1,4 +1,5 @@
 """Records that are certified: what is joined, what is compared, and what is said."""
+import json
 import pathlib
 import shutil
 import tempfile
@@ -6,19 +7,21 @@ import unittest
 from typing import Any
 from unittest import mock
 
+from kit import SERVICE
 from prefork_service import certifying
 from prefork_service.certifying import certify
+from prefork_service.verdicts import holds_of
 
 DONE = "done cause none pid no-file\n"
 START, HUP, TTIN = f"word tick 0\n{DONE}", f"word HUP\n{DONE}", f"word TTIN\n{DONE}"
 USR2, ATTENDED = f"word USR2\n{DONE}", f"word USR2 attended\n{DONE}"
 REFUSED, NOTHING = "word HUP\nrefused C1\n", "word HUP\nnothing\n"
 # In place of `prefork certify`: keeps what it is given, and refuses the block that the file `wrong` names, if there is one, or
-# says what the file `holds` has.
+# says what the file `holds` has, in JSON.
 PROGRAM = """#!/bin/sh
 here=$(dirname "$0")
 echo "$@" >"$here/arguments"
-cat "$4" >"$here/configurations"
+cat "$5" >"$here/configurations"
 for argument; do
     [ "$before" = --to ] && cat "$argument" >>"$here/configurations"
     before=$argument
@@ -26,12 +29,22 @@ done
 cat >"$here/given"
 wrong=$(sed -n 's/prefork: certify \\([0-9]*\\) .*/\\1/p' "$here/wrong" 2>/dev/null)
 if [ ! -f "$here/wrong" ] || [ "${wrong:-0}" -gt "$(grep -c '^word ' "$here/given")" ]; then
-    [ ! -f "$here/holds" ] || cat "$here/holds"
+    cat "$here/holds"
     exit 0
 fi
+sed 's/prefork: \\(.*\\)/{"outcome":"fault","code":"\\1"}/' "$here/wrong"
 cat "$here/wrong" >&2
 exit 5
 """
+
+
+def opened(address: str, workers: int | None, word: int = 0, call: int = 0) -> dict[str, Any]:
+    least = None if workers is None else {"workers": workers, "word": word, "after_call": call}
+    return {"address": address, "least_ready": least}
+
+
+def short(word: int, missing: int, healed: int | None) -> dict[str, Any]:
+    return {"word": word, "missing": missing, "healed": healed}
 
 
 class CertifyingTest(unittest.TestCase):
@@ -42,12 +55,18 @@ class CertifyingTest(unittest.TestCase):
         self.place, self.program = self.room / "records", self.room / "prefork"
         self.program.write_text(PROGRAM)
         self.program.chmod(0o755)
+        self.hold([], [])
 
     def keep(self, master: str, **files: str) -> None:
         folder = self.place / master
         folder.mkdir(parents=True)
         for name, text in files.items():
             (folder / name.replace("_", ".")).write_text(text)
+
+    def hold(self, open_ones: list[dict[str, Any]], short_ones: list[dict[str, Any]]) -> None:
+        """What the program says of the whole life."""
+        life = {"words": 3, "open": open_ones, "short": short_ones}
+        (self.room / "holds").write_text(json.dumps({"accepted": 3, "patterns": [], "life": life}))
 
     def said(self, status: int) -> list[str]:
         lines, found = certify(self.place, str(self.program))
@@ -67,10 +86,11 @@ class CertifyingTest(unittest.TestCase):
     def test_parts_are_joined_in_their_order(self) -> None:
         parts = {f"blocks_{number}": f"word TTIN {number}\n{DONE}" for number in range(2, 12)}
         self.keep("1", from_toml="a", blocks_1=START, **parts)
-        line = self.said(0)[0]
+        line, *holds = self.said(0)[0].splitlines()
         self.assertRegex(line, r"^1, since \d{4}-\d\d-\d\dT\S+: 11 blocks are accepted, from the first on$")
+        self.assertEqual(holds, ["  open throughout none", "  short none"])
         self.assertEqual(self.given(), START + "".join(parts.values()))
-        self.assertIn("certify --bare --from ", self.given("arguments"))
+        self.assertIn("certify --json --bare --from ", self.given("arguments"))
 
     def test_a_block_that_is_not_accepted_is_named_by_its_place_in_the_records(self) -> None:
         self.keep("1", from_toml="a", blocks_1=START + REFUSED + HUP)
@@ -80,8 +100,7 @@ class CertifyingTest(unittest.TestCase):
 
     def test_what_holds_of_the_whole_life_is_said_by_the_numbers_of_the_record(self) -> None:
         self.keep("1", from_toml="a", blocks_1=START + REFUSED + HUP + TTIN)
-        (self.room / "holds").write_text("next\nnext\nlife words 3\nopen throughout 0.0.0.0:80 least ready 2 at word 2 after call 9\n"
-                                         "short start missing 3 healed word 1\nshort word 2 missing 1 healed word 3\n")
+        self.hold([opened("0.0.0.0:80", 2, 2, 9)], [short(0, 3, 1), short(2, 1, 3)])
         lines = self.said(0)[0].splitlines()
         self.assertRegex(lines[0], r": 4 blocks are accepted, from the first on$")
         self.assertEqual(lines[1:], ["  open throughout 0.0.0.0:80 least ready 2 at block 3 after call 9",
@@ -95,7 +114,7 @@ class CertifyingTest(unittest.TestCase):
         lost = "word tick 9\n1 m2 census 2.2 : master-gone\nlost cause 1 pid no-file\n"
         self.keep("1", from_toml="a", blocks_1=START + REFUSED + HUP + lost, lost_4="the new master m2 has ended\n")
         (self.room / "wrong").write_text("prefork: certify 3 Y1 1\n")
-        (self.room / "holds").write_text("life words 2\nopen throughout 0.0.0.0:80 least ready 2 at word 2 after call 9\nshort none\n")
+        self.hold([opened("0.0.0.0:80", 2, 2, 9)], [])
         first, *holds = self.said(0)[0].splitlines()
         self.assertRegex(first, r": 3 blocks are accepted, from the first on; before block 4, word tick 9, the new "
                          r"master had ended\. The service saw that, and started the next master$")
@@ -109,8 +128,7 @@ class CertifyingTest(unittest.TestCase):
         self.assertIn(": 4 blocks are accepted", self.said(0)[0])
 
     def test_masters_that_died_are_one_life_with_what_came_after(self) -> None:
-        said = "life words 1\nopen throughout 0.0.0.0:80 least ready 1 at start\nopen throughout /s least ready none\n"
-        (self.room / "holds").write_text(f"{said}short start missing 2 healed word 1\n")
+        self.hold([opened("0.0.0.0:80", 1), opened("/s", None)], [short(0, 2, 1)])
         self.keep("1", from_toml="a", blocks_1=START + HUP, died_2="USR2 attended\n")
         self.keep("2", from_toml="a", blocks_1=START, died_1="tick 9\n")
         self.keep("3", from_toml="a", blocks_1=START, died_0="tick 0\n")
@@ -123,7 +141,7 @@ class CertifyingTest(unittest.TestCase):
                                      "without missing workers"])
 
     def test_a_life_of_several_masters_ends_with_a_stop_and_has_no_more_addresses_than_each_part(self) -> None:
-        (self.room / "holds").write_text("life words 1\nopen throughout none\nshort word 1 missing 1 not healed\n")
+        self.hold([], [short(1, 1, None)])
         self.keep("1", from_toml="a", blocks_1=START)
         self.keep("2", from_toml="a", blocks_1=START, died_1="\n")
         self.keep("3", from_toml="a", blocks_1=START)
@@ -174,6 +192,9 @@ class CertifyingTest(unittest.TestCase):
         self.keep("1", from_toml="a", blocks_1=START)
         (self.room / "wrong").write_text("prefork: config C1\n")
         self.assertIn("nothing was compared: prefork: config C1", self.said(1)[0])
+        for answer in ("", "next\nlife words 1\n", "[]", '{"outcome":"fault"}', '{"outcome":"fault","code":"certify 9 Y1"}'):
+            self.program.write_text(f"#!/bin/sh\ncat >/dev/null\nprintf '%s' '{answer}'\nexit 3\n")
+            self.assertIn("nothing was compared: status 3, without an answer", self.said(1)[0])
 
     def test_a_part_that_is_removed_while_it_is_read(self) -> None:
         self.keep("1", from_toml="a", blocks_1=START, blocks_2=HUP)
@@ -193,6 +214,14 @@ class CertifyingTest(unittest.TestCase):
         with mock.patch.object(certifying, "lives_in", lambda place: lives):
             self.assertIn(": 2 blocks are accepted", self.said(0)[0])
         self.assertEqual(self.given("configurations"), "aa")
+
+
+class HoldsTest(unittest.TestCase):
+    def test_the_example_of_the_formats_is_told_by_its_lines(self) -> None:
+        formats = SERVICE.parent / "docs" / "formats"
+        life = next(line for line in (formats / "json.md").read_text().splitlines() if line.startswith('{"words":'))
+        told = (formats / "lives.md").read_text().partition("```\nlife words 4\n")[2].partition("```")[0]
+        self.assertEqual(holds_of(json.loads(life), [1, 2, 3, 4]).lines(), told.replace(" word ", " block ").splitlines())
 
 
 def removing(path: pathlib.Path) -> Any:

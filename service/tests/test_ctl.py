@@ -153,8 +153,12 @@ class CtlTest(unittest.TestCase):
         master.mkdir(parents=True)
         (master / "from.toml").write_text("")
         (master / "blocks.1").write_text("word tick 0\ndone cause none pid no-file\n")
+        accepts = self.room / "accepts"
+        accepts.write_text('#!/bin/sh\necho \'{"accepted":1,"patterns":[[]],"life":{"words":1,"open":[],"short":[]}}\'\n')
+        accepts.chmod(0o755)
         for program, status, line in (
-            ("/bin/true", 0, ": 1 block is accepted, from the first on\n"),
+            (str(accepts), 0, ": 1 block is accepted, from the first on\n  open throughout none\n  short none\n"),
+            ("/bin/true", 1, ": nothing was compared: status 0, without an answer\n"),
             ("/missing", 1, ": nothing was compared: /missing: No such file or directory\n"),
         ):
             service = {"process": 7, "seconds": 9, "folder": "/x", "prefork": program, "records": str(master.parent)}
