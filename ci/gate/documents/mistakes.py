@@ -4,7 +4,7 @@ from collections.abc import Callable, Iterator
 
 from gate.documents import (
     claims, codes, commands, edits, explained, glossary, house, links, names, options, pairs, places, reading,
-    service_options, shape, versions, words,
+    service_options, service_tables, shape, versions, words,
 )
 from gate.documents.pages import Tree
 
@@ -16,6 +16,7 @@ CHECKS: dict[str, Check] = {
     "service options": service_options.faults,
     "codes": codes.faults,
     "explained": explained.faults,
+    "service tables": service_tables.faults,
     "commands": commands.faults,
     "pairs": pairs.faults,
     "glossary": glossary.faults,
@@ -62,11 +63,17 @@ MISTAKES = (
     Mistake("service options", "service/man/prefork-load.1", r"\-\-seconds", r"\-\-minutes", "--minutes is no option"),
     Mistake("service options", "service/man/prefork-checkworker.1", r".B \-\-one", "", "--one is not explained"),
     Mistake("service options", "service/completions/prefork-service.bash", "--slow --one", "--slow", "lacks --one"),
+    Mistake("service options", "service/completions/prefork-ctl.fish", "-l least", "-l fewest", "prefork-ctl has no --fewest"),
+    Mistake("service options", "service/completions/_prefork-ctl", "'--no-ask[", "'--by-hand[", "prefork-ctl lacks --no-ask"),
     Mistake("codes", "docs/FORMATS.md", "| `V1` |", "| `V2` |", "the code V1 is missing"),
     Mistake("codes", "docs/formats/plans.md", "| `H5` |", "| `H6` |", "no code H6"),
     Mistake("explained", "docs/formats/blocks.md", "`forked`, `again`", "`forked`, `eagain`", "does not know eagain"),
     Mistake("explained", "docs/formats/blocks.md", "| outcome |", "| end |", "no table begins with | outcome |"),
     Mistake("explained", "tests/explanations.txt", "The calls are a whole run", "The calls are no run", "explain prints"),
+    Mistake("service tables", service_tables.CALLS, "    /// Starts a worker with", "    Freeze(Generation, u32),\n    /// Starts a worker with", "call freeze"),
+    Mistake("service tables", service_tables.OUTCOMES, "    Lost,", "    Lost,\n    Halted,", "outcome halted is missing"),
+    Mistake("service tables", service_tables.TABLES, '"fork": "forked"', '"fork": "again"', "answer of fork is forked"),
+    Mistake("service tables", service_tables.TABLES, '"leave": "ok", ', "", "call leave is missing"),
     Mistake("commands", "README.md", "6 m1 census 1.2 : counted 0-1", "6 m1 census 1.2 : counted 0-2", "counted 0-2"),
     Mistake("commands", "docs/prefork-plan.1", r"\-\-workers 2 TTOU", r"\-\-workers two TTOU", "status 2"),
     Mistake("commands", "docs/prefork.toml.5", "workers = 2\npid", "workers = 3\npid", "workers = 3"),

@@ -1,4 +1,4 @@
-"""The options of the service's programs: the same in --help, the man page and the completion of each."""
+"""The options of the service's programs: the same in --help, the man page and the completions of each."""
 import functools
 import re
 import subprocess
@@ -12,6 +12,9 @@ from gate.documents.pages import Tree, plain_man
 # A line of a man page about an option.
 EXPLAINED = re.compile(rf'^\.BI?R? "?({OPTION.pattern})', re.M)
 COMPLETION = "service/completions/prefork-service.bash"
+# Completions for other shells, where a program has them: what names an option in a file of each.
+IN_FISH, IN_ZSH = r"^complete -c {name} (?:.* )?-l ([a-z][a-z0-9-]*)", r"^ *'(?:\*|\([^)]*\))?--([a-z][a-z0-9-]*)[=+-]*\["
+OTHERS = {"service/completions/*.fish": IN_FISH, "service/completions/_*": IN_ZSH}
 # The service starts them: nobody types their names.
 NOT_COMPLETED = {"prefork-keeper", "prefork-wsgi"}
 
@@ -31,12 +34,27 @@ def by_completion(text: str, name: str) -> frozenset[str]:
     return frozenset(found[1].split()) - COMMON if found else frozenset()
 
 
+def in_other_shells(tree: Tree, name: str) -> Iterator[tuple[str, frozenset[str]]]:
+    """The completions of a program for fish and zsh, each with the options that it has."""
+    for pattern, found in OTHERS.items():
+        for path in sorted(str(file.relative_to(tree.root)) for file in tree.root.glob(pattern)):
+            text = tree.text(path)
+            if re.search(rf"^complete -c {name} |^#compdef (?:.* )?{name}(?: |$)", text, re.M):
+                listed = re.findall(found.format(name=name) if "{name}" in found else found, text, re.M)
+                yield path, frozenset(f"--{option}" for option in listed) - COMMON
+
+
+def completions_of(tree: Tree, name: str) -> Iterator[tuple[str, frozenset[str]]]:
+    """The completions of a program, each with the options that it has."""
+    yield COMPLETION, by_completion(tree.text(COMPLETION), name)
+    yield from in_other_shells(tree, name)
+
+
 def faults(tree: Tree) -> Iterator[str]:
-    """Options that --help, the man page and the completion of a program do not share."""
+    """Options that --help, the man page and the completions of a program do not share."""
     programs = {path.name: by_help(str(path)) for path in sorted(tree.root.glob("service/bin/*"))}
     # A page may have those of the programs that its program starts.
     known = {"--help"}.union(*programs.values(), *by_help_of_master(tree.program).values())
-    completion = tree.text(COMPLETION)
     for name, options in programs.items():
         page = f"service/man/{name}.1"
         text = plain_man(tree.text(page))
@@ -45,7 +63,6 @@ def faults(tree: Tree) -> Iterator[str]:
             yield f"service/bin/{name} --help lists no option"
         yield from (f"{page}: {option} is not explained" for option in sorted(options - explained))
         yield from (f"{page}: {option} is no option" for option in sorted(said - known))
-        if name not in NOT_COMPLETED:
-            completed = by_completion(completion, name)
-            yield from (f"{COMPLETION}: {name} lacks {option}" for option in sorted(options - completed))
-            yield from (f"{COMPLETION}: {name} has no {option}" for option in sorted(completed - options))
+        for path, completed in completions_of(tree, name) if name not in NOT_COMPLETED else ():
+            yield from (f"{path}: {name} lacks {option}" for option in sorted(options - completed))
+            yield from (f"{path}: {name} has no {option}" for option in sorted(completed - options))
