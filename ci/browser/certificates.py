@@ -1,4 +1,5 @@
 """`certify` in the page: records of masters, and what the page says of them beside what the program says."""
+import functools
 import importlib.machinery
 import importlib.util
 import pathlib
@@ -7,7 +8,7 @@ import re
 import subprocess
 import sys
 import tempfile
-from collections.abc import Iterator
+from collections.abc import Collection, Iterator
 from typing import Any, NamedTuple
 
 from browser.chromium import Page
@@ -19,6 +20,7 @@ from web.site import BROKEN, Site
 sys.path.insert(0, str(ROOT / "service"))
 
 from prefork_service import certifying
+from prefork_service.records import masters_in
 
 # The page lists this number of blocks.
 MOST_BLOCKS = 200
@@ -49,6 +51,11 @@ def soaked(program: str, seed: int, words: int, folder: pathlib.Path) -> tuple[R
     return Record(text[0], text[1], (text[2],)), wrong
 
 
+def has_others(site: Site, old: Collection[int], count: int) -> bool:
+    """Whether this number of workers runs, and others than those."""
+    return len(site.workers()) == count and site.workers() != old
+
+
 def served(program: str, room: pathlib.Path, dice: random.Random) -> tuple[list[pathlib.Path], list[str]]:
     """The records of a real service, by master, that went over to several configurations; and what went wrong there."""
     room.mkdir()
@@ -59,17 +66,17 @@ def served(program: str, room: pathlib.Path, dice: random.Random) -> tuple[list[
         site.wants(dice.choice(("HUP", "USR2")), 0, "done", number)
         old = site.workers()
         site.kill(dice.choice(sorted(old)))
-        until("another worker", lambda old=old, number=number: len(site.workers()) == number and site.workers() != old)
+        until("another worker", functools.partial(has_others, site, old, number))
     site.install(BROKEN)
     site.sent("HUP").communicate(timeout=SECONDS)
     site.config.write_text("listeners = [\n")
     site.sent("HUP").communicate(timeout=SECONDS)
     site.end_load()
     site.stop()
-    return certifying.masters_in(site.run / "records"), site.tally.wrong
+    return masters_in(site.run / "records"), site.tally.wrong
 
 
-def certified(program: str, record: Record) -> subprocess.CompletedProcess:
+def certified(program: str, record: Record) -> subprocess.CompletedProcess[str]:
     """What the program says of a record."""
     with tempfile.TemporaryDirectory(prefix="page-record-") as folder:
         words = [program, "certify", "--bare", "--from", "from.toml"]
@@ -108,7 +115,7 @@ def certificate_faults(page: Page, program: str, record: Record) -> Iterator[str
         yield from drawn_faults(page, record.blocks)
 
 
-def answer_faults(page: Page, told: subprocess.CompletedProcess, blocks: str) -> Iterator[str]:
+def answer_faults(page: Page, told: subprocess.CompletedProcess[str], blocks: str) -> Iterator[str]:
     """What the page says once it certifies, beside what the program says."""
     click(page, "#certify")
     page.becomes("document.querySelector('#certified h3')")

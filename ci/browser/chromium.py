@@ -132,9 +132,9 @@ class Page:
 
         def page() -> str:
             with urllib.request.urlopen(place, timeout=SECONDS) as answer:
-                return next((it["webSocketDebuggerUrl"] for it in json.load(answer) if it["type"] == "page"), "")
+                return next((str(it["webSocketDebuggerUrl"]) for it in json.load(answer) if it["type"] == "page"), "")
 
-        return wait_for("the browser has no page", page)
+        return str(wait_for("the browser has no page", page))
 
     def send(self, method: str, **parameters: Any) -> Any:
         """Tells the browser something, and gives its answer."""

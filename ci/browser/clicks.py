@@ -69,7 +69,7 @@ def click(page: Page, selector: str, number: int = 0) -> None:
 
 
 def count(page: Page, selector: str) -> int:
-    return page.value(f"document.querySelectorAll({selector!r}).length")
+    return int(page.value(f"document.querySelectorAll({selector!r}).length"))
 
 
 def choose(page: Page, dice: random.Random) -> None:
@@ -112,7 +112,7 @@ def blocks_of(output: str) -> list[str]:
     return re.split(r"(?m)^(?=word )", output)[1:]
 
 
-def printed(program: str, seen: dict[str, Any]) -> subprocess.CompletedProcess:
+def printed(program: str, seen: dict[str, Any]) -> subprocess.CompletedProcess[str]:
     """What the program prints for the command line that is seen."""
     with tempfile.TemporaryDirectory(prefix="page-clicks-") as folder:
         room = pathlib.Path(folder)

@@ -3,11 +3,15 @@ import json
 import pathlib
 import random
 import subprocess
+import sys
 from collections.abc import Iterator
 from typing import Any
 
-from browser.certificates import certifying
 from gate.tally import ROOT
+
+sys.path.insert(0, str(ROOT / "service"))
+
+from prefork_service import certifying
 
 WORDS = ("HUP", "HUP", "USR2", "USR2 attended", "TTIN", "TTOU", "tick 3", "beat 0 4")
 REPORTS = (

@@ -71,7 +71,7 @@ def run_side_by_side(room: pathlib.Path) -> Iterator[str]:
     for processors, wanted in ((1, 1), (2, 2), (4, 2), (8, 3)):
         # The first of both lanes, which a busy machine may otherwise begin one after the other.
         beside = {"adapters": waiting_for("cases"), "cases": waiting_for("adapters")} if wanted > 1 else {}
-        scripts = laid_out(room, processors, **beside)
+        scripts = laid_out(room, processors, Crowded, **beside)
         with scripts:
             scripts.begin()
             scripts.run()

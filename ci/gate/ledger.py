@@ -6,6 +6,7 @@ edit of the crate was refused, but for those that the line names after the word 
 import hashlib
 import os
 import pathlib
+from collections.abc import Iterable
 
 from gate import kit
 
@@ -15,7 +16,7 @@ HEAD = """\
 """
 
 
-def key(built, edits):
+def key(built: kit.Built, edits: str) -> str:
     """A sum of the toolchain, of how edits are judged, of the crate and its edits, and of what the libraries below it
     state."""
     total = hashlib.sha256(kit.identity() + repr(built.of_kit()).encode())
@@ -31,15 +32,15 @@ def key(built, edits):
     return total.hexdigest()[:32]
 
 
-def files_below(folder):
+def files_below(folder: str) -> list[pathlib.Path]:
     return sorted(pathlib.Path(at) / name for at, _, names in os.walk(folder) for name in names)
 
 
 class Ledger:
     """The lines of the file, by crate."""
 
-    def __init__(self, path):
-        self.path, self.keys, self.left = pathlib.Path(path), {}, {}
+    def __init__(self, path: str | pathlib.Path) -> None:
+        self.path, self.keys, self.left = pathlib.Path(path), dict[str, str](), dict[str, set[str]]()
         text = self.path.read_text() if self.path.exists() else ""
         for line in text.splitlines():
             words = line.partition("#")[0].split()
@@ -47,20 +48,20 @@ class Ledger:
                 self.keys[words[0]] = words[1]
                 self.left[words[0]] = set(words[3:])
 
-    def fits(self, name, key):
+    def fits(self, name: str, key: str | None) -> bool:
         return self.keys.get(name) == key
 
-    def note(self, name, key, left):
+    def note(self, name: str, key: str, left: Iterable[str]) -> None:
         """Says that at this key all edits of the crate were refused but those left."""
         self.keys[name], self.left[name] = key, set(left)
 
-    def drop(self, names):
+    def drop(self, names: Iterable[str]) -> None:
         """Forgets crates that have no edits any more, or of which one was not refused."""
         for name in names:
             self.keys.pop(name, None)
             self.left.pop(name, None)
 
-    def write(self):
+    def write(self) -> None:
         rows = []
         for name, key in sorted(self.keys.items()):
             left = sorted(self.left[name])

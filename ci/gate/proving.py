@@ -7,6 +7,8 @@ import functools
 import os
 import pathlib
 import sys
+from collections.abc import Callable
+from typing import Any
 
 sys.dont_write_bytecode = True
 sys.path.insert(0, str(pathlib.Path(__file__).resolve().parent.parent))
@@ -25,11 +27,16 @@ ALLOCATOR = {"MIMALLOC_PURGE_DELAY": "-1"}
 # part of the longest one's lines.
 MANY, NEAR = 4, 0.85
 
+# What `rt ci` carries out, by the crate and what is done of it: what it waits for, how many lines it has, and more.
+Key = tuple[str, str]
+Task = tuple[Any, ...]
+Tasks = dict[Key, Task]
 
-def listed_once(below):
+
+def listed_once(below: Callable[[Any], list[Any]]) -> Callable[[Any], list[Any]]:
     """The libraries below a crate: the toolchain goes along each way down to each of them, whenever it asks."""
 
-    def below_once(crate):
+    def below_once(crate: Any) -> list[Any]:
         # (a crate asks only once it has read what it uses)
         if not hasattr(crate, "all_below"):
             crate.all_below = below(crate)
@@ -38,15 +45,15 @@ def listed_once(below):
     return below_once
 
 
-def as_measured(need):
+def as_measured(need: Callable[..., float]) -> Callable[..., float]:
     """The memory that a check is likely to take. While it was planned as larger, large checks waited for room that they
     did not take, and smaller ones that nothing waits for went before them."""
     return lambda *given: TAKEN * need(*given)
 
 
-def chains(tasks, last):
+def chains(tasks: Tasks, last: Key) -> dict[Key, int]:
     """For each proof, the lines of the longest chain of proofs that leads through it to the last one."""
-    before, above = {}, {last: 0}
+    before, above = dict[Key, int](), {last: 0}
     # (a task comes after those that it waits for)
     for key, (waits, lines, *_) in tasks.items():
         before[key] = lines + max((before[it] for it in waits), default=0)
@@ -57,18 +64,18 @@ def chains(tasks, last):
     return {key: before[key] + above[key] for key in above}
 
 
-def with_jobs(task, least):
+def with_jobs(task: Task, least: int) -> Task:
     """A task whose proof gets this number of jobs at least."""
     *rest, prove = task
     return (*rest, lambda given, jobs: prove(given, max(jobs, least)))
 
 
-def with_first(name, in_lanes):
+def with_first(name: str, in_lanes: Callable[[Tasks], Any]) -> Callable[[Tasks], Any]:
     """Tasks in lanes, of which the proof of a crate and all that it waits for come first: the scripts wait for it. It
     gets a job for each processor: with one, and tests beside it, it took nine minutes. Where there are many processors,
     a crate of the longest chains below it gets two: with one, the program was proved at minute 41 of 47."""
 
-    def lanes(tasks):
+    def lanes(tasks: Tasks) -> Any:
         first, found = (name, "proof"), kit.processors()
         if first in tasks:
             through = chains(tasks, first) if found >= MANY else {}
@@ -87,11 +94,12 @@ def main() -> int:
     for name, value in ALLOCATOR.items():
         os.environ.setdefault(name, value)
     rt.rtlib.Crate.below = listed_once(rt.rtlib.Crate.below)
-    for name, changed in (("need", as_measured), ("in_lanes", functools.partial(with_first, PROGRAM.name))):
+    changes: dict[str, Callable[[Any], Any]] = {"need": as_measured, "in_lanes": functools.partial(with_first, PROGRAM.name)}
+    for name, changed in changes.items():
         # (another kit may have no such function)
         if hasattr(rt, name):
             setattr(rt, name, changed(getattr(rt, name)))
-    return rt.main(["ci", *sys.argv[1:]])
+    return int(rt.main(["ci", *sys.argv[1:]]))
 
 
 if __name__ == "__main__":

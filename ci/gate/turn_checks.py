@@ -64,7 +64,7 @@ def is_stopped(times: Times) -> Iterator[str]:
     turns, times.spare = times.turns, 1.0
     threading.Thread(target=turns.watch, daemon=True).start()
     turns.begin()
-    with subprocess.Popen([*kit.rt.rtlib.guarded(), "sh", "-c", "sleep 36000 & wait"]) as check:
+    with subprocess.Popen([*kit.rt.rtlib.guarded(), "sh", "-c", "sleep 36000 & wait"]):
         for what, spare, waiting, wanted in (("begins", 1.0, 0.0, {"S"}), ("waits", 0.0, 2.0, {"T"}),
                                              ("goes on", 1.0, 0.0, {"S"}), ("waits again", 0.0, 2.0, {"T"})):
             times.spare, times.waiting = spare, waiting

@@ -11,6 +11,7 @@ import tempfile
 import time
 import zlib
 from collections.abc import Callable, Iterable, Iterator
+from typing import Any
 
 from gate.tally import Tally
 from gate.waiting import Wrong, until
@@ -284,7 +285,7 @@ class Batch:
         faults += target.left()
         self.tally.check([f"after {self.cases[0]} and more: {fault}" for fault in faults])
 
-    def note_lost(self, failure: dict) -> None:
+    def note_lost(self, failure: dict[str, Any]) -> None:
         """The case in whose time a request was lost."""
         for row in self.rows:
             if row.began - 0.5 <= failure["began"] <= row.ended:

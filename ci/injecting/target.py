@@ -93,7 +93,7 @@ class Said:
     def report(self) -> str:
         """The first word of the report; a status has none. An asker may be dropped, and is not left without an answer."""
         found = REPORT.findall(self.text)
-        return found[-1].replace("{", "told") if found else UNANSWERED if "timed out" in self.text else DROPPED
+        return str(found[-1]).replace("{", "told") if found else UNANSWERED if "timed out" in self.text else DROPPED
 
     def __str__(self) -> str:
         return f"{self.word} {self.report()}"
@@ -135,9 +135,9 @@ class Target:
     def process_of(self, role: str) -> int | None:
         """The process of a role that runs now."""
         if role == "serve":
-            return self.serve.pid
+            return int(self.serve.pid)
         if role == "wsgi":
-            workers = self.status().get("workers") or [{}]
+            workers: list[dict[str, Any]] = self.status().get("workers") or [{}]
             return workers[0].get("process")
         for number, words in self.mark.processes().items():
             is_master = role == "master" and "supervise" in words[:3] and words[-1:] != ["--help"]
@@ -147,7 +147,7 @@ class Target:
 
     def status(self) -> dict[str, Any]:
         try:
-            return json.loads(self.told("status").text.splitlines()[0])
+            return dict(json.loads(self.told("status").text.splitlines()[0]))
         except (ValueError, IndexError):
             return {}
 
@@ -178,7 +178,7 @@ class Target:
         """What the load says."""
         time.sleep(0.3)
         self.load.send_signal(signal.SIGTERM)
-        found = json.loads(self.load.communicate(timeout=2 * SECONDS)[0])
+        found: dict[str, Any] = json.loads(self.load.communicate(timeout=2 * SECONDS)[0])
         self.load = None
         return found
 

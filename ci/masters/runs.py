@@ -55,7 +55,7 @@ class Program:
         """A run with one refusal to the master, and whether that was met."""
         return self.refuser.refused(refuse, lambda more, kept: self.run(arguments, given, folder, more, kept))
 
-    def certified(self, options: list, output: bytes, folder: str | pathlib.Path) -> subprocess.CompletedProcess:
+    def certified(self, options: list[Any], output: bytes, folder: str | pathlib.Path) -> subprocess.CompletedProcess[bytes]:
         """What `certify` says of blocks of a master that started bare."""
         command = [self.path, "certify", "--bare", *options]
         return subprocess.run(command, input=output, cwd=folder, capture_output=True, timeout=SECONDS)

@@ -194,7 +194,7 @@ case $1 in
 esac
 """
 # Who says nothing, the pattern of the upgrade, and whom the old master logs as killed: a new master logs nothing.
-SILENT_UPGRADES = [
+SILENT_UPGRADES: list[tuple[str, str, list[str]]] = [
     ("adopt", "2 exit m2", ["master 2: not ready within 6 s"]),
     ("go", f"{TURNS}5 exit w2.2.0", []),
 ]

@@ -35,7 +35,8 @@ class HttpLoad:
 
     def end(self, seconds: float) -> dict[str, Any]:
         self.process.send_signal(signal.SIGTERM)
-        return json.loads(self.process.communicate(timeout=seconds)[0])
+        found: dict[str, Any] = json.loads(self.process.communicate(timeout=seconds)[0])
+        return found
 
     def close(self) -> None:
         self.process.kill()

@@ -8,6 +8,7 @@ import time
 from collections.abc import Callable
 from typing import Any
 
+import kit
 import setups
 from gate.addresses import free_address, ipv6_beside
 from gate.waiting import comes, until
@@ -202,7 +203,7 @@ class Hanging(Run):
 
     def programs(self) -> set[int]:
         running = self.mark.processes().items()
-        return {number for number, words in running if words[:1] == [setups.PYTHON] and words[-1].endswith("/page.py")}
+        return {number for number, words in running if words[:1] == [kit.PYTHON] and words[-1].endswith("/page.py")}
 
     def is_replaced(self, when: str) -> None:
         before = self.programs()
@@ -216,5 +217,5 @@ class Hanging(Run):
 
 HANGING = setups.Setup(
     "a program that hangs", ["--ready", "probe", "/", "--probe-within", "1", "--probe-limit", "20"],
-    f"{setups.PYTHON} @SITE@/page.py", {}, "page.py",
+    f"{kit.PYTHON} @SITE@/page.py", {}, "page.py",
 )

@@ -83,7 +83,7 @@ class Run:
         self.mark, self.address, self.version = Mark("ADAPTERS_OF"), free_address(), 0
         # The symbolic link to the release that is to run, the release that runs, and how many there were.
         self.site, self.runs, self.releases = room / "site", room, 0
-        self.folder, self.tally, self.addresses = room / "run", Tally(), (self.address,)
+        self.folder, self.tally, self.addresses = room / "run", Tally(), tuple([self.address])
         # Processes, once they are started.
         self.serve: Any = None
         self.load: Load | None = None
@@ -129,7 +129,7 @@ class Run:
         given = [*self.options(), *self.setup.arguments(self.site, ".")]
         if not self.is_wrong_adapter:
             return given if "--chdir" in given else ["--chdir", str(self.site), *given]
-        between = [setups.PYTHON, str(setups.PROGRAMS / "wrong_adapter.py"), self.is_wrong_adapter]
+        between = [kit.PYTHON, str(kit.PROGRAMS / "wrong_adapter.py"), self.is_wrong_adapter]
         command = [*between, *(worker_command(options_of(given)) or [])]
         quoted = " ".join("'" + word.replace("'", "'\\''") + "'" for word in command)
         setups.put(self.room / "worker", f"#!/bin/sh\nexec {quoted}\n")

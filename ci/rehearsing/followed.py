@@ -1,5 +1,8 @@
 """What a change is, and its run followed call by call: which processes there are, what failed and what was lost."""
 import collections
+import re
+from collections.abc import Generator, Iterator, Sequence
+from typing import Any, NamedTuple
 
 PID_FILE = "/run/a.pid"
 OLD_FILE = PID_FILE + ".oldbin"
@@ -33,51 +36,76 @@ PLAIN = collections.defaultdict(
         "census": "counted",
     },
 )
-# A group's addresses and how many workers it has; what a service consists of before and after a change.
-Group = collections.namedtuple("Group", "addresses workers")
-Event = collections.namedtuple("Event", "place what")
-# A change under turns, and how many events its runs have at most; only those while both masters act, or all.
-Task = collections.namedtuple("Task", "change turns most beside")
+# A worker: its generation and its number.
+Worker = tuple[str, str]
+# What a master does on its own: each call with what it names, for which it is sent the answer, or what was counted.
+Part = Generator[tuple[str, str], Any, None]
 
 
-class Change(collections.namedtuple("Change", "word old new retries")):
+class Group(NamedTuple):
+    """Addresses, and how many workers serve them."""
+
+    addresses: tuple[str, ...]
+    workers: int
+
+
+class Event(NamedTuple):
+    """What happens at a call: an exit just before it, or its failure."""
+
+    place: int
+    what: str
+
+
+class Change(NamedTuple):
     """A word that takes a service from its old groups to the new ones."""
 
-    __slots__ = ()
+    word: str
+    old: tuple[Group, ...]
+    new: tuple[Group, ...]
+    retries: int
 
-    def generation(self):
+    def generation(self) -> str:
         """The generation of the new workers."""
         return "2.2" if self.word in UPGRADES else "1.2"
 
-    def addresses_of(self, worker):
+    def addresses_of(self, worker: Worker) -> tuple[str, ...]:
         """Where a worker listens."""
         generation, number = worker
         return group_of(self.old if generation == "1.1" else self.new, int(number)).addresses
 
-    def addresses(self):
+    def addresses(self) -> Iterator[list[str]]:
         """Where the old service listens, and where the new one does."""
         for groups in (self.old, self.new):
             yield [address for group in groups for address in group.addresses]
 
-    def workers(self):
+    def workers(self) -> Iterator[int]:
         """How many workers the old service has, and how many the new one is to have."""
         for groups in (self.old, self.new):
             yield sum(group.workers for group in groups)
 
-    def floors(self):
+    def floors(self) -> Iterator[tuple[str, int]]:
         """Each address of both services, with the workers that it has or is to have, whichever are fewer."""
         old, new = (service("", groups, [0] * len(groups)) for groups in (self.old, self.new))
         for address in old.keys() & new.keys():
             yield address, min(old[address].get("", 0), new[address].get("", 0))
 
 
-def service(generation, groups, shortfalls):
+class Task(NamedTuple):
+    """A change under turns, and how many events its runs have at most; only those while both masters act, or all."""
+
+    change: Change
+    turns: str
+    most: int
+    beside: bool
+
+
+def service(generation: str, groups: Sequence[Group], shortfalls: Sequence[int]) -> dict[str, dict[str, int]]:
     """How many workers serve each address of each group."""
     counts = [(group.addresses, group.workers - short) for group, short in zip(groups, shortfalls)]
     return {address: {generation: count} if count else {} for addresses, count in counts for address in addresses}
 
 
-def group_of(groups, number):
+def group_of(groups: Sequence[Group], number: int) -> Group:
     """The group of a worker number; one that no group takes is the last one's."""
     for group in groups:
         if number < group.workers:
@@ -86,7 +114,7 @@ def group_of(groups, number):
     return groups[-1]
 
 
-def starting(change):
+def starting(change: Change) -> Part:
     """What the new master does on its own, each call with what it names; each is sent its answer."""
     before, after = change.addresses()
     _, workers = change.workers()
@@ -99,7 +127,7 @@ def starting(change):
             return
 
 
-def mending(change):
+def mending(change: Change) -> Part:
     """What the old master does meanwhile: it counts its workers, and starts what it lacks."""
     workers, _ = change.workers()
     for left in range(change.retries, -1, -1):
@@ -112,7 +140,7 @@ def mending(change):
             yield "kill", worker
 
 
-def numbers_in(text):
+def numbers_in(text: str) -> set[int]:
     """The numbers of a set."""
     runs = [run.split("-") for run in text.split(",") if run != "none"]
     return {number for run in runs for number in range(int(run[0]), int(run[-1]) + 1)}
@@ -121,18 +149,18 @@ def numbers_in(text):
 class Beside:
     """The calls of a run that come while both masters act, held against what each does on its own, and the turns."""
 
-    def __init__(self, change, turns):
+    def __init__(self, change: Change, turns: str) -> None:
         self.parts = {"2": starting(change), "1": mending(change)}
         self.due = {image: next(part) for image, part in self.parts.items()}
         self.turns = list(turns)
 
-    def next_image(self):
-        """Whose call is next; none once both parts have ended."""
+    def next_image(self) -> str:
+        """Whose call is next. Both parts have not ended."""
         if len(self.due) < 2:
-            return next(iter(self.due), None)
+            return next(iter(self.due))
         return "1" if self.turns and self.turns.pop(0) == "o" else "2"
 
-    def wrong(self, entry):
+    def wrong(self, entry: re.Match[str]) -> str | None:
         """What is wrong with the next call, if anything is."""
         image = self.next_image()
         verb, about = self.due[image]
@@ -148,27 +176,27 @@ class Beside:
 class Followed:
     """Which processes there are before each call of a run, what failed, what went back and what was lost."""
 
-    def __init__(self, workers):
+    def __init__(self, workers: int) -> None:
         self.active = {("1.1", str(number)) for number in range(workers)}
         self.ready = set(self.active)
-        self.draining = []
+        self.draining: list[Worker] = []
         self.heir = False
         self.has_left = False
-        self.failures = []
-        self.returns = []
+        self.failures: list[int] = []
+        self.returns: list[int] = []
         # How many failures there were before the second question was answered 'back'.
-        self.before_return = None
+        self.before_return: int | None = None
         self.losses = 0
 
-    def excused(self):
+    def excused(self) -> int:
         """The failures after a 'back' to the second question."""
         return 0 if self.before_return is None else len(self.failures) - self.before_return
 
-    def exit(self, name):
+    def exit(self, name: str) -> None:
         self.end(name)
         self.ready &= self.active
 
-    def end(self, name):
+    def end(self, name: str) -> None:
         if name == "m2":
             gone = {worker for worker in self.active if worker[0].startswith("2.")}
             self.losses += len(gone)
@@ -183,7 +211,7 @@ class Followed:
         elif name[0] == "d" and worker in self.draining:
             self.draining.remove(worker)
 
-    def call(self, number, verb, about, answer):
+    def call(self, number: int, verb: str, about: list[str], answer: str) -> None:
         if answer == "back":
             self.returns.append(number)
             self.before_return = len(self.failures) if about == ["2"] else self.before_return
@@ -191,10 +219,10 @@ class Followed:
             self.failures.append(number)
         if answer != "master-gone":
             # (a fork may name descriptors after its worker)
-            self.change(verb, tuple(about[:2]) if len(about) > 1 else None, answer)
+            self.change(verb, (about[0], about[1]) if len(about) > 1 else ("", ""), answer)
             self.ready &= self.active
 
-    def change(self, verb, worker, answer):
+    def change(self, verb: str, worker: Worker, answer: str) -> None:
         if verb == "await-ready" and answer == "ready":
             self.ready.add(worker)
         elif verb == "fork" and answer == "forked":
@@ -215,7 +243,7 @@ class Followed:
         elif verb == "leave":
             self.has_left = True
 
-    def exits(self):
+    def exits(self) -> list[str]:
         """The exits that change something now."""
         names = [f"w{generation}.{number}" for generation, number in sorted(self.active)]
         names += [f"d{generation}.{number}" for generation, number in sorted(set(self.draining))]

@@ -1,7 +1,9 @@
 """A run of the program under a pattern and turns, and what is wrong with its report."""
 import re
+from collections.abc import Iterator
 
-from rehearsing.followed import FAILURES, OLD_FILE, PID_FILE, UPGRADES, Beside, Event, Followed, group_of, service
+from gate.refusing import Repeats
+from rehearsing.followed import FAILURES, OLD_FILE, PID_FILE, UPGRADES, Beside, Change, Event, Followed, Group, group_of, service
 
 ENTRY = re.compile(r"(\d+) m(\d+) (\S+)((?: \S+)*) : (\S+)(?: (\S+))?")
 REPORT = re.compile(
@@ -14,7 +16,7 @@ WORKER = re.compile(r"process \d+ parent \d+ w(\d+\.\d+)\.(\d+) ready fds (\S+)"
 class Run:
     """A run under a pattern and turns, followed call by call."""
 
-    def __init__(self, repeats, change, pattern, turns=""):
+    def __init__(self, repeats: Repeats, change: Change, pattern: tuple[Event, ...], turns: str = "") -> None:
         self.change, self.pattern, self.turns = change, pattern, turns
         given = f"turns {turns}\n" if turns else ""
         given += "".join(f"{event.place} {event.what}\n" for event in pattern)
@@ -25,10 +27,10 @@ class Run:
         self.entries = [found for line in lines if (found := ENTRY.fullmatch(line))]
         self.reports = [found for line in lines if (found := REPORT.fullmatch(line))]
         self.followed = Followed(sum(group.workers for group in change.old))
-        self.floors, self.low = dict(change.floors()), []
+        self.floors, self.low = dict(change.floors()), list[str]()
         self.next_events = list(self.follow())
 
-    def follow(self):
+    def follow(self) -> Iterator[Event]:
         """Each event that can matter at a call of this run, from that of the pattern's last event on."""
         last = self.pattern[-1] if self.pattern else Event(1, "")
         for entry in self.entries:
@@ -51,7 +53,7 @@ class Run:
             self.followed.call(number, verb, about, entry[5])
             self.look(number)
 
-    def beside(self):
+    def beside(self) -> tuple[str | None, int]:
         """What is wrong with the calls that come while both masters act, and the number of the last of them."""
         spawned = next((entry for entry in self.entries if entry[3] == "spawn-master"), None)
         if spawned is None or spawned[5] != "spawned":
@@ -64,7 +66,7 @@ class Run:
                 return None, int(entry[1])
         return "the run ends before both parts do", 0
 
-    def look(self, number):
+    def look(self, number: int) -> None:
         """Notes where too few workers are ready at an address of both services."""
         excused = self.followed.losses + self.followed.excused()
         for address, floor in self.floors.items():
@@ -72,7 +74,7 @@ class Run:
             if ready + excused < floor:
                 self.low.append(f"{ready} ready at {address} at call {number}, and not {floor} less {excused}")
 
-    def faults(self):
+    def faults(self) -> Iterator[str]:
         """What is wrong with this run."""
         if self.errors or len(self.reports) != 1:
             yield f"no report: {self.errors}"
@@ -99,13 +101,13 @@ class Run:
         yield from self.low
         yield from self.files(side, report[3])
 
-    def side(self, side):
+    def side(self, side: str) -> tuple[str, tuple[Group, ...]]:
         """The generation and the groups of a side."""
         if side == "old":
             return "1.1", self.change.old
         return self.change.generation(), self.change.new
 
-    def shares(self, groups):
+    def shares(self, groups: tuple[Group, ...]) -> Iterator[str]:
         """Which ready workers hold other addresses than those of their groups."""
         for line in self.text.splitlines():
             found = WORKER.fullmatch(line)
@@ -114,8 +116,8 @@ class Run:
                 if held != set(group_of(groups, int(found[2])).addresses):
                     yield f"worker {found[1]}.{found[2]} holds {sorted(held)}"
 
-    def served(self):
-        found = {}
+    def served(self) -> dict[str, dict[str, int]]:
+        found: dict[str, dict[str, int]] = {}
         for line in self.text.splitlines():
             words = line.split()
             if words[0] == "service":
@@ -123,7 +125,7 @@ class Run:
                 found[words[1]] = {generation: int(count) for generation, count in counts.items()}
         return found
 
-    def accounts(self, words, short, cause):
+    def accounts(self, words: list[str], short: int, cause: int | None) -> Iterator[str]:
         failed, lost = len(self.followed.failures), self.followed.losses
         first = min(self.followed.failures + self.followed.returns, default=None)
         if words[0] != "done" and cause is None:
@@ -137,7 +139,7 @@ class Run:
         if words[0] == "degraded" and short + self.change.retries > failed + lost:
             yield f"short by {short} for {failed} failures and {lost} losses"
 
-    def files(self, side, note):
+    def files(self, side: str, note: str) -> Iterator[str]:
         image = "m2" if side == "target" and self.change.word in UPGRADES else "m1"
         rows = [line.split() for line in self.text.splitlines()]
         masters = [(row[1], row[4]) for row in rows if row[0] == "process" and row[5] == "live" and row[4][0] == "m"]

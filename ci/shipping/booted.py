@@ -98,7 +98,7 @@ class Site:
         return sorted(said["versions"])
 
 
-def end(command: subprocess.Popen) -> None:
+def end(command: subprocess.Popen[str]) -> None:
     """Tells a command of the machine to end. What has entered the name spaces has started it, and ends with it."""
     if command.poll() is None:
         for child in pathlib.Path(f"/proc/{command.pid}/task/{command.pid}/children").read_text().split():

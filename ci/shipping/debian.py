@@ -85,7 +85,10 @@ def is_only_proved(room: Room, version: str) -> None:
     tree = room.path / "tree"
     tree.mkdir()
     for name in SOURCES:
-        (shutil.copytree if (ROOT / name).is_dir() else shutil.copy)(ROOT / name, tree / name)
+        if (ROOT / name).is_dir():
+            shutil.copytree(ROOT / name, tree / name)
+        else:
+            shutil.copy(ROOT / name, tree / name)
     out = tree / "crates" / "prefork" / "out"
     (out.parent / "src").mkdir(parents=True)
     out.mkdir()

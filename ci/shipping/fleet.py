@@ -109,7 +109,7 @@ class Fleet:
         hosts = {
             name: {
                 "prefork_folder": str(host.run), "prefork_config": str(host.config), "address": host.first,
-                "program": host.program, **own.get(name, {}),
+                "program": host.program, **(own.get(name) or {}),
             }
             for name, host in self.hosts.items()
         }
@@ -182,7 +182,7 @@ def is_rolled_back(fleet: Fleet) -> None:
     host.set_up()
     host.wants("HUP", 0, "done", 2)
     fleet.told()
-    own = {"four": {"program": FAILS}, "five": {"workers": -1}}
+    own: dict[str, dict[str, Any]] = {"four": {"program": FAILS}, "five": {"workers": -1}}
     inventory = fleet.inventory(own, version=3, prefork_word="USR2", prefork_take_back=True, prefork_pause=1)
     status, said = fleet.played("site.yml", inventory, "-e", "prefork_batch=2")
     fleet.check(f"the roll-out has status {status}: {said}", status != 0)

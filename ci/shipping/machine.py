@@ -112,7 +112,7 @@ class Machine:
         """What runs a command in there."""
         return ["nsenter", f"--target={self.first}", "--all", "--root", "--wd", *map(str, words)]
 
-    def run(self, *words: Any) -> subprocess.CompletedProcess:
+    def run(self, *words: Any) -> subprocess.CompletedProcess[str]:
         environment = {"PATH": "/usr/sbin:/usr/bin:/sbin:/bin", "LC_ALL": "C"}
         return ran(*self.command(*words), env=environment)
 

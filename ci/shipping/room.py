@@ -25,7 +25,7 @@ class Room:
 
     def __init__(self, name: str, path: pathlib.Path, prefork: str, package: pathlib.Path | None):
         self.name, self.path, self.prefork, self.package = name, path, prefork, package
-        self.tally, self.skipped = Tally(), []
+        self.tally, self.skipped = Tally(), list[str]()
 
     def check(self, what: str, holds: Any) -> None:
         self.tally.check([] if holds else [f"{self.name}: {what}"])
@@ -48,7 +48,7 @@ def needs_root() -> None:
         raise Missing("only root can install into a scratch root and be other users")
 
 
-def ran(*command: Any, **more: Any) -> subprocess.CompletedProcess:
+def ran(*command: Any, **more: Any) -> subprocess.CompletedProcess[str]:
     """A command that has ended, and what it said."""
     streams: dict[str, Any] = {"stdin": subprocess.DEVNULL, "stdout": subprocess.PIPE, "stderr": subprocess.STDOUT}
     words, began = [str(word) for word in command], time.monotonic()

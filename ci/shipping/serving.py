@@ -64,7 +64,7 @@ class Service:
         until(f"{self.name}: a page", lambda: is_answered(self.address) or self.serve.poll() is not None)
         self.check(f"it has ended with status {self.serve.poll()}", self.serve.poll() is None)
 
-    def ctl(self, word: str, before: Iterable[str] = AS_NOBODY) -> subprocess.CompletedProcess:
+    def ctl(self, word: str, before: Iterable[str] = AS_NOBODY) -> subprocess.CompletedProcess[str]:
         return ran(*before, self.root.bin / "prefork-ctl", "--folder", self.run, word)
 
     def pages(self) -> list[int]:

@@ -35,7 +35,7 @@ class Asker(threading.Thread):
     def report(self) -> str:
         """The first word of the report. An asker whose socket was removed, say, is dropped."""
         found = REPORT.findall(self.text)
-        return found[-1].replace("{", "told") if found else UNANSWERED if "timed out" in self.text else "dropped"
+        return str(found[-1]).replace("{", "told") if found else UNANSWERED if "timed out" in self.text else "dropped"
 
 
 class Storm:

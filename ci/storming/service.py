@@ -114,7 +114,7 @@ class Stormed:
 
     def status(self) -> dict[str, Any]:
         try:
-            return json.loads(self.asked("status", SECONDS).splitlines()[0])
+            return dict(json.loads(self.asked("status", SECONDS).splitlines()[0]))
         except (ValueError, IndexError):
             return {}
 
@@ -187,7 +187,7 @@ class Stormed:
         time.sleep(0.5)
         self.hear()
         self.load.send_signal(signal.SIGTERM)
-        found = json.loads(self.load.communicate(timeout=2 * PATIENCE)[0])
+        found: dict[str, Any] = json.loads(self.load.communicate(timeout=2 * PATIENCE)[0])
         self.load = None
         lost = [failure for failure in found["failures"] if not self.is_excused(failure)]
         self.tally.check_lost([f"{self.setup.name}: {len(lost)} requests were lost: {lost[:5]}; {self.killings[-3:]}"] if lost else [])

@@ -80,7 +80,7 @@ def agree(site: Site, name: str, page: str, word: str, report: str, counted: dic
     agree_live(site, name, found, page)
 
 
-def agree_metrics(site: Site, name: str, found: dict, numbers: dict, counted: dict[tuple[str, str], int]) -> None:
+def agree_metrics(site: Site, name: str, found: dict[str, Any], numbers: dict[tuple[str, str], float], counted: dict[tuple[str, str], int]) -> None:
     """Compares the metrics with the status, and with the words that were counted here."""
     last, wanted = found["last"], {("prefork_masters", ""): len(found["masters"])}
     wanted["prefork_workers", f'{{generation="{found["generation"]}"}}'] = len(found["workers"])
@@ -91,7 +91,7 @@ def agree_metrics(site: Site, name: str, found: dict, numbers: dict, counted: di
         site.check(f"{name}: {key} is {numbers.get(key)}, not {value}", numbers.get(key) == value)
 
 
-def agree_page(site: Site, name: str, found: dict, text: str, newest: list[str]) -> None:
+def agree_page(site: Site, name: str, found: dict[str, Any], text: str, newest: list[str]) -> None:
     """Compares the page with the status and with the processes."""
     head = f"{found['running']} of {counted_workers(found['wanted'])}, generation {found['generation']}</p>"
     site.check(f"{name}: the head of the page", head in text and f'class="band {found["state"]}"' in text)
@@ -105,7 +105,7 @@ def agree_page(site: Site, name: str, found: dict, text: str, newest: list[str])
     site.check(f"{name}: the newest word on the page: {said}", said == newest)
 
 
-def agree_live(site: Site, name: str, found: dict, page: str) -> None:
+def agree_live(site: Site, name: str, found: dict[str, Any], page: str) -> None:
     """Compares what a page that is open takes, and what a program reads, with the status."""
     told, event = json.loads(answer_of(page, "/status.json")), answer_of(page, "/live")
     for key in ("generation", "wanted", "running", "state", "last"):

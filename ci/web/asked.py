@@ -13,7 +13,7 @@ EXAMPLE = SERVICE / "examples" / "answers_of_new.py"
 TIMES = 8
 
 
-def begin_upgrade(site: Site, version: int, command: str, *more: str) -> subprocess.Popen:
+def begin_upgrade(site: Site, version: int, command: str, *more: str) -> subprocess.Popen[str]:
     """An upgrade to a version, whose questions a command answers."""
     site.install(site.version(version))
     typed: list[Any] = [BIN / "prefork-ctl", "--folder", site.run, "--ask", command, "--after", "1", *more, UPGRADE]
@@ -48,7 +48,7 @@ def asked_and_interrupted(site: Site) -> None:
     site.begin()
     hangs = "sh -c 'echo $$ >asked; exec sleep 1000'"
 
-    def hanging(question: int) -> subprocess.Popen:
+    def hanging(question: int) -> subprocess.Popen[str]:
         (site.room / "asked").unlink(missing_ok=True)
         sent = begin_upgrade(site, 2, hangs)
         asks(site, question)

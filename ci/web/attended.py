@@ -15,7 +15,7 @@ UPGRADE = "USR2 attended"
 PAUSE, LONG_PAUSE, TIMEOUT = 2.5, 6.5, 6
 
 
-def begin_upgrade(site: Site) -> subprocess.Popen:
+def begin_upgrade(site: Site) -> subprocess.Popen[str]:
     """An upgrade to version 2, up to its first question."""
     site.install(site.version(2))
     sent = site.sent(UPGRADE)

@@ -55,6 +55,7 @@ def upgrades_in_a_row(site: Site) -> None:
     """Ten upgrades, one after another: each is done, and leaves as many processes and descriptors as the first one: the
     master that carries out words, that of the workers, and what is between them. All end with the service."""
     site.begin()
+    first = 0
     for number in range(2, UPGRADES + 2):
         site.install(site.version(number))
         site.wants("USR2", 0, "done", 2)

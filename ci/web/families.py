@@ -1,4 +1,6 @@
 """Listeners of both families on one port."""
+import functools
+
 from gate.addresses import answer_of, ipv6_beside, is_refused
 from gate.waiting import until
 from web.faults import another_keeper
@@ -19,7 +21,7 @@ def both_families(site: Site) -> None:
     serves_at(site, six, "the start")
     site.go_over_to()
     site.wants("HUP", 0, "done", 2)
-    until("the dropped address is refused", lambda: is_refused(six))
+    until("the dropped address is refused", functools.partial(is_refused, six))
     site.configure(listeners=both)
     site.wants("HUP", 0, "done", 2)
     serves_at(site, six, "the way back")

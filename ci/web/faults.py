@@ -7,6 +7,7 @@ import re
 import signal
 import socket
 import time
+from typing import Any
 
 from gate.addresses import answer_of, is_refused
 from gate.waiting import SECONDS, until
@@ -237,10 +238,9 @@ def silent_clients(site: Site) -> None:
 
 def too_few_descriptors(site: Site) -> None:
     """Configurations that the limits do not allow to be reloaded are refused at the start, by name."""
-    for settings, limit, named in (
-        ({"listeners": [f"127.0.0.1:{port}" for port in range(1, 5)], "workers": 200}, 1024, "1684 descriptors in its keeper"),
-        ({"workers": 300}, 1024, "1224 descriptors in its master"),
-    ):
+    four: dict[str, Any] = {"listeners": [f"127.0.0.1:{port}" for port in range(1, 5)], "workers": 200}
+    many: dict[str, Any] = {"workers": 300}
+    for settings, limit, named in ((four, 1024, "1684 descriptors in its keeper"), (many, 1024, "1224 descriptors in its master")):
         site.configure(**settings)
         site.before = descriptors(limit)
         site.serve = site.started()

@@ -247,7 +247,11 @@ def outcome(prefork: str, follows: Callable[[str], list[str]]) -> Tally:
 
 def works(prefork: str, there: set[str], others: dict[str, Callable[[str], list[str]]]) -> list[Work]:
     """The guides whose set-ups are there, the page of the service, and others that need what that needs."""
-    pages = {page: functools.partial(faults, page) for page, (needed, _) in PAGES.items() if needed <= there}
+    pages: dict[str, Callable[[str], list[str]]] = {}
+    for page, (needed, _) in PAGES.items():
+        if needed <= there:
+            pages[page] = functools.partial(faults, page)
     if README_NEEDS <= there:
-        pages |= {README: functools.partial(faults_of_readme, prefork), **others}
+        pages[README] = functools.partial(faults_of_readme, prefork)
+        pages.update(others)
     return [Work(page, functools.partial(outcome, prefork, follows)) for page, follows in pages.items()]

@@ -3,6 +3,7 @@
 Each scenario is done with the preloader of prefork-wsgi, and with those in examples for gunicorn and for puma, where the
 machine has them.
 """
+import functools
 import os
 import pathlib
 import shutil
@@ -113,7 +114,7 @@ def preloader(site: Site) -> int:
     def found() -> list[int]:
         return [it["process"] for it in status(site)["preloaders"] if it["is_loaded"] and not it["is_leaving"]]
 
-    return until("a preloader", found)[0]
+    return int(until("a preloader", found)[0])
 
 
 def zombies(site: Site) -> list[int]:
@@ -301,7 +302,7 @@ def many_workers_are_forked(site: Site) -> None:
     for count, word in enumerate(("HUP", "USR2"), 2):
         old = site.workers()
         site.wants(word, 0, "done", 128)
-        until("other workers", lambda seen=old: site.has_others(seen, 128))
+        until("other workers", functools.partial(site.has_others, old, 128))
         site.check("an address is not answered", is_answered(site.first, SECONDS) and is_answered(site.second, SECONDS))
         site.check(f"loaded {application.count()} times", application.count() == count)
     site.end("1")
@@ -327,7 +328,7 @@ class Burners:
 
     def __init__(self, site: Site, count: int):
         self.site, self.count = site, count
-        self.processes: Collection[subprocess.Popen] = ()
+        self.processes: Collection[subprocess.Popen[bytes]] = ()
 
     def __enter__(self) -> None:
         command = [sys.executable, "-c", "while True: pass"]

@@ -1,6 +1,7 @@
 """What is written: records on a disk that is full, parts of records, and what the operator is told of failures."""
 import pathlib
 import subprocess
+from typing import Any
 
 from gate.waiting import SECONDS, until
 from web.site import BIN, BROKEN, Scenario, Site, text_of
@@ -12,7 +13,7 @@ APART = ["unshare", "--user", "--map-root-user", "--mount"]
 
 
 def can_mount(room: pathlib.Path) -> bool:
-    command = [*APART, "sh", "-c", 'mount -t tmpfs -o size=64k none "$0"', room]
+    command = [*APART, "sh", "-c", 'mount -t tmpfs -o size=64k none "$0"', str(room)]
     return subprocess.run(command, stdin=subprocess.DEVNULL, capture_output=True).returncode == 0
 
 
@@ -103,7 +104,7 @@ def parts_of_records(site: Site) -> None:
 
 
 def certified(site: Site) -> tuple[str, str, int]:
-    command = [BIN / "prefork-ctl", "--folder", site.run, "--prefork", site.certifier, "certify"]
+    command: list[Any] = [BIN / "prefork-ctl", "--folder", site.run, "--prefork", site.certifier, "certify"]
     found = subprocess.run(command, capture_output=True, text=True, env=site.environment, timeout=SECONDS)
     return found.stdout, found.stderr, found.returncode
 

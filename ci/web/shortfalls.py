@@ -67,11 +67,11 @@ class Views:
 
     def told_to_systemd(self) -> str:
         said = [text.removeprefix("STATUS=") for text in self.systemd.said if text.startswith("STATUS=")]
-        return said[-1] if said else ""
+        return str(said[-1]) if said else ""
 
-    def told_to_hook(self, event: str) -> dict:
+    def told_to_hook(self, event: str) -> dict[str, Any]:
         file = pathlib.Path(f"{self.hook}.{event}")
-        return json.loads(file.read_text()) if file.exists() else {}
+        return dict(json.loads(file.read_text())) if file.exists() else {}
 
     def forget_hooks(self) -> None:
         for event in EVENTS:
@@ -261,7 +261,7 @@ def roll_back(site: Site) -> None:
     site.wants("HUP", 3, "rolled-back ", 2)
 
 
-def fails(site: Site, views: Views, what: str, why: str, spoil: Callable, mend: Callable) -> None:
+def fails(site: Site, views: Views, what: str, why: str, spoil: Callable[..., Any], mend: Callable[..., Any]) -> None:
     """Kills a worker whose start fails from now on, and mends it."""
     views.forget_hooks()
     spoil()

@@ -184,7 +184,7 @@ class Site:
         # So that there is load before the first word.
         time.sleep(0.5)
 
-    def started(self, *more: str) -> subprocess.Popen:
+    def started(self, *more: str) -> subprocess.Popen[bytes]:
         command: list[Any] = [*self.before, BIN / "prefork-serve", *more, "--folder", self.run, "--prefork", self.prefork]
         command += [*self.options, "site.toml", *(["--", *self.program] if self.program and not self.is_in_file else [])]
         streams: dict[str, Any] = {"stdin": subprocess.DEVNULL, "stderr": self.said, "pass_fds": self.given}
@@ -242,7 +242,7 @@ class Site:
     def check(self, what: str, holds: Any) -> None:
         self.tally.check([] if holds else [f"{self.name}: {what}"])
 
-    def sent(self, word: str) -> subprocess.Popen:
+    def sent(self, word: str) -> subprocess.Popen[str]:
         """A word on its way: `ctl`."""
         command: list[Any] = [BIN / "prefork-ctl", "--folder", self.run, word]
         streams: dict[str, Any] = {"stdout": subprocess.PIPE, "stderr": subprocess.PIPE}
@@ -257,7 +257,7 @@ class Site:
         """Sends a word and looks at what comes of it."""
         return self.heard(self.sent(word), word, status, report, workers)
 
-    def heard(self, sent: subprocess.Popen, word: str, status: int, report: str, workers: int) -> str:
+    def heard(self, sent: subprocess.Popen[str], word: str, status: int, report: str, workers: int) -> str:
         """Waits for what comes of a word, and looks at it."""
         block, faults = sent.communicate(timeout=SECONDS)
         self.check(f"{word}: ctl's status is {sent.returncode}: {block}{faults}", sent.returncode == status)
@@ -287,7 +287,7 @@ class Site:
         """What the load says; it has a while more, so that what comes of the last word is met by it."""
         time.sleep(0.5)
         self.load.send_signal(signal.SIGTERM)
-        found = json.loads(self.load.communicate(timeout=SECONDS)[0])
+        found: dict[str, Any] = json.loads(self.load.communicate(timeout=SECONDS)[0])
         self.load = None
         self.slowest_rate = min(self.slowest_rate, found["rate"])
         return found

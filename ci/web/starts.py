@@ -4,6 +4,7 @@ import os
 import signal
 import socket
 import subprocess
+from typing import Any
 
 from gate.addresses import is_refused
 from gate.waiting import SECONDS, until
@@ -168,10 +169,10 @@ def a_status(site: Site) -> None:
     site.end("12")
 
 
-def status(site: Site) -> dict:
-    command: list = [BIN / "prefork-ctl", "--folder", site.run, "--json", "status"]
+def status(site: Site) -> dict[str, Any]:
+    command: list[Any] = [BIN / "prefork-ctl", "--folder", site.run, "--json", "status"]
     found = subprocess.run(command, capture_output=True, text=True, env=site.environment, timeout=SECONDS)
-    return json.loads(found.stdout)
+    return dict(json.loads(found.stdout))
 
 
 def agrees(site: Site, generation: str, word: str | None, masters: int, keepers: int = 0, restarts: int = 0) -> None:

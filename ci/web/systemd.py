@@ -26,7 +26,7 @@ class Systemd:
     """A place to notify, what was said there, and the sockets that are stored, by their names."""
 
     def __init__(self, path: pathlib.Path):
-        self.path, self.said, self.stored = path, [], {}
+        self.path, self.said, self.stored = path, list[str](), dict[str, int]()
         self.told = socket.socket(socket.AF_UNIX, socket.SOCK_DGRAM)
         self.told.bind(str(path))
         self.thread = threading.Thread(target=self.hear, daemon=True)

@@ -141,8 +141,8 @@ def two_versions(site: Site, hold: pathlib.Path) -> str:
 
 def replaced(site: Site, old: set[int]) -> list[str]:
     """The name of an old worker that has answered and was not there before."""
-    version, name, process = ANSWER.match(answer_of(site.first)).groups()
-    return [name] if version == "1" and int(process) not in old else []
+    found = ANSWER.match(answer_of(site.first))
+    return [found[2]] if found and found[1] == "1" and int(found[3]) not in old else []
 
 
 def an_upgrade_while_an_old_worker_is_killed(site: Site) -> None:

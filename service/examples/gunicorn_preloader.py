@@ -14,6 +14,7 @@ import pathlib
 import shutil
 import signal
 import sys
+import threading
 import time
 import traceback
 import types
@@ -27,7 +28,7 @@ sys.path.insert(1, str(pathlib.Path(program).resolve().parents[1]))
 from gunicorn import sock as sockets
 from gunicorn.app.wsgiapp import WSGIApplication
 
-from prefork_service import wsgi
+from prefork_service import convention, wsgi
 from prefork_service.addresses import text_of
 from prefork_service.convention import Pipes, clear_environment, warn
 from prefork_service.preloader import Preloader
@@ -63,11 +64,11 @@ class Serving(wsgi.Serving):
         """gunicorn writes its own logs, and counts nothing here."""
 
 
-def forked_class(kind: type) -> type:
+def forked_class(kind: Any) -> Any:
     """A class of gunicorn's, whose worker has no master of gunicorn's: it says that it turns to this process alone, and its
     parent may be another one."""
 
-    class Forked(kind):
+    class Forked(kind):  # type: ignore[misc]
         ppid = property(lambda self: os.getppid(), lambda self, number: None)
         turned = time.monotonic()
         # What hears the master, once it is there.
@@ -130,11 +131,11 @@ def main() -> None:
     set_title(f"worker {lifeline.name}")
     lifeline.fasten()
     os.environ["PREFORK_KEEPER"] = lifeline.keeper
-    wsgi.convention.WORKER_NAME = lifeline.name
+    convention.WORKER_NAME = lifeline.name
     cfg = application.cfg
     given = argparse.Namespace(application=sys.argv[-1], ready_within=60.0, timeout=cfg.timeout, finish=cfg.graceful_timeout)
     worker = Worker(given, Pipes())
-    wsgi.threading.Thread(target=worker.converse, daemon=True).start()
+    threading.Thread(target=worker.converse, daemon=True).start()
     worker.going.wait()
     clear_environment()
     try:

@@ -140,7 +140,7 @@ def variables_of(told: Status) -> dict[str, str]:
     return {f"PREFORK_{name}": text for name, text in found.items()}
 
 
-def begun(command: tuple[str, ...], told: Status, environment: Mapping[str, str]) -> subprocess.Popen:
+def begun(command: tuple[str, ...], told: Status, environment: Mapping[str, str]) -> subprocess.Popen[bytes]:
     """Starts a command, in a group of its own. Raises OSError."""
     own = {name: text for name, text in environment.items() if not name.startswith(OF_SYSTEMD)}
     text = os.memfd_create("question")
@@ -175,7 +175,7 @@ def verdict_of(ask: Ask, told: Status, end_reason: Callable[[], str], environmen
     return Verdict(BACK if process.returncode else GO, f"{ask.command[0]} has ended with {ended}", lines)
 
 
-def heard(process: subprocess.Popen, kept: bytes, seconds: float) -> bytes:
+def heard(process: subprocess.Popen[bytes], kept: bytes, seconds: float) -> bytes:
     """The end of what a command has said. What it has started may have its output longer than itself."""
     assert process.stdout
     while select.select([process.stdout], [], [], seconds)[0]:

@@ -26,7 +26,7 @@ class Broken(Exception):
     """The loop can't do its work any more."""
 
 
-def name_of(call: Callable) -> str:
+def name_of(call: Callable[..., Any]) -> str:
     return getattr(call, "__qualname__", None) or repr(call)
 
 
@@ -39,7 +39,7 @@ class Barrier:
         self.faults: dict[Any, collections.deque[float]] = {}
         self.told: dict[str, tuple[float, int]] = {}
 
-    def duty(self, call: Callable, *given: Any) -> Any:
+    def duty(self, call: Callable[..., Any], *given: Any) -> Any:
         """What a call gives; nothing if it raises."""
         try:
             return call(*given)

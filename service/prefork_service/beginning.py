@@ -4,7 +4,7 @@ import json
 import pathlib
 from typing import Any
 
-from .hooks import EVENTS
+from .events import EVENTS
 from .keys import KEYS
 from .quickly import ADDRESS, QUICK_TIMEOUT, WORKERS
 

@@ -17,10 +17,10 @@ PR_SET_CHILD_SUBREAPER = 36
 # stop, and how often it is looked.
 HOLDER, END_SECONDS, BURY_LOOK_SECONDS = "prefork-hold", 10.0, 0.01
 # Those that it has started itself, and waits for where it has started them.
-OWN_CHILDREN: "weakref.WeakSet[subprocess.Popen]" = weakref.WeakSet()
+OWN_CHILDREN: "weakref.WeakSet[subprocess.Popen[bytes]]" = weakref.WeakSet()
 
 
-def started(command: list[Any], **given: Any) -> subprocess.Popen:
+def started(command: list[Any], **given: Any) -> subprocess.Popen[bytes]:
     """Starts a process that its caller waits for."""
     process = subprocess.Popen(command, **given)
     OWN_CHILDREN.add(process)

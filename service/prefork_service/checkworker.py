@@ -28,7 +28,7 @@ from typing import Any
 from . import VERSION, places
 from .addresses import host_and_port
 from .conversation import END, CHECKED_WORKER, RUNS_ON, Conversation, marked
-from .options import fault_of
+from .programs import fault_of
 
 # How long a worker may take to load and to finish, and at most to answer a line or a request.
 CHECK_PATIENCE, CHECKED_ANSWER_SECONDS = 45.0, 10.0
@@ -80,7 +80,7 @@ def line_of(connection: socket.socket) -> str:
 
 def number_of(listener: socket.socket, at: int) -> int:
     """What the system says of a listening socket."""
-    return struct.unpack_from("I", listener.getsockopt(socket.IPPROTO_TCP, socket.TCP_INFO, INFO_BYTES), at)[0]
+    return int(struct.unpack_from("I", listener.getsockopt(socket.IPPROTO_TCP, socket.TCP_INFO, INFO_BYTES), at)[0])
 
 
 def is_answer(line: str) -> bool:
@@ -113,7 +113,7 @@ class Bench:
 
     def command(self) -> list[str]:
         """What a master starts."""
-        return self.given.command
+        return [*self.given.command]
 
     def more(self, mark: str) -> dict[str, str]:
         """More variables of a worker with a mark."""

@@ -87,7 +87,7 @@ class Chronicle:
         self.counts[word, report_of(report).outcome] += 1
         self.journal.note(f"{word}: {report}: {reason}")
 
-    def counted(self) -> list[dict]:
+    def counted(self) -> list[dict[str, Any]]:
         """How often each word ended how."""
         return [
             {"word": word, "outcome": outcome, "count": count} for (word, outcome), count in sorted(self.counts.items())

@@ -18,7 +18,7 @@ class Pipes:
     a printed line would be an answer to the master. Processes that the application forks do not have them.
     """
 
-    def __init__(self):
+    def __init__(self) -> None:
         self.lines, self.answers, self.unread = os.dup(0), os.dup(1), b""
         nothing = os.open(os.devnull, os.O_RDONLY)
         os.dup2(nothing, 0)

@@ -66,7 +66,7 @@ class Conversation:
     def wait(self, seconds: float = 60.0) -> int | str:
         """Its status."""
         try:
-            return self.process.wait(seconds)
+            return int(self.process.wait(seconds))
         except subprocess.TimeoutExpired:
             return RUNS_ON
 

@@ -152,14 +152,15 @@ def status_of(folder: str) -> dict[str, Any]:
     for word in (STATUS, BRIEF):
         block = asked(folder, word, STATUS_SECONDS)[0]
         if block:
-            return json.loads(block)
+            status: dict[str, Any] = json.loads(block)
+            return status
     raise ConnectionError(errno.ECONNRESET, ENDED)
 
 
 def reached(folder: str) -> Reached:
     """A service, for what answers its questions."""
     return Reached(
-        lambda: json.loads(asked(folder, BRIEF, STATUS_SECONDS)[0] or "{}"), lambda: status_of(folder), lambda text: asked(folder, text, STATUS_SECONDS)[0],
+        lambda: dict(json.loads(asked(folder, BRIEF, STATUS_SECONDS)[0] or "{}")), lambda: status_of(folder), lambda text: asked(folder, text, STATUS_SECONDS)[0],
     )
 
 

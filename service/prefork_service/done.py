@@ -1,5 +1,6 @@
 """A word that was carried out, as people are told of it."""
 import dataclasses
+from typing import Any
 
 from .blocks import block_of
 
@@ -25,7 +26,7 @@ class Done:
         call = block_of(self.block).cause
         return call.text if call else None
 
-    def as_json(self) -> dict:
+    def as_json(self) -> dict[str, Any]:
         return {
             "word": self.word, "report": self.report, "at": self.began, "seconds": round(self.seconds, 3),
             "cause": self.cause, "reasons": self.reasons,

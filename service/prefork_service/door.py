@@ -9,6 +9,7 @@ import selectors
 import socket
 import time
 from collections.abc import Callable
+from typing import Any
 
 # How long a client may say nothing, how many such clients there may be, and how long nobody is admitted if descriptors
 # run out.
@@ -22,7 +23,7 @@ class Door:
     """Clients that have connected and not said anything yet. `hear` is given one that has: it is not the door's then."""
 
     def __init__(
-        self, events: selectors.BaseSelector, listener: socket.socket, hear: Callable, say: Callable, most: int = MOST_SILENT
+        self, events: selectors.BaseSelector, listener: socket.socket, hear: Callable[..., Any], say: Callable[..., Any], most: int = MOST_SILENT
     ):
         self.events, self.listener, self.hear, self.say, self.most = events, listener, hear, say, most
         listener.setblocking(False)

@@ -52,8 +52,8 @@ class Feed:
         self.queue: collections.deque[Event] = collections.deque()
         self.words: collections.deque[Message] = collections.deque(maxlen=MOST_TOLD_WORDS)
         self.number, self.dropped, self.taken = 0, 0, 0
-        self.process: subprocess.Popen | None = None
-        self.ended: subprocess.Popen | None = None
+        self.process: subprocess.Popen[bytes] | None = None
+        self.ended: subprocess.Popen[bytes] | None = None
         self.stream: Any = None
         self.askers: Any = None
         self.unsent, self.unheard, self.last_state = bytearray(), b"", dict[str, Any]()

@@ -67,7 +67,7 @@ def write_private(file: pathlib.Path, text: bytes) -> None:
         written.write(text)
 
 
-def remove_all(place: pathlib.Path, names: re.Pattern) -> None:
+def remove_all(place: pathlib.Path, names: re.Pattern[str]) -> None:
     """Removes the files of a folder that have these names, and the folder once it is empty. Nothing else is removed."""
     for file in files_in(place):
         if names.fullmatch(file.name):

@@ -9,7 +9,6 @@ import time
 from typing import Any
 
 from .burying import started
-from .events import EVENTS as EVENTS
 from .folder import say
 from .systemd import OF_SYSTEMD
 
@@ -25,7 +24,7 @@ class Hooks:
 
     def __init__(self, programs: dict[str, str]):
         self.programs = programs
-        self.running: list[tuple[subprocess.Popen, str, float]] = []
+        self.running: list[tuple[subprocess.Popen[bytes], str, float]] = []
         # What is still to be told, in its order: the event, its program, the text, and until when.
         self.waiting: collections.deque[tuple[str, str, bytes, float]] = collections.deque()
 
@@ -55,7 +54,7 @@ class Hooks:
             self.waiting.popleft()
         return None
 
-    def watch(self, process: subprocess.Popen, title: str, seconds: float) -> None:
+    def watch(self, process: subprocess.Popen[bytes], title: str, seconds: float) -> None:
         """A program that may run for some seconds."""
         self.running.append((process, title, time.monotonic() + seconds))
 
@@ -84,7 +83,7 @@ class Hooks:
                 kill(process)
 
 
-def begun(command: list[str], text: bytes) -> subprocess.Popen:
+def begun(command: list[str], text: bytes) -> subprocess.Popen[bytes]:
     """A program with a text on its standard input. Raises OSError."""
     environment = {name: value for name, value in os.environ.items() if not name.startswith(OF_SYSTEMD)}
     file = os.memfd_create(command[1])
@@ -97,13 +96,13 @@ def begun(command: list[str], text: bytes) -> subprocess.Popen:
         os.close(file)
 
 
-def program_of(process: subprocess.Popen) -> str:
+def program_of(process: subprocess.Popen[bytes]) -> str:
     """The program that a process was started as."""
     words = process.args
     return words if isinstance(words, str) else os.fsdecode(words[0]) if isinstance(words, list) else "the program"
 
 
-def kill(process: subprocess.Popen) -> None:
+def kill(process: subprocess.Popen[bytes]) -> None:
     """Kills a program with what it has started."""
     try:
         os.killpg(process.pid, signal.SIGKILL)

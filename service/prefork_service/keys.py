@@ -236,7 +236,7 @@ def is_limit(value: object) -> bool:
 
 def lower(soft: Any, hard: Any) -> bool:
     """Whether a soft limit is within a hard one."""
-    return hard == "unlimited" or soft != "unlimited" and soft <= hard
+    return hard == "unlimited" or bool(soft != "unlimited" and soft <= hard)
 
 
 def faults_of_limits(table: dict[str, Any], path: Path) -> list[Fault]:

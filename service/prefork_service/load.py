@@ -31,7 +31,7 @@ class Closed(ValueError):
 class Tally:
     """What was answered, and what was not."""
 
-    def __init__(self):
+    def __init__(self) -> None:
         self.lock, self.began = threading.Lock(), time.monotonic()
         self.last, self.gap, self.slowest = self.began, 0.0, 0.0
         self.answers: dict[str, int] = {}
@@ -50,7 +50,7 @@ class Tally:
         with self.lock:
             self.failures.append({"began": began, "kept": keeps, "fault": repr(fault)})
 
-    def summary(self) -> dict:
+    def summary(self) -> dict[str, Any]:
         seconds, count = time.monotonic() - self.began, sum(self.answers.values())
         return {
             "answered": count, "failed": len(self.failures), "rate": round(count / seconds, 1), "slowest": self.slowest,
@@ -185,7 +185,7 @@ def arguments() -> argparse.Namespace:
     return parser.parse_args()
 
 
-def told(found: dict) -> None:
+def told(found: dict[str, Any]) -> None:
     print(f"{found['answered']} answered, {found['failed']} failed, {found['rate']} a second")
     print(f"slowest {found['slowest']:.3f} s, longest time between two answers {found['gap']:.3f} s")
     for version, count in sorted(found["versions"].items()):

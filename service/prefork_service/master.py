@@ -141,10 +141,10 @@ class Master:
     def ended(self) -> int:
         """The status of a master that has closed its output, and is killed if it does not end."""
         try:
-            return self.process.wait(MASTER_END_SECONDS)
+            return int(self.process.wait(MASTER_END_SECONDS))
         except subprocess.TimeoutExpired:
             self.process.kill()
-            return self.process.wait()
+            return int(self.process.wait())
 
 
 def pass_on(text: bytes) -> None:

@@ -11,8 +11,8 @@ from collections.abc import Iterable
 from typing import Any
 
 from . import VERSION, places
+from .events import EVENTS
 from .folder import text_of
-from .hooks import EVENTS
 from .keeper import add_socket_options
 from .keys import OF_WSGI
 from .limits import seconds_of, seconds_said
@@ -295,7 +295,7 @@ def worker_command(given: argparse.Namespace) -> list[str] | None:
         python = os.path.join(current_folder(), named) if "/" in named else named
         return checked([python, str(places.WSGI), *options], [given.wsgi], place_of(given))
     if given.preload:
-        return given.program
+        return [*given.program]
     if given.program:
         options = handed_on(given, SHARED | READY | PROGRAM)
         return checked([str(places.ACTIVATE), *options], ["--", *given.program], place_of(given))

@@ -86,7 +86,7 @@ class NextPlan:
 
     def __init__(self) -> None:
         self.key: object = None
-        self.process: subprocess.Popen | None = None
+        self.process: subprocess.Popen[bytes] | None = None
         self.output = tempfile.TemporaryFile()
         self.text = "It is being made.\n"
 

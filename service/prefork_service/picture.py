@@ -78,7 +78,7 @@ class Picture:
 
     def file_has_changed(self) -> bool:
         """Whether the file is another one than was accepted."""
-        return self.config_text() != self.state["accepted"]
+        return bool(self.config_text() != self.state["accepted"])
 
     def config_text(self) -> str | None:
         """The configuration's file as it is now; nothing if it can't be read."""

@@ -111,7 +111,8 @@ class Preloader:
         self.events.register(self.fork_socket, selectors.EVENT_READ, self.accept_shim)
         while self.fork_socket.fileno() >= 0 or self.workers:
             for key, _ in self.events.select():
-                if lifeline := key.data(key.fileobj):
+                lifeline: Lifeline | None = key.data(key.fileobj)
+                if lifeline:
                     return lifeline
         os._exit(0)
 

@@ -12,7 +12,7 @@ from .holding import Unfit
 TRIES, PROBE_PAUSE_SECONDS = 3, 0.2
 
 
-def status_of(application: Callable, path: str, is_secure: bool = False) -> str:
+def status_of(application: Callable[..., Any], path: str, is_secure: bool = False) -> str:
     """The status of an answer, such as `200 OK`. What the application loads for it is there from then on. A secure request
     looks as if it came from a proxy that ends TLS."""
     environ: dict[str, Any] = {
@@ -34,14 +34,14 @@ def status_of(application: Callable, path: str, is_secure: bool = False) -> str:
     return answered[-1] if answered else "nothing"
 
 
-def warm(application: Callable, path: str, is_secure: bool = False) -> None:
+def warm(application: Callable[..., Any], path: str, is_secure: bool = False) -> None:
     """Asks for a page that is to be there."""
     status = status_of(application, path, is_secure)
     if status[:1] not in "23":
         raise Unfit(f"{path} is answered: {status}")
 
 
-def probe(application: Callable, path: str, is_secure: bool = False) -> None:
+def probe(application: Callable[..., Any], path: str, is_secure: bool = False) -> None:
     """Asks for a page until it is answered with a status below 500, three times at most."""
     for number in range(TRIES):
         time.sleep(PROBE_PAUSE_SECONDS if number else 0)

@@ -75,11 +75,11 @@ def name_of(host: str) -> str:
     return f"[{host}]" if ":" in host and not host.startswith("[") else host
 
 
-def corrected(application: Callable, trusted: Iterable[Network | str]) -> Callable:
+def corrected(application: Callable[..., Any], trusted: Iterable[Network | str]) -> Callable[..., Any]:
     """An application that is told rightly of its requests."""
     proxies = Proxies(list(trusted))
 
-    def answer(environ: dict[str, Any], start_response: Callable) -> Any:
+    def answer(environ: dict[str, Any], start_response: Callable[..., Any]) -> Any:
         proxies.told(environ, environ["SERVER_PORT"].startswith("/"))
         return application(environ, start_response)
 

@@ -26,8 +26,8 @@ class ReaderProcess:
     def __init__(self, events: selectors.BaseSelector, asked: dict[str, Any], take: Callable[[Configuration | None, str], None]):
         self.events, self.asked, self.take = events, asked, take
         # The process and its output while a word waits for it; those that are to be buried.
-        self.process: subprocess.Popen | None = None
-        self.ended: list[subprocess.Popen] = []
+        self.process: subprocess.Popen[bytes] | None = None
+        self.ended: list[subprocess.Popen[bytes]] = []
         self.output, self.said, self.until = -1, bytearray(), 0.0
         # Whether what it finds is still to be taken.
         self.owes = False

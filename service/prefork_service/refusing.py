@@ -30,7 +30,7 @@ def refusal_of(prefork: str, config: pathlib.Path) -> str | None:
     try:
         return masked(found.stderr.strip(), text_of(config).decode(errors="replace"))
     except OSError:
-        return found.stderr.strip()
+        return str(found.stderr).strip()
 
 
 def mistake_of(refusal: str) -> str:

@@ -23,4 +23,5 @@ class Remembered(Generic[Found]):
             self.found, self.key = look(), key
             self.moment = now = time.monotonic()
             self.until = now + max(REMEMBER_SECONDS, REMEMBER_TIMES * (now - begun))
-        return self.found
+        found: Found = self.found
+        return found

@@ -53,8 +53,9 @@ from .keeper import DEFER, socket_options
 from .inheriting import make_way, of_systemd
 from .limits import answer_seconds, known, limits_of
 from .needs import needs_of, shortages
-from .options import arguments, fault_of, fault_of_adapter, hooks_of, place_of, processes_each, told_of
+from .options import arguments, fault_of_adapter, hooks_of, place_of, processes_each, told_of
 from .outcomes import refusal_shown
+from .programs import fault_of
 from .quickly import configured
 from .reader import SiteFile
 from .recipes import Runs

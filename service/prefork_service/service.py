@@ -1,4 +1,5 @@
 """The loop of a service: words to the master, one at a time, and their blocks to those that asked."""
+import functools
 import selectors
 import sys
 import time
@@ -109,7 +110,7 @@ class Service:
         preloading = [self.commands.preloading.tend] if self.commands.preloading else []
         preloading += [self.changes.tend] if self.changes else []
         preloading += [self.keeping.listeners.tend] if self.keeping.listeners else []
-        tends: list[Callable] = [self.commands.mend, self.keeping.mend, self.asking.tend, self.keeping.tend, *preloading, self.hurry]
+        tends: list[Callable[..., Any]] = [self.commands.mend, self.keeping.mend, self.asking.tend, self.keeping.tend, *preloading, self.hurry]
         tends += [self.reading.tend, bury_orphans, self.hanging.tend, self.tend_survivors, self.end_late, self.stopping.tend]
         tends += [self.chronicle.tend, self.telling.tend, sys.stderr.flush]
         for tend in tends:
@@ -172,7 +173,7 @@ class Service:
             self.commands.begin()
             limits = [] if self.is_old else self.limits
             command = [*self.command, *limits]
-            keep = lambda block: self.barrier.duty(self.chronicle.records.add, block)
+            keep = functools.partial(self.barrier.duty, self.chronicle.records.add)
             master = Master(command, self.folder, keep, may_store())
             self.hanging.patience.take_limits(limits)
             try:
@@ -458,7 +459,8 @@ class Service:
     def release_master(self) -> Master:
         """Hears the master no longer, and tells it nothing more."""
         self.barrier.duty(self.reading.end)
-        master, self.master, self.question = self.master, None, 0
+        master: Master = self.master
+        self.master, self.question = None, 0
         for source in (master.output, master.errors):
             if source in self.events.get_map():
                 self.events.unregister(source)

@@ -10,9 +10,10 @@ import sys
 from typing import Any
 
 from . import places, programs
+from .configuration import LAST
 from .environments import variables_in
 from .keys import KEYS, LISTENER, OF_WSGI, dotted, faults_of_keys
-from .recipes import LAST, SERVICE, Fault, Path, Recipe, Runs, Setup, Told, is_command
+from .recipes import SERVICE, Fault, Path, Recipe, Runs, Setup, Told, is_command
 from .sizes import bytes_of
 
 # The tables of groups.
@@ -270,7 +271,7 @@ class Reading:
     def looked_for(self, settings: Settings, runs: Runs, variables: dict[str, str]) -> str:
         """The program that must be there; nothing if it is looked for elsewhere than the service looks."""
         if runs is Runs.COMMAND:
-            return self.command[0]
+            return str(self.command[0])
         return "" if runs in OF_WSGI or "PATH" in variables else settings.program[0]
 
     def words(self, settings: Settings, runs: Runs, filled: dict[str, str]) -> tuple[str, ...]:

@@ -107,7 +107,7 @@ class Showing:
         self.tell(event, {**whole, **more})
 
     def tend(self) -> None:
-        tends: list[Callable] = [self.open, self.hooks.tend, self.picture.traffic.tend, *(site.tend for site in self.sites)]
+        tends: list[Callable[..., Any]] = [self.open, self.hooks.tend, self.picture.traffic.tend, *(site.tend for site in self.sites)]
         tends += [self.tend_plan] if self.plan else []
         tends += [self.write] if self.file and time.monotonic() - self.written > FILE_SECONDS else []
         for tend in tends:
@@ -124,7 +124,7 @@ class Showing:
             self.file.write(metrics_of(self.status()))
 
     def end(self) -> None:
-        ends: list[Callable] = [site.end for site in self.sites]
+        ends: list[Callable[..., Any]] = [site.end for site in self.sites]
         ends += [self.file.end] if self.file else []
         ends += [self.plan.end] if self.plan else []
         ends.append(self.hooks.end)

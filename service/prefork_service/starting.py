@@ -27,4 +27,5 @@ def take_signals() -> None:
 def settings_of(number: int) -> dict[str, Any]:
     """What the core was told."""
     with open(number, "rb") as file:
-        return json.loads(file.read())
+        settings: dict[str, Any] = json.loads(file.read())
+    return settings

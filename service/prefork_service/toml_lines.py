@@ -49,11 +49,11 @@ def masked(refusal: str, text: str) -> str:
     """A refusal without what a line of the table `service` sets: it may be a secret."""
     lines = text.splitlines()
 
-    def hide(found: re.Match) -> str:
+    def hide(found: re.Match[str]) -> str:
         at = int(found[2]) - 1
         is_own = table_at(lines, at)[:1] == ("service",) or names_in(lines[at].partition("=")[0])[:1] == ("service",) if at < len(lines) else True
         name, equals, _ = found[3].partition("=")
-        return found[0] if not is_own or HEADER.match(found[3]) else f"{found[1]}{name}{equals} .." if equals else f"{found[1]}.."
+        return str(found[0]) if not is_own or HEADER.match(found[3]) else f"{found[1]}{name}{equals} .." if equals else f"{found[1]}.."
 
     return SHOWN.sub(hide, refusal)
 

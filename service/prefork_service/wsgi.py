@@ -174,7 +174,7 @@ class Worker:
         if found:
             faulthandler.dump_traceback(all_threads=True)
 
-    def serve(self, application: Callable) -> None:
+    def serve(self, application: Callable[..., Any]) -> None:
         """Serves up to the end."""
         from .wsgi_server import Requests, Server
 
@@ -217,13 +217,14 @@ def reopen_logs() -> None:
                 handler.close()
 
 
-def loaded(text: str) -> Callable:
+def loaded(text: str) -> Callable[..., Any]:
     """The application MODULE:APP; APP may be a path of attributes, and is `application` if it is missing."""
     module, _, name = text.partition(":")
     found: Any = importlib.import_module(module)
     for part in (name or "application").split("."):
         found = getattr(found, part)
-    return found
+    application: Callable[..., Any] = found
+    return application
 
 
 def arguments() -> argparse.Namespace:
@@ -324,7 +325,7 @@ def prepare(folder: str) -> None:
     logging.getLogger("waitress.queue").setLevel(logging.ERROR)
 
 
-def ask(given: argparse.Namespace, application: Callable) -> None:
+def ask(given: argparse.Namespace, application: Callable[..., Any]) -> None:
     """Asks an application for the pages of --warm, in this process."""
     for path in given.warm:
         warm(application, path, bool(given.trusted_proxy))
@@ -341,7 +342,7 @@ def share_memory(threads: int) -> None:
         pass
 
 
-def forked(given: argparse.Namespace) -> Callable:
+def forked(given: argparse.Namespace) -> Callable[..., Any]:
     """Is the preloader: loads the application, and forks workers. Returns the application in each of them."""
     global lifeline
     preloader = Preloader()

@@ -119,7 +119,7 @@ class Noted:
     def build_response_header(self) -> bytes:
         if self.channel.server.noted.is_finishing:
             self.request.headers["CONNECTION"] = "close"
-        header = super().build_response_header()  # type: ignore[misc]
+        header: bytes = super().build_response_header()  # type: ignore[misc]
         self.size_of_header = len(header)
         return header
 
@@ -166,7 +166,7 @@ def most_connections() -> int:
 class Server:
     """The loop of the main thread. Other threads call `close`, `finish` and `is_stuck`."""
 
-    def __init__(self, application: Callable, sockets: dict[str, socket.socket], threads: int, keep: int, requests: Requests):
+    def __init__(self, application: Callable[..., Any], sockets: dict[str, socket.socket], threads: int, keep: int, requests: Requests):
         self.requests, self.threads, self.turned = requests, threads, time.monotonic()
         self.lock, self.is_told_to_finish = threading.Lock(), False
         self.map: dict[int, Any] = {}

@@ -149,7 +149,7 @@ class WorkerTest(unittest.TestCase):
         self.keeper.stdin.close()
         self.keeper.wait(60)
 
-    def started(self, *command, addresses: tuple[str, ...] = (), go: bool = True, **more: str) -> Conversation:
+    def started(self, *command: str, addresses: tuple[str, ...] = (), go: bool = True, **more: str) -> Conversation:
         """A worker that was told its addresses."""
         environment = {**os.environ, CHECKED_WORKER: self.mark, "PREFORK_KEEPER": str(self.path), **more}
         talk = Conversation([str(word) for word in command], environment)

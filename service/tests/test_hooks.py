@@ -9,7 +9,8 @@ from unittest import mock
 
 from kit import clock_ahead, until
 from prefork_service import hooks
-from prefork_service.hooks import EVENTS, MOST_HOOKS, OF_OUTCOMES, Hooks
+from prefork_service.events import EVENTS
+from prefork_service.hooks import MOST_HOOKS, OF_OUTCOMES, Hooks
 
 
 class HooksTest(unittest.TestCase):

@@ -13,7 +13,7 @@ import unittest
 from typing import Any
 
 from kit import BIN, PROGRAMS, PYTHON, answer_of, built, free_address, is_open, until
-from prefork_service.hooks import EVENTS
+from prefork_service.events import EVENTS
 
 SECONDS = 60
 BACK = "1 m1 fork 1.2 0 : forked\n2 m1 await-ready 1.2 0 : gone\n3 m1 census 1.1 : counted 0-1\nrolled-back cause 2 pid no-file\n"

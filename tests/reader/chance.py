@@ -103,8 +103,8 @@ def any_name(dice: random.Random, r: Record) -> Name:
     if dice.randrange(8) == 0:
         return name.Master(image + 1 if dice.randrange(12) else image)
     g = dice.choice(((image, config), (image, config), (image, config + 1), (image + 1, config + 1)))
-    kind = dice.choice((name.Worker, name.Worker, name.Worker, name.Draining))
-    return kind(Generation(*g), dice.randrange(MOST_WORKERS))
+    kinds: tuple[type[name.Worker] | type[name.Draining], ...] = (name.Worker, name.Worker, name.Worker, name.Draining)
+    return dice.choice(kinds)(Generation(*g), dice.randrange(MOST_WORKERS))
 
 
 class Density(NamedTuple):

@@ -5,7 +5,7 @@ The deaths of a life are looked at one after another in living.py: `Throughout` 
 from reader.addresses import Address, Addresses, FilePath
 from reader.calls import with_file
 from reader.claims import distinct
-from reader.lives import HasProcessesFor, IsStanding, Life, is_healing, is_open, quietly
+from reader.lives import IsStanding, Life, is_healing, is_open, quietly
 from reader.master import Record, layout_in, oldbin, served
 from reader.numbers import numbers_below
 from reader.settings import Settings

@@ -351,6 +351,11 @@ def stop_tree(by: int, g: Generation, ready: Numbers, path: FilePath | None, not
 # Two parts of a plan that two masters carry out side by side: under a list of turns they are an ordinary tree
 
 
+def after(branch: Branch, made: Callable[[Tree], Tree]) -> Later:
+    """What is made of the rest of a branch, once it is asked for."""
+    return Later(lambda: made(branch.rest))
+
+
 def graft(then: Callable[[End], Tree], tree: Tree) -> Tree:
     """The ends of a part are marks: each gives way to what follows it."""
     at = shown(tree)
@@ -360,7 +365,7 @@ def graft(then: Callable[[End], Tree], tree: Tree) -> Tree:
 
 
 def graft_all(then: Callable[[End], Tree], branches: Branches) -> Branches:
-    return tuple(Branch(b.replies, b.said, Later(lambda b=b: graft(then, b.rest))) for b in branches)
+    return tuple(Branch(b.replies, b.said, after(b, lambda rest: graft(then, rest))) for b in branches)
 
 
 def beside(goes: Callable[[Turns, Tree], Tree], turns: Turns, old: Tree) -> Tree:
@@ -375,7 +380,7 @@ def beside(goes: Callable[[Turns, Tree], Tree], turns: Turns, old: Tree) -> Tree
 
 
 def beside_all(goes: Callable[[Turns, Tree], Tree], turns: Turns, branches: Branches) -> Branches:
-    return tuple(Branch(b.replies, b.said, Later(lambda b=b: beside(goes, turns, b.rest))) for b in branches)
+    return tuple(Branch(b.replies, b.said, after(b, lambda rest: beside(goes, turns, rest))) for b in branches)
 
 
 def weave(join: Callable[[End], Tree], new: Tree, turns: Turns, old: Tree) -> Tree:
@@ -394,7 +399,7 @@ def weave(join: Callable[[End], Tree], new: Tree, turns: Turns, old: Tree) -> Tr
 
 
 def weave_all(join: Callable[[End], Tree], branches: Branches, turns: Turns, old: Tree) -> Branches:
-    return tuple(Branch(b.replies, b.said, Later(lambda b=b: weave(join, b.rest, turns, old))) for b in branches)
+    return tuple(Branch(b.replies, b.said, after(b, lambda rest: weave(join, rest, turns, old))) for b in branches)
 
 
 def joined(ready: Tree, back: Tree, end: End) -> Tree:

@@ -93,7 +93,8 @@ def name_in(text: str) -> name.Name:
     if text.startswith("m"):
         return name.Master(int(text[1:]))
     image, config, nr = map(int, text[1:].split("."))
-    return (name.Worker if text.startswith("w") else name.Draining)(Generation(image, config), nr)
+    generation = Generation(image, config)
+    return name.Worker(generation, nr) if text.startswith("w") else name.Draining(generation, nr)
 
 
 def section_in(text: str) -> tuple[Turns, Moments]:

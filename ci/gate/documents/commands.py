@@ -7,6 +7,7 @@ import shutil
 import subprocess
 import tempfile
 from collections.abc import Iterator
+from typing import Any
 
 from gate.documents.pages import CONVENTION, Tree, plain_man
 
@@ -54,7 +55,7 @@ def lay_out(tree: Tree, room: pathlib.Path) -> dict[str, str]:
 
 def run(command: Command, folder: pathlib.Path, environment: dict[str, str]) -> Iterator[str]:
     """What a command does otherwise than its page says."""
-    how = {"stdin": subprocess.DEVNULL, "stdout": subprocess.PIPE, "stderr": subprocess.STDOUT, "text": True}
+    how: dict[str, Any] = {"stdin": subprocess.DEVNULL, "stdout": subprocess.PIPE, "stderr": subprocess.STDOUT, "text": True}
     words = ["bash", "-c", command.typed]
     try:
         ended = subprocess.run(words, cwd=folder, env=environment, timeout=SECONDS, errors="replace", **how)
