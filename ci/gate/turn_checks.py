@@ -59,7 +59,7 @@ def begins_late(times: Times) -> Iterator[str]:
         yield "no second check begins after the proofs"
 
 
-def is_stopped(times: Times) -> Iterator[str]:
+def stops_and_goes_on(times: Times) -> Iterator[str]:
     """A check is stopped while others wait for a processor, and goes on once one is spare, or the proofs have ended."""
     turns, times.spare = times.turns, 1.0
     threading.Thread(target=turns.watch, daemon=True).start()
@@ -77,7 +77,7 @@ def is_stopped(times: Times) -> Iterator[str]:
             subprocess.run(["kill", "-9", str(number)], check=False)
 
 
-CHECKS: tuple[Callable[[Times], Iterator[str]], ...] = (begins_late, is_stopped)
+CHECKS: tuple[Callable[[Times], Iterator[str]], ...] = (begins_late, stops_and_goes_on)
 
 
 def faults(check: Callable[[Times], Iterator[str]]) -> list[str]:

@@ -44,7 +44,7 @@ class Life(Run):
         if self.setup.takes_all:
             for word, to in (("HUP", (first, second)), ("USR2", (second, first)), ("HUP", (first,))):
                 self.goes_over(word, *to)
-        self.is_rolled_back("does not load")
+        self.rolls_back("does not load")
         self.end_load()
         for word, address in (("HUP", second), ("USR2", first)):
             self.goes_over(word, address)
@@ -85,13 +85,13 @@ class Probed(Run):
         self.begin()
         self.begin_load()
         if self.setup.probed == setups.FROM_START:
-            self.is_rolled_back(ANSWERS_500, "try HUP", "failed not-ready")
+            self.rolls_back(ANSWERS_500, "try HUP", "failed not-ready")
             self.goes_over("HUP")
             self.end_load()
-            self.is_rolled_back(ANSWERS_500)
+            self.rolls_back(ANSWERS_500)
         else:
             for word in ("HUP", "USR2"):
-                self.is_rolled_back(ANSWERS_500, word)
+                self.rolls_back(ANSWERS_500, word)
             self.goes_over("HUP")
             self.end_load()
         self.stop()
@@ -106,9 +106,9 @@ class Reloads(Run):
         for _ in range(HUPS):
             self.goes_over("HUP")
         for breaks in BROKEN:
-            self.is_rolled_back(breaks)
+            self.rolls_back(breaks)
         # (it is waited for once, and not for each worker and each of its tries: that would take longer than a word may)
-        self.is_rolled_back("hangs", "USR2")
+        self.rolls_back("hangs", "USR2")
         self.goes_over("USR2")
         self.end_load()
         self.stop()
@@ -192,12 +192,12 @@ class Hanging(Run):
 
     def go(self) -> None:
         self.begin(timeout=6)
-        self.is_replaced("by a tick")
+        self.replaces_one("by a tick")
         is_killed = comes(lambda: " m1 kill 1.1 " in text_in(self.folder / "blocks"))
         self.check("no tick has killed the worker that hangs", is_killed)
         status, block = self.sent("USR2")
         self.check(f"USR2: status {status}: {block}", status == 0)
-        self.is_replaced("after an upgrade")
+        self.replaces_one("after an upgrade")
         self.stop()
         self.certify()
 
@@ -205,7 +205,7 @@ class Hanging(Run):
         running = self.mark.processes().items()
         return {number for number, words in running if words[:1] == [kit.PYTHON] and words[-1].endswith("/page.py")}
 
-    def is_replaced(self, when: str) -> None:
+    def replaces_one(self, when: str) -> None:
         before = self.programs()
         self.check(f"{when}: {before} run", len(before) == 2)
         with concurrent.futures.ThreadPoolExecutor(1) as pool:

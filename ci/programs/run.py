@@ -255,7 +255,7 @@ class Run:
             wrong += [] if whole else [answer[:100]]
         return wrong
 
-    def is_rolled_back(self, breaks: str, word: str = "HUP", report: str = "rolled-back ") -> None:
+    def rolls_back(self, breaks: str, word: str = "HUP", report: str = "rolled-back ") -> None:
         """A release that does not start: the old one serves on, and the link leads to it again."""
         self.release(breaks)
         status, block = self.sent(word)

@@ -154,7 +154,7 @@ def heals(site: Site) -> None:
     site.check("a restart leaves the same process", site.main() not in (0, old))
 
 
-def is_upgraded(site: Site, package: pathlib.Path) -> None:
+def upgrades(site: Site, package: pathlib.Path) -> None:
     """A newer package restarts nothing; an upgrade takes its program into use, and a restart all of it."""
     old = site.main()
     newer = newer_of(site.room, package)
@@ -216,7 +216,7 @@ def fails_to_start(site: Site) -> None:
     site.check(f"a name without a configuration: {told}", "Assertion failed" in told)
 
 
-def is_removed(site: Site) -> None:
+def removes(site: Site) -> None:
     """Its removal stops services; a purge leaves what others have made, and no link that leads nowhere."""
     site.systemctl("start", UNIT)
     site.systemctl("enable", f"{UNIT}.socket")
@@ -231,7 +231,7 @@ def is_removed(site: Site) -> None:
     site.check(f"a purge leaves {left}", left == ["site.toml"])
 
 
-def is_run(room: Room) -> None:
+def runs_booted(room: Room) -> None:
     """A service of the package, from its installation to its purge."""
     package = room.the_package()
     machine, took = Machine(room), list[str]()
@@ -240,8 +240,8 @@ def is_run(room: Room) -> None:
         site = Site(machine)
         for name, step in {
             "installation": lambda: begins(site, package), "reloads": lambda: reloads(site), "kill, watchdog and restart": lambda: heals(site),
-            "a newer package": lambda: is_upgraded(site, package), "stop": lambda: stops(site),
-            "a start that fails": lambda: fails_to_start(site), "purge": lambda: is_removed(site),
+            "a newer package": lambda: upgrades(site, package), "stop": lambda: stops(site),
+            "a start that fails": lambda: fails_to_start(site), "purge": lambda: removes(site),
         }.items():
             began = time.monotonic()
             step()

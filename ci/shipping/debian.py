@@ -40,7 +40,7 @@ def built(prefork: str, folder: pathlib.Path) -> pathlib.Path:
     return made
 
 
-def is_built(room: Room) -> None:
+def builds_packages(room: Room) -> None:
     """It has what it should have, is the same each time, and has a program that is not proved only by that name."""
     package = room.the_package()
     listed = ran("dpkg-deb", "--contents", package).stdout
@@ -57,7 +57,7 @@ def is_built(room: Room) -> None:
     pleases_lintian(room, package)
     version = ran("dpkg-deb", "--field", package, "Version").stdout.strip()
     room.check(f"an unproved program is in version {version}", version.endswith("~unproved"))
-    is_only_proved(room, version.partition("~")[0])
+    takes_only_what_is_proved(room, version.partition("~")[0])
 
 
 def lead_somewhere(room: Room, package: pathlib.Path) -> None:
@@ -79,7 +79,7 @@ def pleases_lintian(room: Room, package: pathlib.Path) -> None:
     room.check(f"lintian: {found.stdout}", found.returncode == 0)
 
 
-def is_only_proved(room: Room, version: str) -> None:
+def takes_only_what_is_proved(room: Room, version: str) -> None:
     """Without the option, a program is refused that has no proof, or an older one than its sources. A short script
     stands for the program, of which two packages are the same."""
     tree = room.path / "tree"

@@ -157,7 +157,7 @@ class Fleet:
             host.close()
 
 
-def is_refused(fleet: Fleet) -> None:
+def refuses(fleet: Fleet) -> None:
     """The fourth host's configuration would be left short by a single event: it is told nothing."""
     status, said = fleet.played("site.yml", fleet.inventory({}, version=2))
     fleet.check(f"the roll-out has status {status}: {said}", status != 0)
@@ -175,7 +175,7 @@ def goes_back(fleet: Fleet) -> None:
     fleet.check(f"they go back in the order {order}", order == ["three", "two", "one"])
 
 
-def is_rolled_back(fleet: Fleet) -> None:
+def rolls_back(fleet: Fleet) -> None:
     """An upgrade of two at a time. The fourth host's application does not start: its old service runs. The third, which was
     told at the same time, and the first two are taken back. The fifth would be refused, and isn't asked."""
     host = fleet.hosts["four"]
@@ -202,15 +202,15 @@ def does_not_answer(fleet: Fleet) -> None:
     fleet.check(f"the reason isn't said: {said}", f"two is done, and {asked['two']['prefork_url']} does not answer" in said)
 
 
-def is_rolled_out(room: Room) -> None:
+def rolls_out(room: Room) -> None:
     needs("ansible-playbook")
     fleet = Fleet(room)
     try:
         fleet.begin()
         fleet.told()
-        is_refused(fleet)
+        refuses(fleet)
         goes_back(fleet)
-        is_rolled_back(fleet)
+        rolls_back(fleet)
         does_not_answer(fleet)
         fleet.end()
     finally:

@@ -91,7 +91,7 @@ class Machine:
             streams: dict[str, Any] = {"stdin": subprocess.DEVNULL, "stdout": said, "stderr": said}
             self.holder = subprocess.Popen(["sh", "-c", enter, str(self.group), *map(str, command)], **streams)
         try:
-            until("systemd", lambda: self.holder.poll() is not None or self.is_running(), BOOT_SECONDS)
+            until("systemd", lambda: self.holder.poll() is not None or self.find_systemd(), BOOT_SECONDS)
         except Wrong:
             self.holder.kill()
             self.holder.wait()
@@ -99,7 +99,7 @@ class Machine:
             said_last = (self.said.read_text().splitlines() or ["it says nothing"])[-1]
             raise Missing(f"systemd does not run in name spaces here: {said_last}")
 
-    def is_running(self) -> bool:
+    def find_systemd(self) -> bool:
         process = self.holder.pid
         children = pathlib.Path(f"/proc/{process}/task/{process}/children").read_text().split()
         if not children:

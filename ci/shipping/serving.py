@@ -158,7 +158,7 @@ def low_address() -> str:
     raise ValueError("no port below 1024 is free")
 
 
-def is_served(room: Room) -> None:
+def serves(room: Room) -> None:
     """Installs the package, runs services from it, and removes it."""
     package = room.the_package()
     needs_root()
@@ -170,7 +170,7 @@ def is_served(room: Room) -> None:
     trials = {without_rights: "", as_first_process: "", as_two_users: "", at_a_low_port: low_address()}
     with concurrent.futures.ThreadPoolExecutor() as pool:
         list(pool.map(lambda trial: tried(room, root, trial, trials[trial]), trials))
-    is_removed(room, root)
+    removes_all(room, root)
 
 
 def tried(room: Room, root: Root, trial: Callable[[Service], None], address: str) -> None:
@@ -181,7 +181,7 @@ def tried(room: Room, root: Root, trial: Callable[[Service], None], address: str
         service.close()
 
 
-def is_removed(room: Room, root: Root) -> None:
+def removes_all(room: Room, root: Root) -> None:
     """Nothing is left of it but its configuration, and after a purge what others have put there."""
     own = root.path / "etc" / "prefork" / "site.toml"
     own.write_text("workers = 1\n")

@@ -13,7 +13,7 @@ MOST_EXPOSURE = 2.0
 PROGRAMS = re.compile(r"/usr/bin/prefork[a-z-]*")
 
 
-def are_right(room: Room) -> None:
+def units_are_read(room: Room) -> None:
     """Each unit is read without a complaint, as it is and with its drop-in."""
     needs("systemd-analyze")
     folder = room.path / "units"

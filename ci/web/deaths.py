@@ -277,7 +277,7 @@ def deaths(who: str, wanted: Sequence[Death], name: str) -> Scenario:
             site.wants("HUP", 0, "done", 2)
             print(f"{name}: {len(places)} deaths ({'; '.join(places)}): {told_of(site.end('1'))}", flush=True)
             site.certify()
-            is_one_life(site, [death.word for death in wanted] if who == MASTER else [])
+            certify_one_life(site, [death.word for death in wanted] if who == MASTER else [])
         finally:
             if systemd:
                 systemd.close()
@@ -287,7 +287,7 @@ def deaths(who: str, wanted: Sequence[Death], name: str) -> Scenario:
     return scenario
 
 
-def is_one_life(site: Site, words: list[str]) -> None:
+def certify_one_life(site: Site, words: list[str]) -> None:
     """The records are accepted, and masters that died in these words are one life with the last one."""
     said, faults, ended = certified(site)
     site.check(f"certify: {ended} {said} {faults}", ended == 0)

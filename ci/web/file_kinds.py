@@ -158,7 +158,7 @@ def is_of(site: Site, kind: Kind, version: int) -> bool:
     return len(workers) == 2 and finish == {str(20 + version)} and is_told and is_set and has_nice and has_user
 
 
-def are_of(site: Site, kind: Kind, version: int) -> None:
+def check_users_of(site: Site, kind: Kind, version: int) -> None:
     until(f"two workers of version {version}", lambda: is_of(site, kind, version))
     site.answered_by(version)
 
@@ -169,7 +169,7 @@ def one_starts_again(site: Site, kind: Kind, version: int, versions: str) -> Non
     old = site.workers()
     site.kill(min(old))
     until("another worker", lambda: len(site.workers()) == 2 and len(site.workers() & old) == 1)
-    are_of(site, kind, version)
+    check_users_of(site, kind, version)
     site.begin_load()
 
 
@@ -193,7 +193,7 @@ def goes_back(site: Site, kind: Kind, version: int, number: int) -> None:
     answers(site, number, "back")
     block, _ = sent.communicate(timeout=SECONDS)
     site.check(f"back at question {number}: {block}", sent.returncode == 3 and "\nrolled-back " in block)
-    are_of(site, kind, version)
+    check_users_of(site, kind, version)
     one_starts_again(site, kind, version, str(version + number))
 
 
@@ -205,14 +205,14 @@ def goes_there_and_back(site: Site, kind: Kind) -> None:
     site.program, site.is_in_file, site.is_forked, site.options = [], True, True, kind.options
     site.load_options = ["--again"] if kind.closes_kept else []
     site.begin(service=kind.table(site, 1), listeners=[listener_of(site, kind)])
-    are_of(site, kind, 1)
+    check_users_of(site, kind, 1)
     for version, word in ((2, "HUP"), (3, "USR2")):
         configure(site, kind, kind.table(site, version))
         site.wants(word, 0, "done", 2)
-        are_of(site, kind, version)
+        check_users_of(site, kind, version)
         configure(site, kind, kind.table(site, 5, is_broken=True))
         site.wants("HUP", 3, "rolled-back", 2)
-        are_of(site, kind, version)
+        check_users_of(site, kind, version)
         one_starts_again(site, kind, version, str(version - 1))
     for number in (1, 2):
         goes_back(site, kind, 3, number)

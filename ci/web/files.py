@@ -64,7 +64,7 @@ def is_of(site: Site, version: int, count: int = 2) -> bool:
     return len(workers) == count and is_right and has_nice and set(finish) == {str(20 + version)}
 
 
-def are_of(site: Site, version: int) -> None:
+def check_users_of(site: Site, version: int) -> None:
     until(f"two workers of version {version}", lambda: is_of(site, version))
     site.answered_by(version)
 
@@ -74,7 +74,7 @@ def one_starts_again(site: Site, version: int) -> None:
     old = site.workers()
     site.kill(min(old))
     until("another worker", lambda: len(site.workers()) == 2 and len(site.workers() & old) == 1)
-    are_of(site, version)
+    check_users_of(site, version)
 
 
 def shows_no_secret(site: Site) -> None:
@@ -96,15 +96,15 @@ def all_of_it_is_in_the_file(site: Site) -> None:
     """HUP and USR2 change environment, options and priority; a rollback takes them back; a worker that starts again, and all
     of a master that is started again, have those of the version that runs."""
     begin(site)
-    are_of(site, 1)
+    check_users_of(site, 1)
     for version, word in ((2, "HUP"), (3, "USR2")):
         site.configure(service=in_file(site, version))
         site.wants(word, 0, "done", 2)
-        are_of(site, version)
+        check_users_of(site, version)
         one_starts_again(site, version)
         site.configure(service=in_file(site, 9, program=FAILS))
         site.wants(word if version == 2 else "HUP", 3, "rolled-back", 2)
-        are_of(site, version)
+        check_users_of(site, version)
         one_starts_again(site, version)
     shows_no_secret(site)
     site.configure(service={**in_file(site, 4), "thread": 1})
@@ -114,7 +114,7 @@ def all_of_it_is_in_the_file(site: Site) -> None:
     old = site.workers()
     site.kill(site.master())
     until("other workers", lambda: site.has_others(old))
-    are_of(site, 3)
+    check_users_of(site, 3)
     site.end("123", may_fail=4 * CLIENTS)
 
 
@@ -132,7 +132,7 @@ def back_takes_the_file_back(site: Site) -> None:
         answers(site, at, "back")
         block, _ = sent.communicate(timeout=SECONDS)
         site.check(f"back at question {at}: {block}", sent.returncode == 3 and "\nrolled-back " in block)
-        are_of(site, 1)
+        check_users_of(site, 1)
         one_starts_again(site, 1)
     site.end("1", may_fail=2 * CLIENTS, perhaps="23")
 
@@ -144,7 +144,7 @@ def a_service_is_killed_and_the_file_is_refused(site: Site) -> None:
     variables.write_text("FROM_FILE=one\n")
     site.configure(service=in_file(site, 2, environment_files=["variables"]))
     site.wants("HUP", 0, "done", 2)
-    are_of(site, 2)
+    check_users_of(site, 2)
     variables.write_text("FROM_FILE=two\n")
     one_starts_again(site, 2)
     site.configure(service={**in_file(site, 3, environment_files=["variables"]), "thread": 1})
@@ -154,7 +154,7 @@ def a_service_is_killed_and_the_file_is_refused(site: Site) -> None:
     site.serve.wait()
     until("the end of the old workers", lambda: not site.workers() & old)
     site.serve = site.started()
-    are_of(site, 2)
+    check_users_of(site, 2)
     found = {environment_of(one).get("FROM_FILE") for one in site.workers()}
     site.check(f"variables of a file are {found}", found == {"one"})
     site.begin_load()
@@ -174,16 +174,16 @@ def a_file_names_the_user(site: Site) -> None:
     for version, user, word in ((2, "nobody", "HUP"), (3, "daemon", "USR2"), (4, "nobody", "HUP")):
         site.configure(service=in_file(site, version, user=user, ready="accept"))
         site.wants(word, 0, "done", 2)
-        are_of(site, version)
-        are_users(site, user)
+        check_users_of(site, version)
+        check_users_named(site, user)
     site.configure(service=in_file(site, 9, user="daemon", program=FAILS, ready="accept"))
     site.wants("HUP", 3, "rolled-back", 2)
     one_starts_again(site, 4)
-    are_users(site, "nobody")
+    check_users_named(site, "nobody")
     site.end("1234", may_fail=CLIENTS)
 
 
-def are_users(site: Site, name: str) -> None:
+def check_users_named(site: Site, name: str) -> None:
     """The workers run as a user, with its groups and its home, and without rights."""
     user = pwd.getpwnam(name)
     for one in site.workers():

@@ -17,7 +17,7 @@ def new_masters(site: Site) -> list[int]:
     return [number for number, words in site.mark.processes().items() if words[:2] == [site.prefork, "adopt"]]
 
 
-def is_certified(site: Site) -> None:
+def certify_relay(site: Site) -> None:
     said, faults, ended = certified(site)
     site.check(f"certify: {ended} {said} {faults}", ended == 0 and "accepted" in said)
 
@@ -39,7 +39,7 @@ def a_relay_is_killed(site: Site) -> None:
     until("two workers of the next master", lambda: has_recovered(site, old))
     upgraded(site, 4)
     site.end("1234")
-    is_certified(site)
+    certify_relay(site)
 
 
 def a_deputy_is_killed(site: Site) -> None:
@@ -60,7 +60,7 @@ def a_deputy_is_killed(site: Site) -> None:
     site.check("the old workers are not those from before", old == site.workers())
     upgraded(site, 3)
     site.end("123")
-    is_certified(site)
+    certify_relay(site)
 
 
 SCENARIOS: tuple[Scenario, ...] = (a_relay_is_killed, a_deputy_is_killed)

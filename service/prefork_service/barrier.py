@@ -73,10 +73,10 @@ class Barrier:
                 key.data(key.fileobj)
         except Exception as fault:
             self.note(name_of(key.data), fault)
-            if self.is_often((name_of(key.data), key.fd)):
+            if self.count_fault((name_of(key.data), key.fd)):
                 self.forsake(events, key)
 
-    def is_often(self, source: Any) -> bool:
+    def count_fault(self, source: Any) -> bool:
         """Whether a source has failed too often; that is forgotten then."""
         now = time.monotonic()
         faults = self.faults.setdefault(source, collections.deque(maxlen=MOST_FAULTS))

@@ -87,7 +87,8 @@ class Survival:
         self.seen = time.monotonic()
         return True
 
-    def is_over(self) -> bool:
+    def look(self) -> bool:
+        """Whether this worker serves on no longer. It says so itself, if it was not told for too long."""
         try:
             touched = os.stat(self.path).st_mtime_ns
         except OSError:

@@ -1,8 +1,5 @@
 """What is said of blocks to people."""
-import re
-
 from .blocks import block_of
-from .refusing import mistake_of
 from .words import CHANGES
 
 # The calls by which a worker or a master starts.
@@ -17,18 +14,6 @@ PRELOADER_SERVES = "the workers that run are of the version before. One that end
     "that version, mend the new one and send HUP"
 # What its operator is told that has taken away the last worker.
 NOBODY_SERVES = "nobody serves: no worker is wanted, and connections wait until TTIN or HUP"
-
-# A line of a refusal that begins to explain a code.
-EXPLAINED = re.compile(r"  [A-Z]\d+: ")
-
-
-def refusal_shown(config: str, refusal: str) -> str:
-    """A refusal of the master's program, shortened: the place, what is wrong there, and what is allowed."""
-    mistake, lines = mistake_of(refusal), refusal.splitlines()
-    if not mistake:
-        return f"{config}: {refusal}"
-    last = max((at for at, line in enumerate(lines) if EXPLAINED.match(line)), default=len(lines))
-    return "\n".join([mistake, *(line for line in lines[last + 1 :] if line.startswith("    "))])
 
 
 def is_broken(word: str, text: str) -> bool:

@@ -60,8 +60,8 @@ class Patience:
         answers = OF_TICK if self.is_short else OF_WORD
         return answers * self.answer + MARGIN + (0.0 if self.is_short else self.ready)
 
-    def is_over(self) -> bool:
-        """Whether the master owes the block for too long. It is asked in each turn."""
+    def spend(self) -> bool:
+        """Counts a turn; whether the master owes the block for too long."""
         now = time.monotonic()
         self.spent, self.last = self.spent + min(now - self.last, MOST_TURN), now
         if not self.answer or self.spent <= self.seconds():
@@ -100,7 +100,7 @@ class Hanging:
             # Its operator may take any time; and a word whose configuration is still read was not told.
             self.patience.begin(False)
             return
-        if not self.patience.is_over():
+        if not self.patience.spend():
             return
         word, first, seconds = service.current.text, service.master.process.pid, self.patience.seconds()
         is_new = word in UPGRADES and kill_masters(first, self.masters) > 0

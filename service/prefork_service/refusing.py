@@ -49,3 +49,12 @@ def refused(prefork: str, file: str) -> list[str]:
     """What is wrong with a configuration that a master has refused."""
     refusal = refusal_of(prefork, pathlib.Path(file))
     return [mistake_of(refusal)] if refusal else []
+
+
+def refusal_shown(config: str, refusal: str) -> str:
+    """A refusal of the master's program, shortened: the place, what is wrong there, and what is allowed."""
+    mistake, lines = mistake_of(refusal), refusal.splitlines()
+    if not mistake:
+        return f"{config}: {refusal}"
+    last = max((at for at, line in enumerate(lines) if CODE.match(line)), default=len(lines))
+    return "\n".join([mistake, *(line for line in lines[last + 1 :] if line.startswith("    "))])

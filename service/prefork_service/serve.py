@@ -54,13 +54,12 @@ from .inheriting import make_way, of_systemd
 from .limits import answer_seconds, known, limits_of
 from .needs import needs_of, shortages
 from .options import arguments, fault_of_adapter, hooks_of, place_of, processes_each, told_of
-from .outcomes import refusal_shown
 from .programs import fault_of
 from .quickly import configured
 from .reader import SiteFile
 from .recipes import Runs
 from .records import MEGABYTE
-from .refusing import refusal_of
+from .refusing import refusal_of, refusal_shown
 from .sites import is_site
 from .starting import take_signals
 from .titles import set_title

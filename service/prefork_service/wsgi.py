@@ -103,7 +103,7 @@ class Worker:
         survival = Survival(self.given.finish)
         if not self.server or self.server.is_told_to_finish or not survival.begins():
             return
-        while not survival.is_over():
+        while not survival.look():
             time.sleep(SURVIVAL_LOOK)
             self.end_if_broken()
 

@@ -198,7 +198,7 @@ class Server:
             self.requests.write()
             if self.is_told_to_finish:
                 deadline = deadline or self.turned + finish
-                if self.has_finished(idle) or self.turned > deadline:
+                if self.close_idle(idle) or self.turned > deadline:
                     return
             pause = SERVER_SHORT_PAUSE if self.is_told_to_finish else SERVER_PAUSE
             wasyncore.loop(timeout=pause, use_poll=True, map=self.map, count=1)
@@ -255,7 +255,7 @@ class Server:
         self.dispatcher.shutdown()
         self.trigger.close()
 
-    def has_finished(self, idle: float) -> bool:
+    def close_idle(self, idle: float) -> bool:
         """Closes connections that are idle; whether none is open."""
         channels = [one for one in self.map.values() if isinstance(one, HTTPChannel)]
         for one in channels:

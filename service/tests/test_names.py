@@ -6,6 +6,12 @@ import unittest
 from collections.abc import Iterator
 
 PACKAGE = pathlib.Path(__file__).resolve().parent.parent / "prefork_service"
+TOP = PACKAGE.parent.parent
+QUESTIONS = ("is_", "has_", "are_", "can_")
+# What a question does not do.
+ACTS = {"kill", "unlink", "write_text", "send_signal", "terminate", "say", "pop", "put"}
+# Their text is part of each key of the ledger.
+UNTYPED = ("kit.py", "refusals.py")
 
 
 def targets_of(node: ast.stmt) -> list[ast.expr]:
@@ -34,6 +40,26 @@ def defined_in(source: str) -> set[str]:
     return found
 
 
+def scripts() -> list[pathlib.Path]:
+    """The scripts of the gate in Python, which have no suffix."""
+    files = (file for file in (TOP / "ci").iterdir() if file.is_file() and not file.suffix)
+    return [file for file in files if b"python3" in file.read_bytes().partition(b"\n")[0]]
+
+
+def wrong_questions(source: str) -> Iterator[str]:
+    """Functions that are named as questions, and have no answer or change something."""
+    for node in ast.walk(ast.parse(source)):
+        if isinstance(node, ast.FunctionDef) and node.name.startswith(QUESTIONS):
+            told = ast.unparse(node.returns) if node.returns else ""
+            if not told.startswith(("bool", "TypeGuard")):
+                yield f"{node.name} -> {told}"
+            for part in ast.walk(node):
+                for target in part.targets if isinstance(part, ast.Assign) else [part.target] if isinstance(part, ast.AugAssign) else []:
+                    yield from (f"{node.name} changes {ast.unparse(one)}" for one in ast.walk(target) if isinstance(one, ast.Attribute))
+                if isinstance(part, ast.Call) and isinstance(part.func, ast.Attribute) and part.func.attr in ACTS:
+                    yield f"{node.name} does {part.func.attr}"
+
+
 def twice(sources: dict[str, str]) -> dict[str, list[str]]:
     """The names that several modules define, with these."""
     places = collections.defaultdict[str, list[str]](list)
@@ -55,15 +81,17 @@ class NamesTest(unittest.TestCase):
         self.assertEqual(twice(sources), {"A": ["one", "other"], "B": ["one", "other"], "C": ["last", "other"], "Queue": ["one", "other"]})
 
     def test_functions_that_are_questions_only_answer(self) -> None:
-        """A function whose name asks something has an answer, and what it gives is used as one."""
-        lost = []
-        for file in sorted(PACKAGE.glob("*.py")):
-            for node in ast.walk(ast.parse(file.read_text())):
-                if isinstance(node, ast.FunctionDef) and node.name.startswith(("is_", "has_")):
-                    told = ast.unparse(node.returns) if node.returns else ""
-                    if not told.startswith(("bool", "TypeGuard")):
-                        lost.append(f"{file.name}: {node.name} -> {told}")
+        """A function whose name asks something has an answer, and changes nothing; so it is in the service, the gate and the
+        port."""
+        files = [*PACKAGE.glob("*.py"), *(TOP / "ci").rglob("*.py"), *(TOP / "tests" / "reader").glob("*.py"), *scripts()]
+        lost = [f"{file.name}: {fault}" for file in sorted(files) if file.name not in UNTYPED for fault in wrong_questions(file.read_text())]
         self.assertEqual(lost, [])
+
+    def test_such_a_question_is_found(self) -> None:
+        """So that the test above is one that can fail."""
+        source = "def is_a(it) -> None:\n    pass\ndef has_b(it) -> bool:\n    it.c = 1\n    return it.d\ndef is_e(it) -> bool:\n    return it.kill()\n" \
+            "def is_f(it) -> bool:\n    it = it.g\n    return it\n"
+        self.assertEqual([*wrong_questions(source)], ["is_a -> None", "has_b changes it.c", "is_e does kill"])
 
 
 if __name__ == "__main__":

@@ -35,7 +35,7 @@ class PatienceTest(unittest.TestCase):
         for _ in range(int(seconds)):
             self.ahead += 1
             with mock.patch.object(patience, "time", clock_ahead(self.ahead)):
-                found = self.patience.is_over()
+                found = self.patience.spend()
         return found
 
     def test_a_tick_has_less_time_than_another_word(self) -> None:
@@ -65,7 +65,7 @@ class PatienceTest(unittest.TestCase):
         self.patience.begin(True)
         self.ahead = 10_000.0
         with mock.patch.object(patience, "time", clock_ahead(self.ahead)):
-            self.assertFalse(self.patience.is_over())
+            self.assertFalse(self.patience.spend())
         self.assertLessEqual(self.patience.spent, MOST_TURN)
 
     def test_a_master_that_does_not_end_after_a_stop_is_killed(self) -> None:

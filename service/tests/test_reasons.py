@@ -1,5 +1,6 @@
 """Why calls failed."""
 import pathlib
+import subprocess
 import tempfile
 import unittest
 from unittest import mock
@@ -73,9 +74,14 @@ class ReasonsTest(unittest.TestCase):
     def test_many_failed_starts_start_one_process(self) -> None:
         """Nobody is answered meanwhile, and a tick of a big service can fail to start hundreds of workers."""
         failed = block(*(f"{number} m1 fork 1.2 {number} : again" for number in range(1, 201)))
-        with mock.patch("prefork_service.explaining.subprocess.run") as run:
-            self.assertEqual(len(explained(failed, {})), 1)
-        self.assertEqual(run.call_count, 1)
+        with tempfile.TemporaryDirectory() as room:
+            launch, begun = pathlib.Path(room) / "launch", pathlib.Path(room) / "begun"
+            launch.write_text(f"#!/bin/sh\necho begun >>'{begun}'\n")
+            launch.chmod(0o755)
+            started = mock.Mock(side_effect=subprocess.Popen)
+            with mock.patch.object(places, "LAUNCH", launch), mock.patch.object(subprocess, "Popen", started):
+                self.assertEqual(len(explained(failed, {})), 1)
+            self.assertEqual((begun.read_text(), started.call_count), ("begun\n", 1))
 
     def test_plain_calls_need_no_reason(self) -> None:
         plain = ("1 m1 open 127.0.0.1:80 : opened 4", "2 m1 fork 1.2 0 fds 3-4 : forked", "3 m1 census 1.2 : counted 0-2",
