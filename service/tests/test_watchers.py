@@ -62,7 +62,7 @@ class WatchersTest(unittest.TestCase):
         self.addCleanup(self.showing.end)
 
     def made(self, watchers: int) -> tuple[int, int]:
-        """How often the status is found out, and the page is drawn, while so many pages are open for some seconds."""
+        """How often the status is found out, and the page is drawn, while a number of pages are open for some seconds."""
         looked, drawn = mock.Mock(side_effect=self.picture.looked), mock.Mock(side_effect=view.event_of)
         self.picture.remembered = remembering.Remembered()
         self.showing.told = {}, None, ""
