@@ -22,7 +22,7 @@ if TYPE_CHECKING:
 
 # How often the file of metrics is written, and how often it is tried to open an address. How old the status of a page may be
 # that is open: it asks each second.
-FILE_SECONDS, OPEN_SECONDS, PAGE_SECONDS = 10.0, 1.0, 0.5
+FILE_SECONDS, OPEN_SECONDS, PAGE_SECONDS = 10.0, 1.0, 0.9
 
 
 class Showing:

@@ -76,10 +76,10 @@ class WatchersTest(unittest.TestCase):
         return looked.call_count, drawn.call_count
 
     def test_the_status_is_found_out_and_drawn_once_for_all_pages_that_are_open(self) -> None:
-        looked, drawn = self.made(WATCHERS)
-        self.assertEqual(looked, drawn)
-        self.assertLessEqual(looked, SECONDS / PAGE_SECONDS)
-        self.assertEqual(self.made(10 * WATCHERS)[0], looked)
+        for watchers in (WATCHERS, 10 * WATCHERS):
+            looked, drawn = self.made(watchers)
+            self.assertEqual(looked, drawn)
+            self.assertLessEqual(looked, 1 + SECONDS / PAGE_SECONDS)
         self.assertEqual(self.made(1), (SECONDS, SECONDS))
 
     def test_what_pages_at_a_moment_are_told_is_the_same(self) -> None:
