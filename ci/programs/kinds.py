@@ -133,7 +133,7 @@ class Steps(Run):
             self.check(f"surge {self.surge}: old workers are left", not before & set(self.workers()))
             self.notes.append(f"surge {self.surge}: at most {most} workers")
         for breaks in BROKEN[:2]:
-            most = self.most_meanwhile(lambda: self.is_rolled_back(breaks))
+            most = self.most_meanwhile(lambda: self.rolls_back(breaks))
             self.check(f"{breaks}: {most} workers ran at once", most <= STEPPED + self.surge)
         self.end_load()
         self.stop()
