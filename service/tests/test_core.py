@@ -20,7 +20,7 @@ OURS = {
     "questions", "reading", "reasons", "records", "service", "sockets", "starting", "state", "stopping", "summary", "surviving", "systemd", "telling", "ticks", "titles",
     "trying", "watching", "words", "writing",
 }
-MOST_LINES = 5115
+MOST_LINES = 5165
 # Modules of Python that a core has no business with.
 NEVER = {"tomllib", "pwd", "grp", "argparse", "html", "http", "email", "urllib.request", "difflib", "ssl", "asyncio", "logging", "multiprocessing", "sqlite3"}
 # Those that others import, or that a simpler way replaces: they would take 2 MB.
