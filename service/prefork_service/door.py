@@ -9,7 +9,6 @@ import selectors
 import socket
 import time
 from collections.abc import Callable
-from typing import Any
 
 # How long a client may say nothing, how many such clients there may be, and how long nobody is admitted if descriptors
 # run out.
@@ -23,7 +22,7 @@ class Door:
     """Clients that have connected and not said anything yet. `hear` is given one that has: it is not the door's then."""
 
     def __init__(
-        self, events: selectors.BaseSelector, listener: socket.socket, hear: Callable[..., Any], say: Callable[..., Any], most: int = MOST_SILENT
+        self, events: selectors.BaseSelector, listener: socket.socket, hear: Callable[..., object], say: Callable[..., object], most: int = MOST_SILENT
     ):
         self.events, self.listener, self.hear, self.say, self.most = events, listener, hear, say, most
         listener.setblocking(False)

@@ -24,7 +24,7 @@ class Master:
     One that is bound is killed when this process ends, and does not see the end of its input before that: it would tell its
     workers to quit. So it has a copy of our end of its input."""
 
-    def __init__(self, command: list[str], folder: Folder, keep: Callable[[str], None], is_bound: bool = False):
+    def __init__(self, command: list[str], folder: Folder, keep: Callable[[str], object], is_bound: bool = False):
         self.keep, self.unread = keep, ""
         # The lines of a block that is not complete yet.
         self.block: list[str] = []

@@ -14,7 +14,6 @@ import os
 import pathlib
 import re
 import shutil
-from typing import Any
 
 from .blocks import WORD, beat_of, block_of
 from .words import CHANGES, is_tick
@@ -150,7 +149,7 @@ class Records:
         self.writer.give_up()
 
 
-def forget_part(files: list[tuple[pathlib.Path, pathlib.Path]], current: pathlib.Path) -> tuple[list[Any], bool]:
+def forget_part(files: list[tuple[pathlib.Path, pathlib.Path]], current: pathlib.Path) -> tuple[list[tuple[pathlib.Path, pathlib.Path]], bool]:
     """Removes the oldest part of the master that runs, if it is not the one that is written; what is left."""
     parts = [file for _, file in files if file.name.startswith("blocks.") and file != current]
     if not parts:

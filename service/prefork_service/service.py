@@ -1,5 +1,4 @@
 """The loop of a service: words to the master, one at a time, and their blocks to those that asked."""
-import functools
 import selectors
 import sys
 import time
@@ -173,8 +172,7 @@ class Service:
             self.commands.begin()
             limits = [] if self.is_old else self.limits
             command = [*self.command, *limits]
-            keep = functools.partial(self.barrier.duty, self.chronicle.records.add)
-            master = Master(command, self.folder, keep, may_store())
+            master = Master(command, self.folder, lambda block: self.barrier.duty(self.chronicle.records.add, block), may_store())
             self.hanging.patience.take_limits(limits)
             try:
                 self.take_master(master)

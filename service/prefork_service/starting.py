@@ -27,5 +27,4 @@ def take_signals() -> None:
 def settings_of(number: int) -> dict[str, Any]:
     """What the core was told."""
     with open(number, "rb") as file:
-        settings: dict[str, Any] = json.loads(file.read())
-    return settings
+        return dict(json.loads(file.read()))
