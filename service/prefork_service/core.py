@@ -20,7 +20,7 @@ from .configuration import configuration_in
 from .errors import take_standard
 from .folder import Folder, say
 from .holding import Unfit
-from .keeping import Keeping
+from .keeping import KeeperProcess
 from .packets import Packet
 from .service import Service
 from .starting import settings_of, take_signals
@@ -59,7 +59,7 @@ def fault_shown(fault: str) -> str:
     return fault + ADVICE * is_low
 
 
-def preloading_of(keeping: Keeping, seconds: float, ends: list[Callable[[], Any]]) -> "Preloading":
+def preloading_of(keeping: KeeperProcess, seconds: float, ends: list[Callable[[], Any]]) -> "Preloading":
     """What forks workers, once a configuration has an application that is loaded once."""
     from .preloading import Preloading
     made = Preloading(keeping.events, keeping.folder, seconds)
@@ -71,7 +71,7 @@ def begin(settings: Given, folder: Folder, commands: Commands, ends: list[Callab
     """Starts a service: its keeper, its addresses, and what is there beside them only if it is asked for."""
     place, told = pathlib.Path(settings["place"]), settings["told"]
     stored, inherited = sockets_of(settings["stored"]), sockets_of(settings["inherited"])
-    keeping = Keeping(selectors.DefaultSelector(), folder, settings["of_keeper"], stored, inherited)
+    keeping = KeeperProcess(selectors.DefaultSelector(), folder, settings["of_keeper"], stored, inherited)
     ends.insert(0, keeping.end)
     end_earlier(settings["heir"])
     chronicle = Chronicle(folder, place, settings["records_bytes"])

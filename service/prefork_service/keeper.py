@@ -91,7 +91,7 @@ def say(text: str) -> None:
         pass
 
 
-class Kept:
+class KeptSocket:
     """A listening socket, how many hold it, whether others may that the keeper does not know, and since when it is
     held no more."""
 
@@ -146,7 +146,7 @@ class Channel:
         return said.decode(), given_sockets(given)[0] if given else None
 
 
-class Keeper:
+class SocketKeeper:
     """The sockets that are kept, by address, and who holds which."""
 
     def __init__(
@@ -155,10 +155,10 @@ class Keeper:
         self.linger, self.channel = linger, channel
         # What is wanted of sockets where nobody says otherwise, and what is said of addresses.
         self.usual, self.wanted = Wanted(defer_accept=defers, group=group), dict[str, Wanted]()
-        self.kept: dict[str, Kept] = {}
+        self.kept: dict[str, KeptSocket] = {}
         # Addresses that were dropped once.
         self.dropped: set[str] = set()
-        self.held: dict[socket.socket, set[Kept]] = {}
+        self.held: dict[socket.socket, set[KeptSocket]] = {}
         # Whether a holder has gone that prefork-serve was not told of.
         self.has_lost = False
         # Whether prefork-serve was killed.
@@ -248,9 +248,9 @@ class Keeper:
         while self.channel and has_said(self.channel.socket):
             self.hear_serve(self.channel.socket)
 
-    def opened(self, address: str) -> Kept:
+    def opened(self, address: str) -> KeptSocket:
         is_again = address in self.dropped
-        kept = self.kept[address] = Kept(address, listening(address, self.wanted.get(address, Wanted()).over(self.usual), is_again))
+        kept = self.kept[address] = KeptSocket(address, listening(address, self.wanted.get(address, Wanted()).over(self.usual), is_again))
         kept.free_since = time.monotonic()
         if self.channel:
             self.channel.tell(Packet.OPENED + address, kept.socket)
@@ -331,7 +331,7 @@ class Keeper:
             if kept.is_free(self.linger) and not kept.is_closing:
                 self.begin_to_close(kept)
 
-    def begin_to_close(self, kept: Kept) -> None:
+    def begin_to_close(self, kept: KeptSocket) -> None:
         """Closes a socket that nobody holds, after prefork-serve: as long as that has it the address can't be opened anew."""
         if self.channel:
             kept.is_closing = True
@@ -345,7 +345,7 @@ class Keeper:
         if kept and kept.is_closing:
             self.close(kept)
 
-    def close(self, kept: Kept) -> None:
+    def close(self, kept: KeptSocket) -> None:
         """Closes a socket. systemd may have it for a moment yet: the address can be opened anew beside that. One that was given
         may be systemd's for good, and is left as it is."""
         if not kept.is_given:
@@ -378,7 +378,7 @@ class Keeper:
         said, given = self.channel.hear()
         kind, address = said[:1], said[1:]
         if kind == Packet.OPENED and given:
-            self.kept[address] = Kept(address, given, has_strangers=True)
+            self.kept[address] = KeptSocket(address, given, has_strangers=True)
         elif kind == Packet.SETTLED:
             for kept in self.kept.values():
                 kept.settle()
@@ -515,7 +515,7 @@ def main() -> int:
     is_of_serve = given.door is not None
     door = socket.socket(fileno=given.door) if is_of_serve else own_door(given.path)
     try:
-        Keeper(door, given.linger, given.defer_accept, Channel() if is_of_serve else None, given.socket_group).run()
+        SocketKeeper(door, given.linger, given.defer_accept, Channel() if is_of_serve else None, given.socket_group).run()
     except Broken as fault:
         say(str(fault))
         return 1

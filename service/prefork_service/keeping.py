@@ -32,7 +32,7 @@ START_SECONDS = 60.0
 KEEPER_DRAIN_SECONDS, KEEPER_LOOK_SECONDS = 1.0, 0.01
 
 
-class Keeping:
+class KeeperProcess:
     """A keeper that runs, or is about to, and the sockets that it has."""
 
     def __init__(

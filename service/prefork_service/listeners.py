@@ -16,7 +16,7 @@ from .opening import DEFER_SECONDS, MOST_QUEUE, Wanted
 from .sockets import file_of
 
 if TYPE_CHECKING:
-    from .keeping import Keeping
+    from .keeping import KeeperProcess
 
 # How often the lengths of queues are set again that a program may have changed.
 KEEP_SECONDS = 1.0
@@ -85,7 +85,7 @@ OF_FILES = ("owner", "group", "mode")
 class Listeners:
     """What is wanted of the sockets of a keeper, as it runs and as it was told."""
 
-    def __init__(self, keeping: "Keeping"):
+    def __init__(self, keeping: "KeeperProcess"):
         self.keeping = keeping
         self.now: dict[str, Wanted] = {}
         self.told: dict[str, Wanted] = {}

@@ -15,7 +15,7 @@ from .configuration import Configuration
 from .feed import NOTES, Feed
 from .folder import say
 from .journal import wall_clock
-from .keeping import Keeping
+from .keeping import KeeperProcess
 from .leaving import Leaving
 from .bounds import end_seconds
 from .master import Master
@@ -48,7 +48,7 @@ class Service:
     """A master that is kept running, and the words that wait for it."""
 
     def __init__(
-        self, keeping: Keeping, command: list[str], commands: Commands, chronicle: Chronicle, limits: list[str], told: dict[str, Any],
+        self, keeping: KeeperProcess, command: list[str], commands: Commands, chronicle: Chronicle, limits: list[str], told: dict[str, Any],
     ):
         """What is told prefork-watch of the service once is `told`."""
         self.keeping, self.folder, self.events = keeping, keeping.folder, keeping.events

@@ -25,11 +25,11 @@ CALLS = {
              "feed.Feed.tell_word", "feed.Feed.tell", "feed.Feed.put", "feed.Feed.flush", "feed.Feed.put_state", "feed.Feed.take",
              "service.Service.begin_word", "commands.Commands.change", "commands.Commands.settle", "commands.Commands.keep_now",
              "commands.Commands.accept", "commands.Commands.forget_others", "chronicle.Chronicle.begin_word",
-             "chronicle.Chronicle.end_word", "records.Records.add", "records.Records.write", "keeping.Keeping.settle",
+             "chronicle.Chronicle.end_word", "records.Records.add", "records.Records.write", "keeping.KeeperProcess.settle",
              "leaving.Leaving.note", "patience.Hanging.begin", "telling.Telling.begin_word", "telling.Telling.end_word", "master.Master.tell",
              "master.Master.hear", "reading.ReaderProcess.begin", "reading.ReaderProcess.hear", "reading.ReaderProcess.finish", "reading.ReaderProcess.end"],
     "rest": ["service.Service.pause", "service.Service.hurry", "service.Service.end_late", "door.Door.tend", "door.Door.seconds",
-             "keeping.Keeping.hear", "keeping.Keeping.tend", "keeping.Keeping.tell", "chronicle.Chronicle.tend",
+             "keeping.KeeperProcess.hear", "keeping.KeeperProcess.tend", "keeping.KeeperProcess.tell", "chronicle.Chronicle.tend",
              "records.Records.tend", "telling.Telling.tend", "ticks.Ticks.is_due", "ticks.Ticks.tell", "leaving.Leaving.tend",
              "reading.ReaderProcess.tend",
              "summary.Summary.state", "summary.Summary.addresses", "watching.Watching.look", "patience.Hanging.tend", "feed.Feed.tend",
@@ -41,7 +41,7 @@ CALLS = {
                "leaving.Leaving.take_all"],
     "cut": ["chronicle.Chronicle.cut_word"],
     "errors": ["service.Service.hear_errors", "master.Master.hear_errors"],
-    "keeper": ["keeping.Keeping.bury", "keeping.Keeping.begin"],
+    "keeper": ["keeping.KeeperProcess.bury", "keeping.KeeperProcess.begin"],
 }
 
 

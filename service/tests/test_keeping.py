@@ -17,8 +17,8 @@ from kit import free_address, is_open
 from prefork_service import core, inheriting, keeper, keeping
 from prefork_service.holding import Unfit
 from prefork_service.inheriting import heritage_at
-from prefork_service.keeper import Kept
-from prefork_service.keeping import Keeping
+from prefork_service.keeper import KeptSocket
+from prefork_service.keeping import KeeperProcess
 
 
 def connected(address: str) -> socket.socket:
@@ -53,7 +53,7 @@ class KeepingTest(unittest.TestCase):
         pauses = mock.patch.object(keeping, "KEEPER_PAUSE_SECONDS", 0.1)
         pauses.start()
         self.addCleanup(pauses.stop)
-        self.keeping = Keeping(self.events, self.folder, [], {}, {})
+        self.keeping = KeeperProcess(self.events, self.folder, [], {}, {})
         self.addCleanup(self.end)
 
     def end(self) -> None:
@@ -157,7 +157,7 @@ class KeepingTest(unittest.TestCase):
         with socket.create_server(("127.0.0.1", 0)) as unit:
             address = "127.0.0.1:%d" % unit.getsockname()[1]
             self.keeping.end()
-            self.keeping = Keeping(self.events, self.folder, [], {address: unit.dup()}, {})
+            self.keeping = KeeperProcess(self.events, self.folder, [], {address: unit.dup()}, {})
             self.keeping.drop_others([])
             self.keeping.seal()
             connected(address).close()
@@ -230,7 +230,7 @@ class KeepingTest(unittest.TestCase):
 
     def next_one(self, heritage: inheriting.Heritage) -> None:
         """The keeping of the next prefork-serve, with what it was left."""
-        self.keeping = Keeping(self.events, self.folder, [], {}, heritage.sockets)
+        self.keeping = KeeperProcess(self.events, self.folder, [], {}, heritage.sockets)
         core.end_earlier(heritage.heir())
         heritage.connection.detach()
 
@@ -426,7 +426,7 @@ class KeptTest(unittest.TestCase):
     def test_a_socket_that_strangers_may_hold_stays_until_they_have_finished(self) -> None:
         with mock.patch.object(keeper, "time") as clock:
             clock.monotonic.return_value = 1000.0
-            kept = Kept("127.0.0.1:1", mock.Mock(), has_strangers=True)
+            kept = KeptSocket("127.0.0.1:1", mock.Mock(), has_strangers=True)
             self.assertFalse(kept.is_free(0.0))
             kept.settle()
             for seconds, wanted in ((keeper.FINISH_SECONDS, False), (keeper.FINISH_SECONDS + 0.1, True)):
@@ -436,7 +436,7 @@ class KeptTest(unittest.TestCase):
             self.assertFalse(kept.is_free(0.0))
 
     def test_one_without_strangers_is_not_kept_for_them(self) -> None:
-        kept = Kept("127.0.0.1:1", mock.Mock())
+        kept = KeptSocket("127.0.0.1:1", mock.Mock())
         kept.settle()
         self.assertTrue(kept.is_free(0.0))
 

@@ -13,7 +13,7 @@ from unittest import mock
 from kit import free_address, until
 from prefork_service import listeners, socket_tables
 from prefork_service.configuration import Configuration
-from prefork_service.keeping import Keeping
+from prefork_service.keeping import KeeperProcess
 from prefork_service.opening import DEFER_SECONDS, Wanted, listening
 from prefork_service.reader import SiteFile
 from prefork_service.recipes import Told
@@ -125,15 +125,15 @@ class KeptTest(unittest.TestCase):
         self.addCleanup(keeper.stop)
         self.path, self.new, self.tcp = str(self.room / "a.sock"), str(self.room / "new.sock"), free_address()
 
-    def begin(self, *options: str, **wanted: Wanted) -> Keeping:
-        keeping = Keeping(self.events, self.folder, [*options], {}, {})
+    def begin(self, *options: str, **wanted: Wanted) -> KeeperProcess:
+        keeping = KeeperProcess(self.events, self.folder, [*options], {}, {})
         self.addCleanup(keeping.end)
         self.seen_to(keeping).begin(self.named(**wanted))
         keeping.hold([self.path, self.tcp])
         self.hears(keeping, self.path, self.tcp)
         return keeping
 
-    def seen_to(self, keeping: Keeping) -> Any:
+    def seen_to(self, keeping: KeeperProcess) -> Any:
         return keeping.wanted(self.named(path=Wanted()))
 
     def named(self, **wanted: Wanted) -> Configuration:
@@ -142,7 +142,7 @@ class KeptTest(unittest.TestCase):
         text = "".join(f"[sockets.{json.dumps(places[name])}]\n{text_of(one)}" for name, one in wanted.items()).encode()
         return Configuration(listeners={address: one.told() for address, one in options_in(text).items()})
 
-    def hears(self, keeping: Keeping, *addresses: str) -> None:
+    def hears(self, keeping: KeeperProcess, *addresses: str) -> None:
         def all_held() -> bool:
             for key, _ in self.events.select(0.05):
                 key.data(key.fileobj)
@@ -239,14 +239,14 @@ class KeptTest(unittest.TestCase):
 
     def test_a_socket_of_systemd_takes_what_is_named(self) -> None:
         stored = listening(self.tcp, Wanted(backlog=9))
-        keeping = Keeping(self.events, self.folder, [], {self.tcp: stored}, {})
+        keeping = KeeperProcess(self.events, self.folder, [], {self.tcp: stored}, {})
         self.addCleanup(keeping.end)
         self.seen_to(keeping).begin(self.named(tcp=Wanted(defer_accept=True)))
         self.assertEqual((length_of(stored), deferral_of(stored) >= DEFER_SECONDS), (9, True))
 
     def test_a_socket_of_a_killed_service_has_nothing_of_its_configuration(self) -> None:
         inherited = {self.tcp: listening(self.tcp, Wanted(backlog=9, defer_accept=True)), self.path: listening(self.path, Wanted(mode=0o600))}
-        keeping: Any = Keeping(self.events, self.folder, ["--socket-mode", "640"], {}, inherited)
+        keeping: Any = KeeperProcess(self.events, self.folder, ["--socket-mode", "640"], {}, inherited)
         self.addCleanup(keeping.end)
         self.assertIsNotNone(keeping.wanted(Configuration()))
         keeping.listeners.begin(self.named(tcp=Wanted(backlog=5)))
@@ -255,8 +255,8 @@ class KeptTest(unittest.TestCase):
     def test_without_options_nobody_sees_to_them(self) -> None:
         self.assertIsNone(self.begin_alone().wanted(Configuration()))
 
-    def begin_alone(self) -> Keeping:
-        keeping = Keeping(self.events, self.folder, [], {}, {})
+    def begin_alone(self) -> KeeperProcess:
+        keeping = KeeperProcess(self.events, self.folder, [], {}, {})
         self.addCleanup(keeping.end)
         return keeping
 

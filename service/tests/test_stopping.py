@@ -17,7 +17,7 @@ FINISHED = f"lost: {ALONE}; its workers have finished\n"
 # What a stop calls, and what it calls once its master has ended.
 CALLED = [
     "service.Service.begin_word", "service.Service.end_word", "service.Service.settle", "service.Service.conclude", "master.Master.tell",
-    "master.Master.finish", "patience.Hanging.finish", "keeping.Keeping.seal", "stopping.Stopping.finish", "stopping.Stopping.tend",
+    "master.Master.finish", "patience.Hanging.finish", "keeping.KeeperProcess.seal", "stopping.Stopping.finish", "stopping.Stopping.tend",
     "stopping.Stopping.look", "stopping.Stopping.end",
 ]
 CALLED_ALONE = [

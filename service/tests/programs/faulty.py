@@ -24,7 +24,7 @@ from prefork_service import (  # noqa: E402
 
 PLACE = pathlib.Path(os.environ["FAULTS"])
 CLASSES = [
-    asking.Asking, chronicle.Chronicle, commands.Commands, door.Door, feed.Feed, keeping.Keeping, leaving.Leaving, master.Master,
+    asking.Asking, chronicle.Chronicle, commands.Commands, door.Door, feed.Feed, keeping.KeeperProcess, leaving.Leaving, master.Master,
     patience.Hanging, preloading.KeptPreloader, preloading.Preloading, reading.ReaderProcess, records.Records, service.Service,
     stopping.Stopping, summary.Summary, telling.Telling, ticks.Ticks, watching.Watching, words.Queue,
 ]
