@@ -238,11 +238,12 @@ def runs_booted(room: Room) -> None:
     try:
         machine.begin()
         site = Site(machine)
-        for name, step in {
+        steps: dict[str, Callable[[], None]] = {
             "installation": lambda: begins(site, package), "reloads": lambda: reloads(site), "kill, watchdog and restart": lambda: heals(site),
             "a newer package": lambda: upgrades(site, package), "stop": lambda: stops(site),
             "a start that fails": lambda: fails_to_start(site), "purge": lambda: removes(site),
-        }.items():
+        }
+        for name, step in steps.items():
             began = time.monotonic()
             step()
             took.append(f"{name} {time.monotonic() - began:.1f} s")

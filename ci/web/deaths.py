@@ -204,7 +204,7 @@ class AtCall(NamedTuple):
 def kill(site: Site, who: str) -> set[int]:
     """Kills a process while the master is halted; the workers that there were."""
     site.hold.touch()
-    victim = {MASTER: site.master, SERVE: lambda: site.serve.pid}.get(who) or (lambda: until("the new master", site.new_master))
+    victim: Any = {MASTER: site.master, SERVE: lambda: site.serve.pid}.get(who) or (lambda: until("the new master", site.new_master))
     process, workers = victim(), site.workers()
     os.kill(process, signal.SIGKILL)
     # (a master that is halted ends once it goes on)
@@ -321,7 +321,7 @@ def falls_back(site: Site, death: Death, ran: list[str], added: str) -> None:
     place, old = wait()
     with concurrent.futures.ThreadPoolExecutor() as pool:
         waiting = [pool.submit(answer_of, address, seconds=PATIENCE) for address in ran]
-        for address in (served := served_at(death, *ran, added)):
+        for address in (served := served_at(death, ran[0], ran[1], added)):
             answers = [answer_of(address, seconds=PATIENCE) for _ in range(ANSWERS)]
             site.check(f"{place}: {address}: {answers}", all(answer.startswith("version 1 ") for answer in answers))
         own = inodes([added]) if added in served else {}

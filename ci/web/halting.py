@@ -90,7 +90,8 @@ class Halt:
 
     def __init__(self, master: int, point: Point, act: Callable[[], None]):
         self.master, self.point, self.act = master, point, act
-        self.calls, self.begun = Calls(), (-1, (0,) * 6)
+        self.calls = Calls()
+        self.begun: tuple[int, tuple[int, ...]] = -1, (0,) * 6
         self.fault: Exception | None = None
         self.is_given_up, self.is_reached = False, False
         self.is_attached, self.thread = threading.Event(), threading.Thread(target=self.follow, daemon=True)

@@ -79,7 +79,7 @@ class Views:
 
     def lines(self, state: str) -> dict[str, Callable[[], str]]:
         """What each place tells of the state: the line of all of them that have it, as it is there."""
-        def of(told: dict) -> str:
+        def of(told: dict[str, Any]) -> str:
             numbers = f"{told.get('state')}: wanted {told.get('wanted')}, runs {told.get('running')}"
             return str(told.get("line")) if str(told.get("line")).startswith(numbers) else f"{numbers}, and {told.get('line')}"
 

@@ -17,7 +17,7 @@ PRACTICE_REQUESTS, PRACTICE_SECONDS = 20, 5.0
 REQUEST = b"GET / HTTP/1.1\r\nHost: localhost\r\nUser-Agent: practice\r\nAccept: */*\r\nConnection: close\r\n\r\n"
 
 
-def page(_: dict[str, object], start: Callable) -> Iterable[bytes]:
+def page(_: dict[str, object], start: Callable[..., object]) -> Iterable[bytes]:
     start("200 OK", [("Content-Type", "text/plain"), ("Content-Length", "3")])
     return [b"ok\n"]
 

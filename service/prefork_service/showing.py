@@ -47,8 +47,8 @@ class Showing:
             self.file = MetricsFile(pathlib.Path(hello["metrics"]).absolute())
         if hello["page"]:
             # (a service without a page does not take the memory of this)
-            from .page import NextPlan
-            self.plan = NextPlan()
+            from .page import NextPlan as Plan
+            self.plan = Plan()
             self.wanted[hello["page"]] = {**self.pages(), **numbers}
 
     def pages(self) -> Pages:

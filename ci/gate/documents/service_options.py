@@ -40,6 +40,9 @@ def in_other_shells(tree: Tree, name: str) -> Iterator[tuple[str, frozenset[str]
         for path in sorted(str(file.relative_to(tree.root)) for file in tree.root.glob(pattern)):
             text = tree.text(path)
             if re.search(rf"^complete -c {name} |^#compdef (?:.* )?{name}(?: |$)", text, re.M):
+                # (a file for several programs has a part for each)
+                part = re.search(rf"^ +{name}\)$(.*?)^ +;;$", text, re.M | re.S)
+                text = part[1] if part else text
                 listed = re.findall(found.format(name=name) if "{name}" in found else found, text, re.M)
                 yield path, frozenset(f"--{option}" for option in listed) - COMMON
 
