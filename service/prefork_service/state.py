@@ -46,8 +46,7 @@ class Whole:
         return f"{SHORT}: wanted {self.wanted}, runs {self.running}" + (f": {self.why}" if self.why else "")
 
     def as_json(self) -> dict[str, Any]:
-        numbers = {"wanted": self.wanted, "running": self.running}
-        return {"state": self.state, "means": MEANINGS[self.state], **numbers, "line": self.line}
+        return {"state": self.state, "means": MEANINGS[self.state], "wanted": self.wanted, "running": self.running, "line": self.line}
 
 
 def whole_of(word: str | None, is_started: bool, wanted: int, running: int, why: str, failing: tuple[int, ...] = ()) -> Whole:

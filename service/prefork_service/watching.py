@@ -16,8 +16,9 @@ class Watching:
     def __init__(self, folder: Folder):
         self.folder, self.record, self.news = folder, Record(), News()
         self.trying, self.changed = Trying(folder.path / "waiting"), Changed(folder.path)
-        # How many of the workers that were counted run, how many have ended since, and when it is looked again.
-        self.running, self.lost, self.next_look = 0, 0, 0.0
+        # How many of the workers that were counted run, which have ended since (one that is started in their place counts with
+        # the next block), and when it is looked again.
+        self.running, self.ended, self.next_look = 0, set[int](), 0.0
         self.is_started, self.timeout = False, 60
         # How many workers of a master that has died serve on.
         self.survivors = 0
@@ -25,7 +26,7 @@ class Watching:
     def begin_master(self, wanted: int, timeout: int) -> None:
         """A master is started, which has counted nobody yet."""
         self.record.forget_workers()
-        self.record.wanted, self.timeout, self.next_look = wanted, timeout, 0.0
+        self.record.wanted, self.timeout, self.next_look, self.ended = wanted, timeout, 0.0, set()
         self.trying.begin_word(time.monotonic())
 
     def begin(self, word: str) -> None:
@@ -38,7 +39,7 @@ class Watching:
     def end(self, word: str, block: str, reasons: dict[str, str]) -> None:
         """Takes a block, and why workers have ended in it."""
         self.record.note(block)
-        self.is_started, self.next_look = True, 0.0
+        self.is_started, self.next_look, self.ended = True, 0.0, set()
         if is_tick(word):
             self.trying.note(block, reasons, time.monotonic())
         self.trying.forget_others(self.record.wanted, self.record.workers)
@@ -56,8 +57,8 @@ class Watching:
             # Somebody mends what has failed.
             self.trying.try_all(now)
         found = started_workers(self.folder.workers)
-        self.running = sum((self.record.generation, number) in found for number in self.record.workers)
-        self.lost = len(self.record.workers) - self.running
+        self.ended |= {number for number in self.record.workers if (self.record.generation, number) not in found}
+        self.running = len(self.record.workers) - len(self.ended)
 
     def failing(self) -> list[str]:
         """The names of the workers that fail to start."""
@@ -71,7 +72,7 @@ class Watching:
         now, missing = time.monotonic(), self.record.wanted - len(self.record.workers)
         # Where no worker runs, none can be overdue.
         since = now - told if self.record.workers else 0.0
-        return self.trying.wants_tick(missing, self.lost > 0, since, self.timeout, now)
+        return self.trying.wants_tick(missing, bool(self.ended), since, self.timeout, now)
 
     def whole(self, word: str | None) -> Whole:
         return whole_of(word, self.is_started, self.record.wanted, self.running, self.why(), tuple(sorted(self.trying.failing)))
@@ -82,7 +83,7 @@ class Watching:
             return self.trying.why() + (f"; {self.serving_on()}" if self.survivors else "")
         if self.survivors:
             return self.serving_on()
-        return f"{self.lost} of {len(self.record.workers)} workers ended" if self.lost else ""
+        return f"{len(self.ended)} of {len(self.record.workers)} workers ended" if self.ended else ""
 
     def serving_on(self) -> str:
         return f"{self.survivors} of a master that has died serve on"
