@@ -48,8 +48,8 @@ FEW = {
     SERVE: (("HUP", 9), ("USR2", 7), ("tick", 2)),
 }
 # Goes into the application: a module beside it, and what calls that.
-DYING = '''"""Kills a process at a line of a master, once that is wanted: the file `armed` says which, and at which line. Where there is
-a file `retire`, one worker finishes by itself."""
+DYING = '''"""Kills a process at a line of a master, once that is wanted: the file `armed` says which, and at which line. Where
+there is a file `retire`, one worker finishes by itself."""
 import fcntl, json, os, pathlib, signal, threading, time
 
 ROOM = pathlib.Path({room!r})
@@ -347,7 +347,8 @@ def deaths_to_others(wanted: Sequence[Death], name: str) -> Scenario:
             falls_back(site, death, ran, added)
         said, faults, ended = certified(site)
         head = f"1 to {len(wanted) + 1} are one life, if the keeper kept the sockets: open throughout {', '.join(ran)}; "
-        is_one = f"{head}it ends without missing workers" in said and said.count("; then the master died, in HUP\n") == len(wanted)
+        died = said.count("; then the master died, in HUP\n")
+        is_one = f"{head}it ends without missing workers" in said and died == len(wanted)
         site.check(f"certify: {ended} {said} {faults}", ended == 0 and is_one)
         site.wants("HUP", 0, "done", 2)
         site.check("the added address is not served", answer_of(added, seconds=SECONDS).startswith("version 1 "))
@@ -373,12 +374,12 @@ def points(who: str, word: str) -> list[AtCall]:
 
 
 def all_deaths() -> list[Scenario]:
-    found = [deaths(who, points(who, word), f"deaths_of_{who}_at_{word}") for who in (MASTER, NEW, SERVE) for word in WORDS]
+    found = [deaths(role, points(role, word), f"deaths_of_{role}_at_{word}") for role in (MASTER, NEW, SERVE) for word in WORDS]
     return [*found, deaths_to_others(numbered("HUP", TO_OTHERS), "deaths_in_a_reload_to_other_addresses")]
 
 
 SCENARIOS: tuple[Scenario, ...] = (
-    *(deaths(who, [AtLine(word, at) for word, at in lines], f"deaths_of_{who}") for who, lines in FEW.items()),
+    *(deaths(role, [AtLine(word, at) for word, at in lines], f"deaths_of_{role}") for role, lines in FEW.items()),
     # (each of two workers hears four lines before that: its name, two listeners, and that it is to begin)
     deaths_to_others([AtLine("HUP", 9)], "death_in_a_reload_to_other_addresses"),
 )

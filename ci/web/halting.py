@@ -26,8 +26,11 @@ NUMBERS = {"x86_64": (0, 1, 7), "aarch64": (63, 64, 73)}
 READ, WRITE, POLL = NUMBERS.get(platform.machine(), (-1, -1, -1))
 LIBC = ctypes.CDLL(None, use_errno=True)
 LIBC.ptrace.argtypes, LIBC.ptrace.restype = [ctypes.c_long, ctypes.c_long, ctypes.c_void_p, ctypes.c_void_p], ctypes.c_long
-# With which lines calls begin. Lines of the third kind, one to each worker, are one call.
-BEGINS = {"worker": "fork", "quit": "quit", "handover": "spawn-master", "alive": "alive", "ping": "census", "tick": "tick", "close": "close"}
+# With which lines calls begin. Some have a line to each worker, and together these are one call.
+BEGINS = {
+    "worker": "fork", "quit": "quit", "handover": "spawn-master", "alive": "alive", "ping": "census", "tick": "tick",
+    "close": "close",
+}
 TO_EACH = ("census", "tick", "close", "report")
 # A call that another master makes, after its name.
 PASSED_ON = re.compile(r"m\d+")

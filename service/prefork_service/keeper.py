@@ -340,7 +340,7 @@ class SocketKeeper:
             self.close(kept)
 
     def take_closed(self, address: str) -> None:
-        """prefork-serve has closed its copy. Who has asked since holds this one, which stays."""
+        """prefork-serve has closed its copy. If a worker has asked since, this one stays."""
         kept = self.kept.get(address)
         if kept and kept.is_closing:
             self.close(kept)

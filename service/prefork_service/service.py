@@ -341,6 +341,8 @@ class Service:
     def ask(self, question: int) -> None:
         """The current word asks: no tick and no other word is told until it is answered."""
         self.question, self.asked, self.questions = question, time.monotonic(), self.questions + 1
+        # (connections to an address that nobody has would wait for an operator)
+        self.barrier.duty(self.keeping.let_close)
         if self.current:
             say(f"{self.current.text} {line_of(question)}".rstrip())
             self.current.tell(line_of(question))
