@@ -58,7 +58,7 @@ def differences(views: Views, generation: str, starting: int, ready: int, statio
     return [name for name, is_well in looks.items() if not is_well]
 
 
-def is_told(site: Site, views: Views, what: str, generation: str, starting: int, ready: int, station: str, step: str) -> None:
+def check_told(site: Site, views: Views, what: str, generation: str, starting: int, ready: int, station: str, step: str) -> None:
     found: list[str] = []
 
     def holds() -> bool:
@@ -91,15 +91,15 @@ def a_change_is_told(site: Site) -> None:
         until("two workers", lambda: "serves: wanted 2, runs 2" in views.ctl("status"))
         sent = site.sent("HUP")
         are_ready = ("hear them ready", "the new workers are to be ready")
-        is_told(site, views, "workers that start", "1.2", 2, 0, *are_ready)
+        check_told(site, views, "workers that start", "1.2", 2, 0, *are_ready)
         let_go(tokens, "a")
-        is_told(site, views, "one that is ready", "1.2", 1, 1, *are_ready)
+        check_told(site, views, "one that is ready", "1.2", 1, 1, *are_ready)
         let_go(tokens, "b")
         block, faults = sent.communicate(timeout=SECONDS)
         site.check(f"HUP: {block}{faults}", block.rstrip().rpartition("\n")[2].startswith("done "))
         let_go(tokens, "a", "b")
         sent = site.sent("USR2 attended")
-        is_told(site, views, "an upgrade that asks", "2.3", 0, 2, "it asks", "its question is to be answered")
+        check_told(site, views, "an upgrade that asks", "2.3", 0, 2, "it asks", "its question is to be answered")
         site.sent("back").communicate(timeout=SECONDS)
         block, faults = sent.communicate(timeout=SECONDS)
         site.check(f"USR2 attended: {block}{faults}", block.rstrip().rpartition("\n")[2].startswith("rolled-back "))

@@ -19,7 +19,7 @@ WATCHED = CLOSE_WRITE | MOVED_FROM | MOVED_TO | CREATE | DELETE
 OVERFLOW, NO_LONGER_WATCHED, IS_FOLDER = 0x4000, 0x8000, 0x40000000
 EVENT_HEAD = struct.Struct("iIII")
 # How long nothing more may have changed.
-QUIET_SECONDS, MOST_EVENT_BYTES = 0.3, 65536
+CHANGES_QUIET_SECONDS, MOST_EVENT_BYTES = 0.3, 65536
 
 
 def hup() -> None:
@@ -90,7 +90,7 @@ class Changes:
             # It is being written, and its close follows.
             return
         self.changed.add(name)
-        self.due = time.monotonic() + QUIET_SECONDS
+        self.due = time.monotonic() + CHANGES_QUIET_SECONDS
 
     def watch_new(self, folder: pathlib.Path) -> None:
         try:

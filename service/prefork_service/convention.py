@@ -106,13 +106,13 @@ class Survival:
 
 
 # Those of its files that a worker writes to. They are open for one that becomes another user.
-LATE, READY, REASONS = "commands/late", "commands/ready", "reasons"
+LATE, MADE_READY, REASONS = "commands/late", "commands/ready", "reasons"
 OPENED: dict[str, int] = {}
 
 
 def open_files() -> None:
     """Opens them: as another user it could not."""
-    for name in (LATE, READY, REASONS):
+    for name in (LATE, MADE_READY, REASONS):
         try:
             OPENED[name] = os.open(f"{FOLDER}/{name}", os.O_WRONLY | os.O_APPEND | os.O_CLOEXEC)
         except OSError:
@@ -139,7 +139,7 @@ def note_late() -> None:
 
 def note_ready() -> None:
     """Notes that this worker is ready, while its generation is tried: its master tells it at the end of the word."""
-    append(READY, f"{WORKER_NAME} {os.getpid()}\n".encode())
+    append(MADE_READY, f"{WORKER_NAME} {os.getpid()}\n".encode())
 
 
 def is_known_late() -> bool:

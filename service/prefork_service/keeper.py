@@ -453,7 +453,7 @@ def socket_options(given: "argparse.Namespace") -> list[str]:
     return found + ([GROUP, str(given.socket_group)] if given.socket_group is not None else [])
 
 
-class Told:
+class KeeperOptions:
     """What a keeper is told."""
 
     def __init__(self) -> None:
@@ -463,10 +463,10 @@ class Told:
         self.door: int | None = None
 
 
-def told_by_serve(words: list[str]) -> Told:
+def told_by_serve(words: list[str]) -> KeeperOptions:
     """What prefork-serve tells the keeper that it starts: it has looked at the options. (What reads those of people would take a
     tenth of the keeper's memory.)"""
-    told = Told()
+    told = KeeperOptions()
     *options, told.path = words
     while options:
         option = options.pop(0)
@@ -483,7 +483,7 @@ def told_by_serve(words: list[str]) -> Told:
     return told
 
 
-def arguments() -> Told:
+def arguments() -> KeeperOptions:
     """What people tell it."""
     import argparse
 
@@ -496,7 +496,7 @@ def arguments() -> Told:
     parser.add_argument("path", metavar="PATH", help="where workers ask")
     linger = f"how long a socket that nobody holds stays open ({LINGER:g})"
     parser.add_argument("linger", type=float, nargs="?", default=LINGER, metavar="SECONDS", help=linger)
-    return parser.parse_args(namespace=Told())
+    return parser.parse_args(namespace=KeeperOptions())
 
 
 def take_descriptors() -> None:

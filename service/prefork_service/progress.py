@@ -14,7 +14,7 @@ class Running(NamedTuple):
 
 
 # What is waited for.
-STARTING, ARE_READY, FINISH, END, HAVE_ENDED = (
+STARTING, ARE_READY, FINISH, IS_OVER, HAVE_ENDED = (
     "new workers start", "the new workers are to be ready", "old workers finish", "the end of the word", "new workers have ended"
 )
 ONE_MORE, ONE_IS_READY, ANSWER = "another worker starts", "the other worker is to be ready", "its question is to be answered"
@@ -52,7 +52,7 @@ def step_of(word: str, counts: Running, goal: int, most: int) -> str:
     if counts.new < most:
         return HAVE_ENDED
     if word == "USR1":
-        return END
+        return IS_OVER
     if word == "TTIN":
         return ONE_IS_READY if counts.old > counts.before else ONE_MORE
     if counts.new < goal:
@@ -60,7 +60,7 @@ def step_of(word: str, counts: Running, goal: int, most: int) -> str:
     are_ready = not goal or counts.old < counts.before or counts.ready >= goal
     if counts.old:
         return FINISH if are_ready else ARE_READY
-    return END if are_ready else ARE_READY
+    return IS_OVER if are_ready else ARE_READY
 
 
 def shown(counts: Running, goal: int) -> str:

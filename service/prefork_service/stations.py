@@ -1,7 +1,7 @@
 """The stations of a word that changes the service: what its plan does one after another, and where it is, as far as the workers
 that run show it. A master tells of its calls at the end of a word."""
 from .forms import Status
-from .progress import ANSWER, ARE_READY, END, FINISH, HAVE_ENDED, ONE_IS_READY, ONE_MORE, STARTING
+from .progress import ANSWER, ARE_READY, IS_OVER, FINISH, HAVE_ENDED, ONE_IS_READY, ONE_MORE, STARTING
 
 DONE, NOW, NEXT = "done", "now", "next"
 # A station: its name, and the steps that show that a word is there.
@@ -17,11 +17,11 @@ def stations(*rows: tuple[str, str]) -> Stations:
 
 RELOAD = stations(
     ("open addresses", STARTING), ("start workers", SOME_RUN), ("hear them ready", ARE_READY), ("count them", ""),
-    ("let the old ones finish", FINISH), ("close addresses", ""), ("count again", END),
+    ("let the old ones finish", FINISH), ("close addresses", ""), ("count again", IS_OVER),
 )
 UPGRADE = stations(
     ("start a new master", STARTING), ("start its workers", SOME_RUN), ("hear them ready", ARE_READY), ("count them", ""),
-    ("let the old workers finish", FINISH), ("the old master leaves", ""), ("count again", END),
+    ("let the old workers finish", FINISH), ("the old master leaves", ""), ("count again", IS_OVER),
 )
 ASKING = stations(("it asks", ANSWER))
 # Where the questions of an attended upgrade come.
@@ -30,9 +30,9 @@ PLANS: dict[str, Stations] = {
     "HUP": RELOAD,
     "USR2": UPGRADE,
     "USR2 attended": UPGRADE[:FIRST_QUESTION] + ASKING + UPGRADE[FIRST_QUESTION:SECOND_QUESTION] + ASKING + UPGRADE[SECOND_QUESTION:],
-    "TTIN": stations(("start a worker", ONE_MORE), ("hear it ready", ONE_IS_READY), ("count", END)),
-    "TTOU": stations(("let a worker finish", FINISH), ("count", END)),
-    "WINCH": stations(("let the workers finish", FINISH), ("count", END)),
+    "TTIN": stations(("start a worker", ONE_MORE), ("hear it ready", ONE_IS_READY), ("count", IS_OVER)),
+    "TTOU": stations(("let a worker finish", FINISH), ("count", IS_OVER)),
+    "WINCH": stations(("let the workers finish", FINISH), ("count", IS_OVER)),
 }
 
 

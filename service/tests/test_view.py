@@ -6,7 +6,7 @@ from typing import Any
 
 from prefork_service import live, view
 from prefork_service.done import Done
-from prefork_service.progress import ANSWER, ARE_READY, END, FINISH, ONE_IS_READY, ONE_MORE, STARTING, Progress, Running
+from prefork_service.progress import ANSWER, ARE_READY, IS_OVER, FINISH, ONE_IS_READY, ONE_MORE, STARTING, Progress, Running
 from prefork_service.sentences import on_its_way, sentence
 from prefork_service.stations import GOES_BACK, PLANS, SOME_RUN, shown_stations
 from prefork_service.words import START
@@ -92,7 +92,7 @@ class StationsTest(unittest.TestCase):
     def test_each_step_is_at_a_station(self) -> None:
         """A step that no station knows would light the first one."""
         steps = {step for plan in PLANS.values() for _, found in plan for step in found}
-        self.assertEqual(steps, {STARTING, SOME_RUN, ARE_READY, FINISH, END, ONE_MORE, ONE_IS_READY, ANSWER})
+        self.assertEqual(steps, {STARTING, SOME_RUN, ARE_READY, FINISH, IS_OVER, ONE_MORE, ONE_IS_READY, ANSWER})
 
 
 class ViewTest(unittest.TestCase):

@@ -95,7 +95,7 @@ class WatchersTest(unittest.TestCase):
             line = f"HUP, for {far['seconds']} s: 2 of 3 new and 2 old workers run; new workers start, for {far['step_seconds']} s"
             self.assertEqual(far["line"], line)
             self.assertIn(line, shown(status))
-            self.assertIn(html.escape(line), view.page_of(status, [], [], ""))
+            self.assertIn(html.escape(line), view.page_of(status, [], ""))
             # (systemd's)
             self.assertEqual(self.picture.line(), f"carries out {line}")
             numbers = dict(it.split(" ") for it in metrics_of(status).splitlines() if not it.startswith("#") and "{" not in it)
