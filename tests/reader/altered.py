@@ -4,8 +4,8 @@ from collections.abc import Callable, Iterator
 from typing import NamedTuple
 
 from reader.beside import takes_ready
-from reader.claims import IsCommon, least_of
-from reader.master import Mend, Reopen, Stop, Workers, want
+from reader.claims import IsCommon, least_of, owed_in
+from reader.master import Attended, Mend, Reload, Reopen, Stop, Target, Workers, want
 from reader.run import Progress, faults_since
 from reader.table import (
     File, Master, Process, Table, Worker, bears, is_serving, number_of, same_stance, service,
@@ -71,6 +71,17 @@ def other_owners(run: Run) -> Iterator[Altered]:
         yield Altered("the pid is another", "after", with_last_table(run, last.table._replace(files=files)))
 
 
+def excuses_of(target: Target, p: Progress) -> int:
+    """How many workers fewer than its floor a table may have for faults."""
+    match target:
+        case Attended():
+            return faults_since(2, p.returns, p.faults)
+        case Reload(s):
+            return owed_in(s, p)
+        case _:
+            return 0
+
+
 def low_floors(run: Run) -> Iterator[Altered]:
     """The workers that hold an address of both services are gone in a table on the way."""
     if isinstance(run.target, Mend | Stop):
@@ -78,7 +89,7 @@ def low_floors(run: Run) -> Iterator[Altered]:
     passed, leasts = run.ran.passed, least_of(run.table, run.record, run.target)
     for place in range(0, len(passed) - 1, 5):
         p = passed[place]
-        excused = p.losses + faults_since(2, p.returns, p.faults)
+        excused = p.losses + excuses_of(run.target, p)
         for least in leasts:
             if excused < least.workers:
                 rows = tuple(row for row in p.table.rows if not is_serving(least.address, lambda g: True, row))
