@@ -12,7 +12,8 @@
 #include <unistd.h>
 
 #define BILLION 1000000000LL
-#define FIRST_WORDS 3
+/* An interpreter, its option, a program and its first argument. */
+#define FIRST_WORDS 4
 
 static long long factor = 1, from;
 
